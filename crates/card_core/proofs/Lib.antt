@@ -1,0 +1,2 @@
+mod Operands
+mod Statements

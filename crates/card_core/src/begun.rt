@@ -1,0 +1,126 @@
+//! A statement, and the cards that it takes.
+ghost use Rattle.std.specs.Prelude.{◌≡◌, ◌≤◌, ◌<◌, ◌+◌, ◌^◌, ◌∷◌, length, IfOk};
+ghost use Rattle.card_core.specs.Fields.{name_of, operation_of, operand_behind};
+ghost use Rattle.card_core.specs.Deck.{comment_cards, data_cards, with_data, with_operand, loose};
+ghost use Rattle.card_core.specs.Reading.{Begins};
+ghost use Rattle.card_core.specs.declared.data.Opens.TheVariants.{ToStatement};
+
+use crate::card::{is_marked, may_continue};
+use crate::data::{Opens, data_count, data_of, is_early, opened_by, used_by_data};
+use crate::fault::CardFault;
+use crate::field::{name_of, operation_of};
+use crate::operand::operand_behind;
+use crate::read::ReadError;
+use crate::statement::{DataCard, Statement};
+use plain::listed::Listed;
+use plain::text::Text;
+use std::alloc::{AllocError, Global};
+
+/// A statement that begins on a card.
+#[derive(Debug, Drop)]
+pub struct Begun {
+    pub statement: Statement,
+    /// Whether an EXEC statement stands before what follows.
+    pub called: bool,
+    /// How many cards behind its first it takes.
+    pub used: usize,
+}
+
+/// How many cards at the front continue the comment of a statement that ends on the last card: one at most.
+fn comment_cards(last: &DataCard, cards: &[DataCard]) -> usize
+    ensures count { result ≡ comment_cards last.now cards.now }
+    ensures bound { result ≤ length cards.now }
+{
+    match cards {
+        [card, ..] if is_marked(last) && may_continue(card) => 1,
+        _ => 0,
+    }
+}
+
+/// The statement of this card with this operand, which takes so many cards before the data.
+fn with_data(
+    alloc: Global,
+    called: bool,
+    card: &DataCard,
+    operand: Text,
+    used: usize,
+    behind: &[DataCard],
+) -> Result<Begun, ReadError>
+    requires { used + length behind.now < 2 ^ 64 }
+    ensures begins { Begins result (with_data called (name_of card.now) (operation_of card.now) operand used behind.now) }
+    ensures bound { IfOk result (λ begun. begun.used ≤ used + length behind.now) }
+{
+    let operation = operation_of(card);
+    let opens = opened_by(operation, operand.as_slice());
+    let found = data_of(alloc, opens, behind)?;
+    if is_early(called, &found) {
+        return Err(ReadError::Fault(CardFault::DataBeforeExec));
+    }
+    Ok(Begun {
+        called: called || operation == b"EXEC".as_slice(),
+        used: used + used_by_data(opens, behind),
+        statement: Statement {
+            name: Text::copy_of(alloc, name_of(card))?,
+            operation: Text::copy_of(alloc, operation)?,
+            operand,
+            cards: found,
+        },
+    })
+}
+
+/// The statement that begins on a card with `//`.
+pub fn jcl_statement(
+    alloc: Global,
+    called: bool,
+    card: &DataCard,
+    cards: &[DataCard],
+) -> Result<Begun, ReadError>
+    ensures begins { Begins result (with_operand called card.now cards.now (operand_behind card.now cards.now)) }
+    ensures bound { IfOk result (λ begun. begun.used ≤ length cards.now) }
+{
+    let operand = operand_behind(alloc, card, cards)?;
+    let (_, behind) = cards.split_at(operand.cards);
+    let used = operand.cards + comment_cards(&operand.last, behind);
+    let (_, behind) = cards.split_at(used);
+    with_data(alloc, called, card, operand.text, used, behind)
+}
+
+/// The data that begin with this card, which no statement opens.
+fn loose_cards(
+    alloc: Global,
+    card: &DataCard,
+    cards: &[DataCard],
+) -> Result<Listed<DataCard>, AllocError>
+    ensures { IfOk result (λ found. found ≡ card.now ∷ data_cards ToStatement cards.now) }
+{
+    let (data, _) = cards.split_at(data_count(Opens::ToStatement, cards));
+    let mut found = Vec::new(alloc);
+    found.push(*card)?;
+    found.extend_from_slice(data)?;
+    Ok(Listed::new(found))
+}
+
+/// The statement of data that no statement opens.
+pub fn loose(
+    alloc: Global,
+    called: bool,
+    card: &DataCard,
+    cards: &[DataCard],
+) -> Result<Begun, ReadError>
+    ensures begins { Begins result (loose called card.now cards.now) }
+    ensures bound { IfOk result (λ begun. begun.used ≤ length cards.now) }
+{
+    if !called {
+        return Err(ReadError::Fault(CardFault::DataBeforeExec));
+    }
+    Ok(Begun {
+        statement: Statement {
+            name: Text::copy_of(alloc, b"SYSIN")?,
+            operation: Text::copy_of(alloc, b"DD")?,
+            operand: Text::copy_of(alloc, b"*")?,
+            cards: Some(loose_cards(alloc, card, cards)?),
+        },
+        called,
+        used: used_by_data(Opens::ToStatement, cards),
+    })
+}

@@ -1,0 +1,108 @@
+//! Data cards.
+ghost use Rattle.std.specs.Prelude.{◌≡◌, ◌≤◌, ◌+◌, length, drop, IfOk};
+ghost use Rattle.card_core.specs.Fields.{opens};
+ghost use Rattle.card_core.specs.Deck.{ends_data, data_cards, delimiters_at, used_by_data, data_of, is_early};
+
+use crate::card::{is_delimiter, is_jcl};
+use crate::statement::DataCard;
+use plain::listed::Listed;
+use std::alloc::{AllocError, Global};
+
+/// Which data stand behind a statement.
+#[derive(Clone, Copy, Debug, PartialEq, Eq)]
+pub enum Opens {
+    Nothing,
+    /// `DD *`: data to `/*` or `//`.
+    ToStatement,
+    /// `DD DATA`: data to `/*` alone.
+    ToDelimiter,
+}
+
+/// Which data a statement with this operation and operand opens.
+pub fn opened_by(operation: &[u8], operand: &[u8]) -> Opens
+    ensures { result ≡ opens operation.now operand.now }
+{
+    if operation != b"DD".as_slice() {
+        Opens::Nothing
+    } else if operand == b"*".as_slice() || operand.starts_with(b"*,") {
+        Opens::ToStatement
+    } else if operand == b"DATA".as_slice() || operand.starts_with(b"DATA,") {
+        Opens::ToDelimiter
+    } else {
+        Opens::Nothing
+    }
+}
+
+fn ends_data(opens: Opens, card: &DataCard) -> bool
+    ensures { result ≡ ends_data opens card.now }
+{
+    match opens {
+        Opens::Nothing => true,
+        Opens::ToStatement => is_delimiter(card) || is_jcl(card),
+        Opens::ToDelimiter => is_delimiter(card),
+    }
+}
+
+/// How many of these cards are data.
+pub fn data_count(opens: Opens, cards: &[DataCard]) -> usize
+    ensures count { result ≡ length (data_cards opens cards.now) }
+    ensures bound { result ≤ length cards.now }
+{
+    cards
+        .iter()
+        .take_while(|card| !ends_data(opens, card))
+        .count()
+}
+
+/// How many delimiters stand at the front, which end data: one at most.
+fn delimiters_at(cards: &[DataCard]) -> usize
+    ensures count { result ≡ delimiters_at cards.now }
+    ensures bound { result ≤ length cards.now }
+{
+    match cards {
+        [card, ..] if is_delimiter(card) => 1,
+        _ => 0,
+    }
+}
+
+/// How many of these cards the data take, with the delimiter that ends them.
+pub fn used_by_data(opens: Opens, cards: &[DataCard]) -> usize
+    ensures count { result ≡ used_by_data opens cards.now }
+    ensures bound { result ≤ length cards.now }
+{
+    match opens {
+        Opens::Nothing => 0,
+        _ => {
+            let count = data_count(opens, cards);
+            let (_, behind) = cards.split_at(count);
+            count + delimiters_at(behind)
+        }
+    }
+}
+
+/// The data among these cards.
+pub fn data_of(
+    alloc: Global,
+    opens: Opens,
+    cards: &[DataCard],
+) -> Result<Option<Listed<DataCard>>, AllocError>
+    ensures { IfOk result (λ found. found ≡ data_of opens cards.now) }
+{
+    match opens {
+        Opens::Nothing => Ok(None),
+        _ => {
+            let (found, _) = cards.split_at(data_count(opens, cards));
+            Ok(Some(Listed::new(Vec::from_slice(alloc, found)?)))
+        }
+    }
+}
+
+/// Whether data stand before the first EXEC statement.
+pub fn is_early(called: bool, found: &Option<Listed<DataCard>>) -> bool
+    ensures { result ≡ is_early called found.now }
+{
+    match found {
+        None => false,
+        Some(cards) => !called && cards.len() > 0,
+    }
+}

@@ -1,0 +1,14 @@
+//! The cards of a deck, and the statements that they are. (GC28-6704, "Job control statements", "Fields in control statements",
+//! "Continuing control statements"; the columns of a continuation are this profile's)
+#![tactic(auto)]
+
+mod begun;
+mod card;
+mod data;
+pub mod fault;
+mod field;
+mod operand;
+pub mod read;
+pub mod statement;
+#[cfg(test)]
+mod tests;

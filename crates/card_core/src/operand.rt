@@ -1,0 +1,88 @@
+//! An operand over its cards.
+ghost use Rattle.std.specs.Prelude.{◌≡◌, ◌≤◌, length, IfOk};
+ghost use Rattle.card_core.specs.Fields.{goes_on, continued, operand_of, operand_behind};
+ghost use Rattle.card_core.specs.Deck.{Gives};
+
+use crate::card::may_continue;
+use crate::fault::CardFault;
+use crate::field::{
+    behind_operation, continuation_of, ends_with_comma, operand_text, operation_of, resumes_outside,
+};
+use crate::read::ReadError;
+use crate::statement::DataCard;
+use plain::text::Text;
+use std::alloc::Global;
+
+/// An operand to its end.
+#[derive(Debug, Drop)]
+pub struct Operand {
+    pub text: Text,
+    /// How many cards behind its first it takes.
+    pub cards: usize,
+    /// The card on which it ends.
+    pub last: DataCard,
+}
+
+/// The operand whose text so far ended with a comma.
+fn continued(before: Vec<u8>, cards: &[DataCard]) -> Result<Operand, ReadError>
+    ensures value { Gives (λ o. o) result (continued before.items cards.now) }
+    ensures bound { IfOk result (λ o. o.cards ≤ length cards.now) }
+{
+    let mut text = before;
+    for (at, card) in cards.iter().enumerate() {
+        if !may_continue(card) {
+            return Err(ReadError::Fault(CardFault::NotContinued));
+        }
+        if resumes_outside(card) {
+            return Err(ReadError::Fault(CardFault::ResumedOutside));
+        }
+        let Some(piece) = operand_text(continuation_of(card)) else {
+            return Err(ReadError::Fault(CardFault::OpenApostrophe));
+        };
+        text.extend_from_slice(piece)?;
+        if !ends_with_comma(piece) {
+            return Ok(Operand {
+                text: Text::new(text),
+                cards: at + 1,
+                last: *card,
+            });
+        }
+    }
+    Err(ReadError::Fault(CardFault::NotContinued))
+}
+
+fn operand_of(alloc: Global, card: &DataCard, cards: &[DataCard]) -> Result<Operand, ReadError>
+    ensures value { Gives (λ o. o) result (operand_of card.now cards.now) }
+    ensures bound { IfOk result (λ o. o.cards ≤ length cards.now) }
+{
+    let mut text = Vec::new(alloc);
+    if operation_of(card) != b"PEND".as_slice() {
+        let Some(piece) = operand_text(behind_operation(card)) else {
+            return Err(ReadError::Fault(CardFault::OpenApostrophe));
+        };
+        text.extend_from_slice(piece)?;
+        if ends_with_comma(piece) {
+            return continued(text, cards);
+        }
+    }
+    Ok(Operand {
+        text: Text::new(text),
+        cards: 0,
+        last: *card,
+    })
+}
+
+/// The operand of the statement that begins on this card, with these cards behind it.
+pub fn operand_behind(
+    alloc: Global,
+    card: &DataCard,
+    cards: &[DataCard],
+) -> Result<Operand, ReadError>
+    ensures value { Gives (λ o. o) result (operand_behind card.now cards.now) }
+    ensures bound { IfOk result (λ o. o.cards ≤ length cards.now) }
+{
+    if operation_of(card).is_empty() {
+        return Err(ReadError::Fault(CardFault::NoOperation));
+    }
+    operand_of(alloc, card, cards)
+}

@@ -1,0 +1,4 @@
+pub mod CharacterTests
+pub mod Names
+pub mod Components
+pub mod Suffixes

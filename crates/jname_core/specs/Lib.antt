@@ -1,0 +1,5 @@
+pub mod Numbers
+pub mod Characters
+pub mod Faults
+pub mod Grammar
+pub mod Generations

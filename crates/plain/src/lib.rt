@@ -1,0 +1,6 @@
+//! Owned bytes, lists and short texts that contracts see as plain lists, without addresses or capacities.
+#![tactic(auto)]
+
+pub mod listed;
+pub mod short;
+pub mod text;

@@ -1,0 +1,84 @@
+//! Short texts, which lie in the value itself.
+ghost use Rattle.std.specs.Prelude.{◌≡◌, ◌+◌, ◌-◌, ◌≤◌, ◌==◌, ◌++◌, List, length, take, drop, replicate, Some, nat_eq, refl};
+ghost use Rattle.std.specs.Ordering.{nat_cmp};
+ghost use Rattle.std.specs.Cmp.{partial_equiv_from_equiv};
+ghost use Rattle.std.specs.Cmp.Lexicographic.{pointwise, slice_cmp, nat_list_eq_equiv, nat_list_cmp_total, texts_po, texts_ties};
+
+use std::cmp::Ordering;
+use std::marker::Model;
+
+/// At most `N` bytes that a contract sees as their list. It never allocates.
+#[derive(Clone, Copy, Debug)]
+pub struct Short<const N: usize> {
+    bytes: [u8; N],
+    len: usize,
+}
+
+impl<const N: usize> Model for Short<N> {
+    ghost use Rattle.std.specs.Prelude.{◌≡◌, ◌≤◌, ◌-◌, ◌++◌, ℕ, List, length, take, drop, replicate};
+
+    ghost Value = { List ℕ };
+
+    ghost view = { λ s. take s.len s.bytes };
+
+    ghost invariant = { λ s. (s.len ≤ N) × (length s.bytes ≡ N) × (s.bytes ≡ take s.len s.bytes ++ replicate (N - s.len) 0) };
+
+    ghost inverse = { λ t. record { bytes = t ++ replicate (N - length t) 0; len = length t } };
+}
+
+impl<const N: usize> Short<N> {
+    pub fn new(text: &[u8]) -> Short<N>
+        requires { length text.now ≤ N }
+        ensures { result ≡ text.now }
+    {
+        let mut bytes = [0; N];
+        let len = text.len();
+        bytes[..len].copy_from_slice(text);
+        Short { bytes, len }
+    }
+
+    pub fn as_slice(&self) -> &[u8]
+        ensures value { result.now ≡ self.now }
+        ensures short { length result.now ≤ N }
+    {
+        &self.bytes[..self.len]
+    }
+}
+
+impl<const N: usize> PartialEq for Short<N> {
+    ghost eq = { λ s t. pointwise nat_eq s t };
+
+    ghost laws = { partial_equiv_from_equiv nat_list_eq_equiv };
+
+    fn eq(&self, other: &Self) -> bool {
+        self.as_slice() == other.as_slice()
+    }
+}
+
+impl<const N: usize> Eq for Short<N> {
+    ghost laws = { nat_list_eq_equiv };
+}
+
+impl<const N: usize> PartialOrd for Short<N> {
+    ghost partial_cmp = { λ s t. Some (slice_cmp nat_cmp s t) };
+
+    ghost laws = { texts_po };
+
+    fn partial_cmp(&self, other: &Self) -> Option<Ordering> {
+        Some(self.cmp(other))
+    }
+}
+
+impl<const N: usize> Ord for Short<N> {
+    ghost cmp = { λ s t. slice_cmp nat_cmp s t };
+
+    ghost total = { nat_list_cmp_total };
+
+    ghost matches_partial_cmp = { λ s t. refl };
+
+    ghost matches_eq = { λ s t. texts_ties s t };
+
+    fn cmp(&self, other: &Self) -> Ordering {
+        self.as_slice().cmp(other.as_slice())
+    }
+}
