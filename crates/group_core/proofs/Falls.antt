@@ -1,5 +1,5 @@
 -- Numbers fall after an entry and a removal too.
-use Rattle.std.proofs.Common.{◌≡◌, ◌≤◌, ◌<◌, ◌+◌, ◌-◌, ◌==◌, ℕ, suc, Bool, true, false, not, cond, nat_lt, List, [], ◌∷◌, ◌++◌, length, take, drop, get_or, zero, slice_get, Option, Some, None, refl, ap, ◌∙◌, sym, subst, arith, ltb-true, ltb-false, eqb-true, eq-eqb, ne_eqb}
+use Rattle.std.proofs.Common.{◌≡◌, ◌≤◌, ◌<◌, ◌-◌, ◌==◌, ℕ, suc, Bool, true, false, cond, nat_lt, List, [], ◌∷◌, length, take, zero, slice_get, Option, Some, None, IfSome, refl, ap, ◌∙◌, sym, arith, ltb-true, ltb-false, eq-eqb, ne_eqb}
 use Rattle.std.proofs.lemmas.Bool.{cond-true, cond-false}
 use Rattle.std.proofs.lemmas.Option.{same_Some}
 use Rattle.group_core.specs.declared.group.Generation.{Generation}
@@ -74,3 +74,14 @@ number_in_range bound (h ∷ hs) zero g f e =
     let n : h.number ≡ g.number = ap (λ (x : Generation). x.number) (same_Some h g e) in (omega (arith, f.1, n), omega (arith, f.0, n))
 number_in_range bound (h ∷ hs) (suc i) g f e =
     let k : (0 < g.number) × (g.number < h.number) = number_in_range h.number hs i g f.2 e in (k.0, omega (arith, f.0, k.1))
+
+lowest_above : (bound : ℕ) (gs : List Generation) (low : Generation) → IsFalling bound gs → lowest_of gs ≡ Some low → 0 < low.number
+lowest_above bound [] low f e = absurd cc
+lowest_above bound (g ∷ []) low f e = let n : g.number ≡ low.number = ap (λ (x : Generation). x.number) (same_Some g low e) in omega (arith, f.1, n)
+lowest_above bound (g ∷ h ∷ hs) low f e = lowest_above g.number (h ∷ hs) low f.2 e
+
+pub lowest_in_range : (o : Option Generation) (gs : List Generation) → o ≡ lowest_of gs → IsFalling 10000 gs → IfSome o (λ g. (0 < g.number) × (g.number ≤ 9999))
+lowest_in_range None gs e f = tt
+lowest_in_range (Some g) gs e f =
+    let below : g.number < 10000 = lowest_below 10000 gs g f (sym e) in
+    (lowest_above 10000 gs g f (sym e), omega arith)

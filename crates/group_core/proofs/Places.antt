@@ -1,6 +1,6 @@
 -- Where a generation stands, and where a new one goes.
-use Rattle.std.proofs.Common.{◌≡◌, ◌≤◌, ◌<◌, ◌+◌, ◌-◌, ◌==◌, ℕ, suc, Bool, true, false, not, cond, nat_lt, List, [], ◌∷◌, length, take, drop, get_or, Option, Some, None, refl, ap, ◌∙◌, sym, subst, arith, one-add, ltb-true, ltb-false, lt-ltb, slice_get}
-use Rattle.std.specs.List.{position, position_or_len, prefix_len, insert, remove}
+use Rattle.std.proofs.Common.{◌≡◌, ◌≤◌, ◌<◌, ◌+◌, ◌-◌, ◌==◌, ℕ, suc, Bool, true, false, not, cond, nat_lt, List, [], ◌∷◌, length, get_or, Some, None, refl, ap, ◌∙◌, sym, subst, arith, one-add, ltb-true, ltb-false, slice_get}
+use Rattle.std.specs.List.{position, position_or_len, insert, remove}
 use Rattle.std.proofs.lemmas.List.Sums.{prefix_len-le-length}
 use Rattle.std.proofs.lemmas.Option.{cond_some}
 use Rattle.group_core.specs.declared.group.Generation.{Generation}

@@ -1,5 +1,5 @@
 -- What a catalog says of a name, by what it has for the name and for the name's base.
-use Rattle.std.specs.Prelude.{ℕ, List, Option, Some, None}
+use Rattle.std.specs.Prelude.{ℕ, zero, suc, List, Option, Some, None}
 use Rattle.group_core.specs.declared.entry.CatEntry.{CatEntry}
 use Rattle.group_core.specs.declared.entry.CatEntry.TheVariants.{Volume, Group}
 use Rattle.group_core.specs.Groups.{GroupState, serial_of}
@@ -14,13 +14,14 @@ group_in None = None
 group_in (Some (Volume serial)) = None
 group_in (Some (Group g)) = Some g
 
--- a number in a group: where the name has the form of a generation and its base is a group
+-- a number in a group: where the name has the form of a generation, not of number 0, and its base is a group
 abbrev pub Member : Type 0
 Member = ℕ × GroupState
 
 abbrev pub member_by : Option ℕ → Option GroupState → Option Member
-member_by (Some number) (Some g) = Some (number, g)
-member_by (Some number) None = None
+member_by (Some (suc n)) (Some g) = Some (suc n, g)
+member_by (Some (suc n)) None = None
+member_by (Some zero) g = None
 member_by None g = None
 
 -- the volume of a name: its number's in the group, else that of its own entry

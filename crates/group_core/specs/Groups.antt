@@ -1,5 +1,5 @@
 -- What a generation data group means, over its generations, the newest first.
-use Rattle.std.specs.Prelude.{◌≡◌, ℕ, suc, Bool, true, false, ◌+◌, ◌<◌, ◌==◌, nat_lt, nat_le, List, [], ◌∷◌, length, Option, Some, None, Result, Ok, Err, slice_get, if◌then◌else◌}
+use Rattle.std.specs.Prelude.{◌≡◌, ℕ, Bool, ◌+◌, ◌<◌, ◌≤◌, ◌==◌, nat_lt, nat_le, List, [], ◌∷◌, length, Option, Some, None, Result, Ok, Err, slice_get, if◌then◌else◌}
 use Rattle.std.specs.Str.{bytes_eq}
 use Rattle.jname_core.specs.declared.key.Sign.{Sign}
 use Rattle.jname_core.specs.declared.key.Sign.TheVariants.{Plus, Minus}
@@ -90,3 +90,10 @@ GivesUnlessMemory (Err fault.Memory) denoted = Unit {0}
 GivesUnlessMemory (Err fault.Elsewhere) denoted = denoted ≡ Err fault.Elsewhere
 GivesUnlessMemory (Err fault.NoGeneration) denoted = denoted ≡ Err fault.NoGeneration
 GivesUnlessMemory (Err fault.TooHigh) denoted = denoted ≡ Err fault.TooHigh
+
+-- a number that was removed is one of a generation
+abbrev pub RollsInRange : Rolled → Type 0
+RollsInRange Entered = Unit {0}
+RollsInRange (Removed low serial) = (0 < low) × (low ≤ 9999)
+RollsInRange Lowest = Unit {0}
+RollsInRange Same = Unit {0}

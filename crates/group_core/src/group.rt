@@ -2,7 +2,7 @@
 ghost use Rattle.std.specs.Prelude.{◌≡◌, ◌<◌, ◌≤◌, ◌==◌, [], None, OnOk, OnErr, IsSome, IfOk, IfSome, Ok, Err, MatchResult, nat_lt, length, take, vec_len, slice_get, ◌↔◌, List, Some};
 ghost use Rattle.std.specs.List.{position, insert, remove};
 ghost use Rattle.group_core.specs.declared.group.Generation.{Generation};
-ghost use Rattle.group_core.specs.Groups.{GroupState, IsFalling, entered, entered_again, inserted, lowest_of, newest_of, number_or_fault, serial_of, resolved, with_entered, without, GivesUnlessMemory};
+ghost use Rattle.group_core.specs.Groups.{GroupState, IsFalling, entered, entered_again, inserted, lowest_of, newest_of, number_or_fault, serial_of, resolved, RollsInRange, with_entered, without, GivesUnlessMemory};
 
 use jname_core::key::Sign;
 use jname_core::serial::Serial;
@@ -207,6 +207,7 @@ impl Group {
         requires { (0 < number) × (number ≤ 9999) }
         ensures answer { GivesUnlessMemory result (entered self.old number serial) }
         ensures ok { OnOk result (self.new ≡ with_entered self.old number serial) }
+        ensures range { IfOk result RollsInRange }
         ensures err { OnErr result (self.new ≡ self.old) }
         ensures memory { result ≡ Err GroupFault.Memory → entered self.old number serial ≡ Ok Rolled.Entered }
     {
@@ -270,7 +271,8 @@ impl Group {
     }
 
     fn lowest(&self) -> Option<Generation>
-        ensures { result ≡ lowest_of self.now.generations }
+        ensures lowest { result ≡ lowest_of self.now.generations }
+        ensures range { IfSome result (λ g. (0 < g.number) × (g.number ≤ 9999)) }
     {
         self.generations.last().copied()
     }

@@ -1,5 +1,5 @@
 -- The texts of numbers, names and words in the listing.
-use Rattle.std.specs.Prelude.{ℕ, ◌-◌, ◌==◌, Bool, List, [], ◌∷◌, ◌++◌, length, replicate, codes, decimal, Option, Some, None, if◌then◌else◌}
+use Rattle.std.specs.Prelude.{ℕ, ◌-◌, ◌==◌, List, [], ◌∷◌, ◌++◌, length, replicate, codes, decimal, Option, Some, None, if◌then◌else◌}
 use Rattle.jcl_plan.specs.declared.outcome.Abend.{Abend}
 use Rattle.jcl_plan.specs.declared.outcome.Abend.TheVariants as abend
 use Rattle.jcl_plan.specs.declared.outcome.Fate.{Fate}

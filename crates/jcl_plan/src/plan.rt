@@ -1,12 +1,12 @@
 //! A job as its deck or its records denote it.
+use crate::day::Day;
+use crate::outcome::Code;
 use arrayvec::ArrayVec;
 use jname_core::ds_name::DsName;
 use jname_core::key::Key;
 use jname_core::name8::Name8;
 use jname_core::serial::Serial;
 use plain::listed::Listed;
-
-use crate::outcome::Code;
 
 /// A record or a card: 80 columns.
 pub type Record = [u8; 80];
@@ -94,7 +94,7 @@ pub struct Space {
 #[derive(Clone, Copy, Debug, PartialEq, Eq)]
 pub enum Expiry {
     NotCoded,
-    Day(u32),
+    Day(Day),
     /// So many days from the job's date.
     DaysFromToday(u16),
 }

@@ -3,17 +3,16 @@ ghost use Rattle.std.specs.Prelude.{◌≡◌, ◌≤◌, ◌++◌, ◌∷◌, [
 ghost use Rattle.jcl_plan.specs.Lines.{entry_text, grown_text, job_line_text, line_text, text_of, written_text};
 ghost use Rattle.jcl_plan.specs.Texts.{abend_text, back_text, behind_blank, cause_text, digits, disp_text, fate_text, fault_text, four_digits, others_text, outcome_text, path_text, shown, step_shown, take_text, trimmed};
 
-use itoa::Buffer;
-use jname_core::ds_name::DsName;
-use jname_core::name8::Name8;
-use jname_core::serial::Serial;
-use std::alloc::AllocError;
-
 use crate::entry::{Entry, JobLine, Written};
 use crate::fault::{Cause, Fault};
 use crate::outcome::{Abend, Code, Fate, Outcome};
 use crate::plan::Record;
 use crate::words::{BackWord, DispWord, TakeWord};
+use itoa::Buffer;
+use jname_core::ds_name::DsName;
+use jname_core::name8::Name8;
+use jname_core::serial::Serial;
+use std::alloc::AllocError;
 
 fn push(out: &mut Vec<u8>, text: &[u8]) -> Result<(), AllocError>
     ensures { OnOk result (out.new.items ≡ out.old.items ++ text.now) }
@@ -290,12 +289,7 @@ fn push_grown(out: &mut Vec<u8>, grown: &Option<u16>) -> Result<(), AllocError>
 }
 
 /// A request's word, its DD's name and what the request did.
-fn push_request(
-    out: &mut Vec<u8>,
-    verb: &[u8],
-    name: &Name8,
-    did: &[u8],
-) -> Result<(), AllocError>
+fn push_request(out: &mut Vec<u8>, verb: &[u8], name: &Name8, did: &[u8]) -> Result<(), AllocError>
     ensures { OnOk result (out.new.items ≡ out.old.items ++ (verb.now ++ name.now ++ did.now)) }
 {
     push(out, verb)?;
@@ -303,12 +297,7 @@ fn push_request(
     push(out, did)
 }
 
-fn push_read(
-    out: &mut Vec<u8>,
-    name: &Name8,
-    class: u8,
-    priority: u8,
-) -> Result<(), AllocError>
+fn push_read(out: &mut Vec<u8>, name: &Name8, class: u8, priority: u8) -> Result<(), AllocError>
     ensures { OnOk result (out.new.items ≡ out.old.items ++ (codes "READ " ++ name.now ++ codes " CLASS " ++ class ∷ [] ++ codes " PRTY " ++ digits 2 priority)) }
 {
     push_request(out, b"READ ", name, b" CLASS ")?;
@@ -453,32 +442,59 @@ impl JobLine {
         ensures ok { OnOk result (out.new.items ≡ out.old.items ++ line_text self.now) }
     {
         match self {
-            JobLine::Read { name, class, priority } => push_read(out, name, *class, *priority),
+            JobLine::Read {
+                name,
+                class,
+                priority,
+            } => push_read(out, name, *class, *priority),
             JobLine::Rejected(cause) => push_rejected(out, *cause),
-            JobLine::Selected(initiator) => push_text_and_number(out, b"SELECTED ", u64::from(*initiator)),
+            JobLine::Selected(initiator) => push_text_and_number(
+                out,
+                b"SELECTED ",
+                u64::from(*initiator),
+            ),
             JobLine::Broken(number) => push_text_and_number(out, b"BROKEN B", u64::from(*number)),
             JobLine::Names(names) => push_text_and_number(out, b"NAMES ", *names as u64),
             JobLine::WaitNames { holder, name } => push_wait(out, *holder, name),
             JobLine::WaitSpace(serial) => push_two(out, b"WAIT SPACE ", serial.as_slice()),
             JobLine::Assured { tracks, actions } => push_assured(out, *tracks, *actions),
-            JobLine::Risk { fault, step, dd, path } => push_risk(out, *fault, *step, *dd, path.as_slice()),
+            JobLine::Risk {
+                fault,
+                step,
+                dd,
+                path,
+            } => push_risk(out, *fault, *step, *dd, path.as_slice()),
             JobLine::TooMany(step) => push_text_and_number(out, b"TOOMANY STEP ", *step as u64),
             JobLine::Unchecked => push(out, b"UNCHECKED"),
             JobLine::Refused => push(out, b"REFUSED"),
             JobLine::Cancelled => push(out, b"CANCELLED"),
-            JobLine::Step { step, name, procedure_step, fate } => push_step_line(out, *step, name, procedure_step, *fate),
+            JobLine::Step {
+                step,
+                name,
+                procedure_step,
+                fate,
+            } => push_step_line(out, *step, name, procedure_step, *fate),
             JobLine::Take { dd, name, word } => push_take_line(out, *dd, name, word),
             JobLine::Fault { fault, step, dd } => push_fault(out, *fault, *step, *dd),
             JobLine::Back { dd, name, word } => push_back(out, *dd, name, *word),
             JobLine::GetStart { name, serial } => push_get_start(out, name, serial),
             JobLine::GetData { name, text } => push_get_data(out, name, text),
             JobLine::GetEnd { name } => push_request(out, b"GET ", name, b" END"),
-            JobLine::PutStart { name, serial, grown } => push_put_start(out, name, serial, grown),
+            JobLine::PutStart {
+                name,
+                serial,
+                grown,
+            } => push_put_start(out, name, serial, grown),
             JobLine::PutDone { name } => push_request(out, b"PUT ", name, b" DONE"),
             JobLine::Code(code) => push_code(out, *code),
             JobLine::Abend(abend) => push_abend_line(out, *abend),
             JobLine::Disp { dd, name, word } => push_disp_line(out, *dd, name, *word),
-            JobLine::Left { step, dd, name, word } => push_left(out, *step, *dd, name, *word),
+            JobLine::Left {
+                step,
+                dd,
+                name,
+                word,
+            } => push_left(out, *step, *dd, name, *word),
             JobLine::End => push(out, b"END"),
         }
     }
@@ -526,12 +542,7 @@ fn push_written(out: &mut Vec<u8>, job: u16, written: &Written) -> Result<(), Al
     }
 }
 
-fn push_writer(
-    out: &mut Vec<u8>,
-    class: u8,
-    job: u16,
-    written: &Written,
-) -> Result<(), AllocError>
+fn push_writer(out: &mut Vec<u8>, class: u8, job: u16, written: &Written) -> Result<(), AllocError>
     ensures { OnOk result (out.new.items ≡ out.old.items ++ (codes "-- WRITER " ++ class ∷ [] ++ codes " " ++ four_digits job ++ written_text job written.now)) }
 {
     push(out, b"-- WRITER ")?;
@@ -596,10 +607,18 @@ fn push_entry(out: &mut Vec<u8>, entry: &Entry) -> Result<(), AllocError>
     match entry {
         Entry::Job(job, line) => push_job_line(out, *job, line),
         Entry::Cancel(job) => push_cancel(out, *job),
-        Entry::Writer { class, job, written } => push_writer(out, *class, *job, written),
+        Entry::Writer {
+            class,
+            job,
+            written,
+        } => push_writer(out, *class, *job, written),
         Entry::Refused(cause) => push_refused(out, *cause),
         Entry::Volume { serial, free, kept } => push_volume(out, serial, *free, *kept),
-        Entry::Queue { queued, running, records } => push_queue(out, *queued, *running, *records),
+        Entry::Queue {
+            queued,
+            running,
+            records,
+        } => push_queue(out, *queued, *running, *records),
         Entry::Date { year, day } => push_date(out, *year, *day),
     }
 }

@@ -1,5 +1,5 @@
 //! Names of data sets, and of the generations of a group.
-ghost use Rattle.std.specs.Prelude.{◌≡◌, ◌↔◌, ◌+◌, ◌≤◌, ◌<◌, ◌&&◌, ◌++◌, ℕ, List, false, Some, None, IsTrue, is_some, IfSome, MatchResult, MatchOption, codes, length, take, drop};
+ghost use Rattle.std.specs.Prelude.{◌≡◌, ◌↔◌, ◌+◌, ◌≤◌, ◌<◌, ◌&&◌, ◌++◌, ℕ, List, false, Some, None, IsSome, IsTrue, is_some, IfSome, MatchResult, MatchOption, codes, length, take, drop};
 ghost use Rattle.jname_core.specs.Characters.{is_digit};
 ghost use Rattle.jname_core.specs.Faults.{ds_name_fault, has_bad_component, has_empty_component, has_long_component, name8_fault, unit_name_fault};
 ghost use Rattle.jname_core.specs.Generations.{base_of, generation_name, generation_of, has_generation_form, is_bad_generation, before_suffix, is_suffix, suffix_number, suffix_version, number_of_digits, four_digits};
@@ -215,7 +215,8 @@ impl DsName {
 
     /// The name under which the set is held: a generation's base, and else the name itself.
     pub fn base_of(&self) -> DsName
-        ensures { result ≡ base_of self.now }
+        ensures base { result ≡ base_of self.now }
+        ensures short { IsSome (generation_of self.now) → length result ≤ 35 }
     {
         let text = self.as_slice();
         if let Some((base, _)) = split_generation(text) {

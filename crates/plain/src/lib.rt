@@ -3,4 +3,6 @@
 
 pub mod listed;
 pub mod short;
+#[cfg(test)]
+mod tests;
 pub mod text;

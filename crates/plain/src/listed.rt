@@ -1,5 +1,5 @@
 //! Owned lists.
-ghost use Rattle.std.specs.Prelude.{◌≡◌, [], ◌∷◌, ◌++◌, ◌<◌, OnOk, OnErr, length, remove, slice_set};
+ghost use Rattle.std.specs.Prelude.{◌≡◌, [], ◌∷◌, ◌++◌, ◌<◌, IfOk, OnOk, OnErr, length, remove, slice_set};
 
 use std::alloc::{AllocError, Global};
 use std::marker::Model;
@@ -16,6 +16,15 @@ impl<T> Model for Listed<T> {
     ghost Value = { List T };
 
     ghost view = { λ l. l.items.items };
+}
+
+impl<T: Copy> Listed<T> {
+    pub fn copy_of(alloc: Global, items: &[T]) -> Result<Listed<T>, AllocError>
+        ensures { IfOk result (λ l. l ≡ items.now) }
+    {
+        let items = Vec::from_slice(alloc, items)?;
+        Ok(Listed { items })
+    }
 }
 
 impl<T> Listed<T> {
@@ -55,6 +64,17 @@ impl<T> Listed<T> {
         ensures err { OnErr result (self.new ≡ self.old) }
     {
         self.items.push(item)?;
+        Ok(())
+    }
+
+    /// Adds an item before the others. An `Err` changes nothing.
+    pub fn push_front(&mut self, item: T) -> Result<(), AllocError>
+    where
+        T: Drop,
+        ensures ok { OnOk result (self.new ≡ item ∷ self.old) }
+        ensures err { OnErr result (self.new ≡ self.old) }
+    {
+        self.items.insert(0, item)?;
         Ok(())
     }
 

@@ -1,4 +1,4 @@
-use Rattle.std.proofs.Common.{◌≡◌, List, ap, sym, subst, arith, ◌∙◌}
+use Rattle.std.proofs.Common.{◌≡◌, List, sym, subst, arith, ◌∙◌}
 use Rattle.std.specs.List.{insert}
 use Rattle.group_core.specs.declared.group.Generation.{Generation}
 use Rattle.group_core.specs.Groups.{IsFalling, inserted}

@@ -1,4 +1,4 @@
-use Rattle.std.proofs.Common.{◌≡◌, ◌==◌, ℕ, List, Some, None, sym, ap, subst, ◌∙◌}
+use Rattle.std.proofs.Common.{◌≡◌, ◌==◌, List, Some, sym, ap, subst, ◌∙◌}
 use Rattle.std.specs.List.{position}
 use Rattle.group_core.specs.declared.group.Generation.{Generation}
 use Rattle.group_core.specs.Groups.{GroupState, serial_of}

@@ -1,5 +1,5 @@
 -- The array is the text, and zeros behind it.
-use Rattle.std.proofs.Common.{◌≡◌, ◌+◌, ◌-◌, ◌≤◌, ◌++◌, List, length, take, drop, replicate, ℕ, arith, refl, length-append}
+use Rattle.std.proofs.Common.{◌≡◌, ◌-◌, ◌≤◌, ◌++◌, List, length, take, drop, replicate, ℕ, arith, refl, length-append}
 use Rattle.std.proofs.lemmas.List.{drop-replicate, length-replicate}
 use Rattle.std.proofs.Math.Seq.{take-append_seam}
 use Rattle.plain.proofs.short.Short.new.Goals as goal

@@ -1,0 +1,48 @@
+-- A name in the group of its base: what each call means of it.
+use Rattle.std.proofs.Common.{◌≡◌, ◌<◌, ℕ, zero, suc, List, false, Option, Some, None, Err, refl, ap, ◌∙◌, sym, arith}
+use Rattle.std.proofs.lemmas.Bool.{cond-false}
+use Rattle.std.proofs.lemmas.Option.{same_Some}
+use Rattle.jname_core.specs.Generations.{base_of, generation_of}
+use Rattle.group_core.specs.Entries.{Member, member_by}
+use Rattle.group_core.specs.Groups.{GroupState}
+use Rattle.cat_core.specs.declared.fault.CatFault.TheVariants as fault
+use Rattle.cat_core.specs.Catalogs.{Contents, entered_name, entered_name_by, generation_entered, generation_entered_by, group_of, is_entered, member_of, name_removed, name_removed_by, number_removed, with_generation, with_generation_by, with_name, with_name_by}
+use Rattle.std.specs.FinMap.{get}
+
+pub member_some : (n : ℕ) (g : GroupState) → 0 < n → Some (n, g) ≡ member_by (Some n) (Some g)
+member_some zero g h = absurd (omega arith)
+member_some (suc n) g h = refl
+
+pub member_none : (n : ℕ) → None ≡ member_by (Some n) None
+member_none zero = refl
+member_none (suc n) = refl
+
+member_parts : (n : Option ℕ) (o : Option GroupState) (number : ℕ) (g : GroupState) → Some (number, g) ≡ member_by n o → o ≡ Some g
+member_parts (Some (suc n)) (Some h) number g e = ap (λ (m : Member). Some m.1) (same_Some (suc n, h) (number, g) (sym e))
+member_parts (Some (suc n)) None number g e = cc
+member_parts (Some zero) o number g e = cc
+member_parts None o number g e = cc
+
+-- the base of a member is a group
+pub group_of_member : (c : Contents) (name base : List ℕ) (number : ℕ) (g : GroupState) → Some (number, g) ≡ member_of c name → base ≡ base_of name → group_of c base ≡ Some g
+group_of_member c name base number g m b = ap (group_of c) b ∙ member_parts (generation_of name) (group_of c (base_of name)) number g m
+
+pub entered_member : (c : Contents) (name base serial : List ℕ) (number : ℕ) (g : GroupState) → false ≡ is_entered c name → Some (number, g) ≡ member_of c name → base ≡ base_of name →
+    generation_entered c base number serial ≡ entered_name c name serial
+entered_member c name base serial number g free m b =
+    ap (λ (o : Option GroupState). generation_entered_by o number serial) (group_of_member c name base number g m b)
+    ∙ ap (λ (o : Option Member). entered_name_by o serial) m
+    ∙ sym (cond-false (is_entered c name) (Err fault.There) (entered_name_by (member_of c name) serial) (sym free))
+
+pub with_member : (c : Contents) (name base serial : List ℕ) (number : ℕ) (g : GroupState) → Some (number, g) ≡ member_of c name → base ≡ base_of name →
+    with_generation c base number serial ≡ with_name c name serial
+with_member c name base serial number g m b =
+    ap (λ (o : Option GroupState). with_generation_by o c base number serial) (group_of_member c name base number g m b)
+    ∙ ap (λ (d : List ℕ). with_generation_by (Some g) c d number serial) b
+    ∙ ap (λ (o : Option Member). with_name_by o c name serial) m
+
+pub removed_member : (c : Contents) (name base : List ℕ) (number : ℕ) (g : GroupState) → Some (number, g) ≡ member_of c name → base ≡ base_of name →
+    number_removed (group_of c base) number ≡ name_removed c name
+removed_member c name base number g m b =
+    ap (λ (o : Option GroupState). number_removed o number) (group_of_member c name base number g m b)
+    ∙ ap (λ (o : Option Member). name_removed_by o (get c name)) m

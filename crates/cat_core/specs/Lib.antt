@@ -1,0 +1,3 @@
+pub mod Catalogs
+pub mod Codes
+pub mod Numbers

@@ -1,0 +1,299 @@
+//! The catalog.
+ghost use Rattle.std.specs.Prelude.{◌≡◌, ◌≢◌, ◌≤◌, ◌<◌, Some, Err, IfErr, IfSome, OnOk, OnErr};
+ghost use Rattle.std.specs.Option.{option_copied, option_map};
+ghost use Rattle.std.specs.FinMap as map;
+ghost use Rattle.group_core.specs.Entries.{group_in, volume_in};
+ghost use Rattle.cat_core.specs.Catalogs.{Gives, catalog_fault, contents_of, entered_name, entry_with, entry_without, found, generation_entered, generation_entered_by, group_made, group_of, has_generation_entered, is_generation_of, is_entered, member_of, name_removed, number_removed, relative, with_generation, with_group, with_name, without_name, without_number};
+
+use crate::fault::CatFault;
+use group_core::entry::CatEntry;
+use group_core::group::{Group, GroupFault, Rolled};
+use jname_core::ds_name::DsName;
+use jname_core::key::Sign;
+use jname_core::serial::Serial;
+use std::alloc::{AllocError, Global};
+use std::collections::BTreeMap;
+use std::marker::Model;
+
+/// Names and what is entered for them.
+#[derive(Debug, Drop)]
+pub struct Catalog {
+    entries: BTreeMap<DsName, CatEntry>,
+}
+
+impl Model for Catalog {
+    ghost use Rattle.cat_core.specs.Catalogs.{Contents, coded_contents, contents_of};
+
+    ghost Value = { Contents };
+
+    ghost coded = { coded_contents };
+
+    ghost view = { λ c. contents_of c.entries.entries };
+}
+
+type Entries = BTreeMap<DsName, CatEntry>;
+
+/// The group of a base.
+fn group_at<'a>(entries: &'a Entries, base: &DsName) -> Option<&'a Group>
+    ensures { option_copied result ≡ group_of (contents_of entries.now.entries) base.now }
+{
+    match entries.get(base) {
+        Some(CatEntry::Group(group)) => Some(group),
+        Some(CatEntry::Volume(_)) => None,
+        None => None,
+    }
+}
+
+/// The volume of a name's own entry.
+fn volume_at(entries: &Entries, name: &DsName) -> Option<Serial>
+    ensures { result ≡ volume_in (map.get (contents_of entries.now.entries) name.now) }
+{
+    match entries.get(name) {
+        Some(CatEntry::Volume(serial)) => Some(*serial),
+        Some(CatEntry::Group(_)) => None,
+        None => None,
+    }
+}
+
+/// Whether the name is a generation of the base.
+fn is_generation_of(base: &DsName, name: &DsName) -> bool
+    ensures { result ≡ is_generation_of base.now name.now }
+{
+    name.generation_of().is_some() && name.base_of() == *base
+}
+
+/// Whether a generation of the base is entered as a name of its own.
+fn has_generation_entered(entries: &Entries, base: &DsName) -> bool
+    ensures { result ≡ has_generation_entered (contents_of entries.now.entries) base.now }
+{
+    entries.keys().any(|name| is_generation_of(base, name))
+}
+
+/// Puts an entry at a name.
+fn set_at(entries: &mut Entries, name: DsName, entry: CatEntry) -> Result<(), CatFault>
+    ensures ok { OnOk result (contents_of entries.new.entries ≡ map.insert (contents_of entries.old.entries) name entry) }
+    ensures err { OnErr result (contents_of entries.new.entries ≡ contents_of entries.old.entries) }
+    ensures memory { IfErr result (λ fault. fault ≡ CatFault.Memory) }
+{
+    match entries.insert(name, entry) {
+        Ok(_) => Ok(()),
+        Err(_) => Err(CatFault::Memory),
+    }
+}
+
+/// Takes the entry of a name away.
+fn clear_at(entries: &mut Entries, name: &DsName)
+    ensures { contents_of entries.new.entries ≡ map.remove (contents_of entries.old.entries) name.now }
+{
+    entries.remove(name);
+}
+
+/// Enters a generation's number in a group.
+fn enter_in(entry: &mut CatEntry, number: u16, serial: Serial) -> Result<Rolled, CatFault>
+    requires { (0 < number) × (number ≤ 9999) }
+    ensures answer { Gives result (generation_entered_by (group_in (Some entry.old)) number serial) }
+    ensures ok { OnOk result (entry.new ≡ entry_with entry.old number serial) }
+    ensures err { OnErr result (entry.new ≡ entry.old) }
+{
+    match entry {
+        CatEntry::Group(group) => match group.enter(number, serial) {
+            Ok(rolled) => Ok(rolled),
+            Err(fault) => Err(catalog_fault(fault)),
+        },
+        CatEntry::Volume(_) => Err(CatFault::NoGroup),
+    }
+}
+
+/// Removes a generation's number from a group.
+fn remove_in(entry: &mut CatEntry, number: u16) -> Result<(), CatFault>
+    ensures answer { Gives result (number_removed (group_in (Some entry.old)) number) }
+    ensures ok { OnOk result (entry.new ≡ entry_without entry.old number) }
+    ensures err { OnErr result (entry.new ≡ entry.old) }
+    ensures memory { result ≢ Err CatFault.Memory }
+{
+    match entry {
+        CatEntry::Group(group) => match group.remove(number) {
+            Ok(()) => Ok(()),
+            Err(fault) => Err(catalog_fault(fault)),
+        },
+        CatEntry::Volume(_) => Err(CatFault::NoGroup),
+    }
+}
+
+/// Enters a generation's number in the group of a base.
+fn enter_at(
+    entries: &mut Entries,
+    base: &DsName,
+    number: u16,
+    serial: Serial,
+) -> Result<Rolled, CatFault>
+    requires { (0 < number) × (number ≤ 9999) }
+    ensures answer { Gives result (generation_entered (contents_of entries.old.entries) base.now number serial) }
+    ensures ok { OnOk result (contents_of entries.new.entries ≡ with_generation (contents_of entries.old.entries) base.now number serial) }
+    ensures err { OnErr result (contents_of entries.new.entries ≡ contents_of entries.old.entries) }
+{
+    match entries.get_mut(base) {
+        Some(entry) => enter_in(entry, number, serial),
+        None => Err(CatFault::NoGroup),
+    }
+}
+
+/// Removes a generation's number from the group of a base.
+fn remove_at(entries: &mut Entries, base: &DsName, number: u16) -> Result<(), CatFault>
+    ensures answer { Gives result (number_removed (group_of (contents_of entries.old.entries) base.now) number) }
+    ensures ok { OnOk result (contents_of entries.new.entries ≡ without_number (contents_of entries.old.entries) base.now number) }
+    ensures err { OnErr result (contents_of entries.new.entries ≡ contents_of entries.old.entries) }
+    ensures memory { result ≢ Err CatFault.Memory }
+{
+    match entries.get_mut(base) {
+        Some(entry) => remove_in(entry, number),
+        None => Err(CatFault::NoGroup),
+    }
+}
+
+fn catalog_fault(fault: GroupFault) -> CatFault
+    ensures { result ≡ catalog_fault fault }
+{
+    match fault {
+        GroupFault::Elsewhere => CatFault::There,
+        GroupFault::NoGeneration => CatFault::NoGeneration,
+        GroupFault::TooHigh => CatFault::TooHigh,
+        GroupFault::Memory => CatFault::Memory,
+    }
+}
+
+impl Catalog {
+    pub fn new(alloc: Global) -> Catalog
+        ensures { result ≡ map.empty }
+    {
+        Catalog {
+            entries: BTreeMap::new(alloc),
+        }
+    }
+
+    /// The volume entered for a name: where its base is a group, for its number there. A group's base has none.
+    pub fn find(&self, name: &DsName) -> Option<Serial>
+        ensures { result ≡ found self.now name.now }
+    {
+        match self.member(name) {
+            Some((number, group)) => group.find(number),
+            None => volume_at(&self.entries, name),
+        }
+    }
+
+    /// The group of a base.
+    pub fn group(&self, base: &DsName) -> Option<&Group>
+        ensures { option_copied result ≡ group_of self.now base.now }
+    {
+        group_at(&self.entries, base)
+    }
+
+    /// Enters a name for a volume; of a group's generation the number, as `enter_generation` does. A name that is entered is refused.
+    pub fn enter(&mut self, name: DsName, serial: Serial) -> Result<Rolled, CatFault>
+        ensures answer { Gives result (entered_name self.old name serial) }
+        ensures ok { OnOk result (self.new ≡ with_name self.old name serial) }
+        ensures err { OnErr result (self.new ≡ self.old) }
+    {
+        if self.is_entered(&name) {
+            return Err(CatFault::There);
+        }
+        match self.member(&name) {
+            Some((number, _)) => enter_at(&mut self.entries, &name.base_of(), number, serial),
+            None => {
+                set_at(&mut self.entries, name, CatEntry::Volume(serial))?;
+                Ok(Rolled::Entered)
+            }
+        }
+    }
+
+    /// Removes a name, or of a group's generation the number. A group's base is no entry to remove.
+    pub fn remove(&mut self, name: &DsName) -> Result<(), CatFault>
+        ensures answer { Gives result (name_removed self.old name.now) }
+        ensures ok { OnOk result (self.new ≡ without_name self.old name.now) }
+        ensures err { OnErr result (self.new ≡ self.old) }
+        ensures memory { result ≢ Err CatFault.Memory }
+    {
+        match self.member(name) {
+            Some((number, _)) => remove_at(&mut self.entries, &name.base_of(), number),
+            None => {
+                if volume_at(&self.entries, name).is_none() {
+                    return Err(CatFault::NotThere);
+                }
+                clear_at(&mut self.entries, name);
+                Ok(())
+            }
+        }
+    }
+
+    /// Makes a group of this base, where neither it nor a generation of it is entered.
+    pub fn make_group(
+        &mut self,
+        alloc: Global,
+        base: DsName,
+        limit: u8,
+        scratch: bool,
+    ) -> Result<(), CatFault>
+        ensures answer { Gives result (group_made self.old base) }
+        ensures ok { OnOk result (self.new ≡ with_group self.old base limit scratch) }
+        ensures err { OnErr result (self.new ≡ self.old) }
+    {
+        if self.is_entered(&base) || has_generation_entered(&self.entries, &base) {
+            return Err(CatFault::There);
+        }
+        let group = Group::new(alloc, limit, scratch);
+        set_at(&mut self.entries, base, CatEntry::Group(group))
+    }
+
+    /// The number that a relative number means in the group of a base.
+    pub fn resolve_relative(&self, base: &DsName, sign: Sign, amount: u8) -> Result<u16, CatFault>
+        ensures { result ≡ relative self.now base.now sign amount }
+    {
+        match self.group(base) {
+            Some(group) => match group.resolve(sign, amount) {
+                Ok(number) => Ok(number),
+                Err(fault) => Err(catalog_fault(fault)),
+            },
+            None => Err(CatFault::NoGroup),
+        }
+    }
+
+    /// Enters a generation's number in the group of a base: in a full group in place of the lowest. The caller scratches what rolls off.
+    pub fn enter_generation(
+        &mut self,
+        base: &DsName,
+        number: u16,
+        serial: Serial,
+    ) -> Result<Rolled, CatFault>
+        requires { (0 < number) × (number ≤ 9999) }
+        ensures answer { Gives result (generation_entered self.old base.now number serial) }
+        ensures ok { OnOk result (self.new ≡ with_generation self.old base.now number serial) }
+        ensures err { OnErr result (self.new ≡ self.old) }
+    {
+        enter_at(&mut self.entries, base, number, serial)
+    }
+
+    /// The number of a name in the group of its base, where that is one.
+    fn member(&self, name: &DsName) -> Option<(u16, &Group)>
+        ensures value { option_map (λ m. (m.0, m.1.now)) result ≡ member_of self.now name.now }
+        ensures range { IfSome result (λ m. (0 < m.0) × (m.0 ≤ 9999)) }
+    {
+        match name.generation_of() {
+            Some(number) => {
+                if number == 0 {
+                    return None;
+                }
+                match self.group(&name.base_of()) {
+                    Some(group) => Some((number, group)),
+                    None => None,
+                }
+            }
+            None => None,
+        }
+    }
+
+    fn is_entered(&self, name: &DsName) -> bool
+        ensures { result ≡ is_entered self.now name.now }
+    {
+        self.group(name).is_some() || self.find(name).is_some()
+    }
+}

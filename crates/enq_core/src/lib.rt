@@ -1,0 +1,6 @@
+//! Data set names held for jobs: all of a job's names at once, shared or exclusive. (This profile's rule)
+#![tactic(auto)]
+
+pub mod table;
+#[cfg(test)]
+mod tests;

@@ -1,0 +1,120 @@
+ghost use Rattle.std.specs.Prelude.{◌≡◌, true};
+ghost use Rattle.std.specs.List.{All};
+ghost use Rattle.std.specs.Ordering.{nat_cmp};
+ghost use Rattle.std.specs.Cmp.Lexicographic.{slice_cmp};
+ghost use Rattle.std.specs.declared.cmp.Ordering.TheVariants.{Less};
+ghost use Rattle.enq_core.specs.Holds.{AreWants, HoldsNone};
+
+use crate::table::{Blocked, EnqTable, Hold, HoldFault, Want};
+use jname_core::ds_name::{DsName, read_ds_name};
+use std::process::Abort;
+use std::test::Fail;
+
+fn name(text: &str) -> Result<DsName, Fail> {
+    Ok(read_ds_name(text.as_bytes())?)
+}
+
+fn want(text: &str, exclusive: bool) -> Result<Want, Fail> {
+    Ok(Want {
+        name: name(text)?,
+        exclusive,
+    })
+}
+
+fn comes_before_all(want: &Want, others: &[Want]) -> bool
+    ensures { result ≡ true → All (λ other. slice_cmp nat_cmp want.now.name other.name ≡ Less) others.now }
+{
+    others.iter().all(|other| want.name < other.name)
+}
+
+/// Whether the wants stand in byte order of their names, each name once.
+fn are_wants(wants: &[Want]) -> bool
+    ensures { result ≡ true → AreWants wants.now }
+{
+    for i in 0..wants.len() {
+        if !comes_before_all(&wants[i], &wants[i + 1..]) {
+            return false;
+        }
+    }
+    true
+}
+
+fn holds_none(table: &EnqTable, job: u16) -> bool
+    ensures { result ≡ true → HoldsNone table.now job }
+{
+    table.holds().iter().all(|hold| hold.job != job)
+}
+
+/// Tries to hold, gives what was held free again, and tells the fault.
+fn fault_of(rt: &impl Abort, table: &mut EnqTable, job: u16, wants: &[Want]) -> Option<HoldFault> {
+    assert!(rt; are_wants(wants));
+    assert!(rt; holds_none(table, job));
+    match table.hold_all(job, wants) {
+        Ok(held) => {
+            table.release(held);
+            None
+        }
+        Err(fault) => Some(fault),
+    }
+}
+
+#[test]
+fn the_lowest_holder_of_the_first_name_is_told(rt: HostRuntime) -> Result<(), Fail> {
+    let (a, b, c) = (name("A")?, name("B")?, name("C")?);
+    let wants = [want("B", false)?, want("C", false)?];
+    let all = [want("A", true)?, want("B", true)?, want("C", true)?];
+    let last = [want("C", true)?];
+    assert!(rt; are_wants(&wants) && are_wants(&all));
+    let mut table = EnqTable::new(rt.alloc());
+    let high = table.hold_all(7, &wants).expect(&rt, "free");
+    let low = table.hold_all(3, &wants).expect(&rt, "shared");
+    let middle = table.hold_all(5, &wants).expect(&rt, "shared");
+    assert_eq!(rt; low.job(), 3);
+    let at_b = HoldFault::Blocked(Blocked { job: 3, name: b });
+    assert_eq!(rt; fault_of(&rt, &mut table, 1, &all), Some(at_b));
+    assert_eq!(rt; table.holds().len(), 6, "none of the names was held");
+    table.release(low);
+    table.release(middle);
+    let at_c = HoldFault::Blocked(Blocked { job: 7, name: c });
+    assert_eq!(rt; fault_of(&rt, &mut table, 2, &last), Some(at_c));
+    table.release(high);
+    assert!(rt; holds_none(&table, 1));
+    let every = table.hold_all(1, &all).expect(&rt, "all are free");
+    let held = [a, b, c].map(|name| Hold {
+        job: 1,
+        name,
+        exclusive: true,
+    });
+    assert_eq!(rt; table.holds(), held.as_slice());
+    table.release(every);
+    assert_eq!(rt; table.holds().len(), 0);
+    Ok(())
+}
+
+#[test]
+fn only_sharers_hold_a_name_together(rt: HostRuntime) -> Result<(), Fail> {
+    for (held, wanted, free) in [
+        (want("A", false)?, want("A", false)?, true),
+        (want("A", false)?, want("A", true)?, false),
+        (want("A", true)?, want("A", false)?, false),
+        (want("A", true)?, want("A", true)?, false),
+        (want("A", true)?, want("A.B", true)?, true),
+    ] {
+        let mut table = EnqTable::new(rt.alloc());
+        let first = table.hold_all(1, &[held]).expect(&rt, "an empty table");
+        let block = HoldFault::Blocked(Blocked {
+            job: 1,
+            name: wanted.name,
+        });
+        let fault = fault_of(&rt, &mut table, 2, &[wanted]);
+        assert_eq!(rt;
+            fault,
+            if free { None } else { Some(block) },
+            "{held:?} {wanted:?}"
+        );
+        assert_eq!(rt; table.holds().len(), 1);
+        table.release(first);
+        assert_eq!(rt; fault_of(&rt, &mut table, 2, &[wanted]), None);
+    }
+    Ok(())
+}

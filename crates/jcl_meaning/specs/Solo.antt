@@ -1,0 +1,113 @@
+-- The meaning of a job alone: its agenda, action by action.
+use Rattle.std.specs.Prelude.{◌≡◌, ℕ, suc, Bool, true, false, ◌&&◌, ◌==◌, List, [], ◌∷◌, ◌++◌, map, length, Option, Some, None, if◌then◌else◌}
+use Rattle.jcl_plan.specs.declared.entry.JobLine.{JobLine}
+use Rattle.jcl_plan.specs.declared.fault.Fault.{Fault}
+use Rattle.jcl_plan.specs.declared.outcome.Outcome.{Outcome}
+use Rattle.jcl_plan.specs.declared.plan.JobPlan.{JobPlan}
+use Rattle.jcl_meaning.specs.declared.program.SoloProgram.{SoloProgram}
+use Rattle.jcl_meaning.specs.declared.solo.SoloAnswers.{SoloAnswers}
+use Rattle.jcl_meaning.specs.declared.solo.SoloRun.{SoloRun}
+use Rattle.jcl_meaning.specs.declared.state.Own.{Own}
+use Rattle.jcl_meaning.specs.declared.state.Place.{Place}
+use Rattle.jcl_meaning.specs.declared.store.SoloStore.{SoloStore}
+use Rattle.jcl_meaning.specs.Acts.{act}
+use Rattle.jcl_meaning.specs.Agendas.{Action, agenda, path_agenda}
+use Rattle.jcl_meaning.specs.Programs.{ending_of}
+use Rattle.jcl_meaning.specs.States.{Answers, Done, Fixed, State}
+use Rattle.jcl_meaning.specs.Stores.{resolution_of, store_of}
+
+-- a fault that was met, and how many actions came before it
+pub record Met : Type 0 where
+  pub place : ℕ
+  pub fault : Fault
+
+-- what a list of actions did: its lines, the state after it, the faults that it met, and the sets that it made
+pub record Ran : Type 0 where
+  pub lines : List JobLine
+  pub state : State
+  pub faults : List Met
+  pub made : List Place
+
+abbrev pub later : Met → Met
+later m = record { place = suc m.place; fault = m.fault }
+
+abbrev pub met_first : Option Fault → List Met → List Met
+met_first None more = more
+met_first (Some fault) more = record { place = 0; fault = fault } ∷ more
+
+-- an action, and the actions behind it
+abbrev pub then_ran : Done → (State → Ran) → Ran
+then_ran done next = record {
+  lines = done.lines ++ (next done.state).lines;
+  state = (next done.state).state;
+  faults = met_first done.meets (map later (next done.state).faults);
+  made = done.made ++ (next done.state).made;
+}
+
+unfoldable pub run : Fixed → List Action → State → Ran
+run fixed [] s = record { lines = []; state = s; faults = []; made = [] }
+run fixed (a ∷ actions) s = then_ran (act fixed a s) (λ t. run fixed actions t)
+
+-- no fault, and no word that is one
+abbrev pub is_clean : Ran → Bool
+is_clean ran = length ran.faults == 0
+
+-- the place of a DD; of two the first counts
+abbrev pub place_of : List Place → ℕ → ℕ → Option (List ℕ)
+place_of [] step dd = None
+place_of (p ∷ ps) step dd = if p.step == step && p.dd == dd then Some p.serial else place_of ps step dd
+
+-- relative numbers are resolved in the store at the start
+abbrev pub fixed_of : JobPlan → SoloStore → List Place → ℕ → Fixed
+fixed_of plan store places date = record {
+  job_tests = plan.tests.items;
+  volumes = store.volumes;
+  place = λ step dd. place_of places step dd;
+  resolve = λ key. resolution_of (store_of store) key;
+  date = date;
+}
+
+abbrev pub nothing_own : Own
+nothing_own = record {
+  passed = [];
+  ended = [];
+  faulted = false;
+  volumes = [];
+  outputs = [];
+  runs = false;
+  over = None;
+  dds = [];
+  due = None;
+  lines = 0;
+}
+
+abbrev pub fresh : SoloStore → Answers → State
+fresh store answers = record { store = store_of store; own = nothing_own; answers = answers }
+
+-- The solo meaning of a job: its programs end its steps; growths are granted and cancels come as the answers say, primaries are granted.
+abbrev pub answers_of : JobPlan → List SoloProgram → SoloAnswers → Answers
+answers_of plan programs answers = record {
+  outcomes = map (λ step. ending_of programs step.program) plan.steps;
+  cancels = answers.cancels;
+  grants = answers.grants;
+  primary = true;
+}
+
+abbrev pub solo_of : JobPlan → SoloStore → List Place → List SoloProgram → SoloAnswers → ℕ → Ran
+solo_of plan store places programs answers date =
+    run (fixed_of plan store places date) (agenda plan programs) (fresh store (answers_of plan programs answers))
+
+-- The solo meaning along given outcomes, one a step.
+abbrev pub given : List Outcome → Answers
+given outcomes = record { outcomes = outcomes; cancels = []; grants = []; primary = true }
+
+abbrev pub solo_path_of : JobPlan → SoloStore → List Place → List Outcome → ℕ → Ran
+solo_path_of plan store places outcomes date =
+    run (fixed_of plan store places date) (path_agenda plan) (fresh store (given outcomes))
+
+-- a run of the code is a run of the definition
+pub record IsRun (result : SoloRun) (start : SoloStore) (ran : Ran) : Type 0 where
+  pub lines : result.lines ≡ ran.lines
+  pub store : store_of result.store ≡ ran.state.store
+  pub volumes : result.store.volumes ≡ start.volumes
+  pub clean : result.clean ≡ is_clean ran

@@ -1,0 +1,18 @@
+//! What a job means alone: the lines that it writes and the store that it leaves, action by action. (GC28-6704: COND, DISP, passing,
+//! the catalog; programs and their requests are this profile's)
+#![tactic(auto)]
+
+pub mod disposition;
+mod ends;
+pub mod history;
+pub mod names;
+pub mod program;
+mod requests;
+mod runner;
+pub mod solo;
+pub mod source;
+pub mod state;
+mod steps;
+pub mod store;
+pub mod take;
+pub mod words;

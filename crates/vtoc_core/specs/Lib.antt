@@ -1,0 +1,5 @@
+pub mod Entries
+pub mod Extents
+pub mod Numbers
+pub mod Searches
+pub mod Volumes

@@ -1,0 +1,77 @@
+//! What a volume's table of contents holds.
+ghost use Rattle.std.specs.Prelude.{◌≡◌};
+ghost use Rattle.vtoc_core.specs.Entries.{same_key};
+
+use arrayvec::ArrayVec;
+use jname_core::ds_name::DsName;
+use jname_core::name8::Name8;
+use std::marker::Model;
+
+/// Which set it is among all that stand on volumes. A temporary set is its job's.
+#[derive(Clone, Copy, Debug)]
+pub enum SetKey {
+    Named(DsName),
+    Temporary { job: u16, name: Name8 },
+    Unnamed { job: u16, step: u16, dd: u16 },
+}
+
+impl SetKey {
+    /// Whether both are keys of one set.
+    pub fn is_same(&self, other: &SetKey) -> bool
+        ensures { result ≡ same_key self.now other.now }
+    {
+        match (self, other) {
+            (SetKey::Named(a), SetKey::Named(b)) => a == b,
+            (SetKey::Temporary { job, name }, SetKey::Temporary { job: of, name: by }) => {
+                job == of && name == by
+            }
+            (
+                SetKey::Unnamed { job, step, dd },
+                SetKey::Unnamed {
+                    job: of,
+                    step: at,
+                    dd: by,
+                },
+            ) => job == of && step == at && dd == by,
+            _ => false,
+        }
+    }
+}
+
+/// Neighbouring tracks: the first, counted from 0, and how many.
+#[derive(Clone, Copy, Debug, Default, PartialEq, Eq)]
+pub struct Extent {
+    pub start: u16,
+    pub tracks: u16,
+}
+
+/// A set on a volume: its extents in order, sixteen at most, and the day, counted from 1900/001 as 0, up to which it is not to be deleted.
+#[derive(Debug, Drop)]
+pub struct SetEntry {
+    pub key: SetKey,
+    pub extents: ArrayVec<Extent, 16>,
+    pub expires: Option<u32>,
+}
+
+/// Tracks set aside: five extents at most. It must be given back, or made a set.
+#[derive(Debug)]
+pub struct ExtentList {
+    pub(crate) extents: ArrayVec<Extent, 5>,
+}
+
+impl Model for ExtentList {
+    ghost use Rattle.std.specs.Prelude.{List};
+    ghost use Rattle.vtoc_core.specs.declared.entry.Extent.{Extent};
+
+    ghost Value = { List Extent };
+
+    ghost view = { λ l. l.extents.items };
+}
+
+impl ExtentList {
+    pub fn extents(&self) -> &[Extent]
+        ensures { result.now ≡ self.now }
+    {
+        self.extents.as_slice()
+    }
+}

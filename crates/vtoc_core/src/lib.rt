@@ -1,0 +1,12 @@
+//! A volume's tracks and its table of contents: which tracks are free, which sets stand on it and where. (GC28-6704, "SPACE parameter";
+//! which extents are taken is this profile's rule)
+#![tactic(auto)]
+
+mod contents;
+pub mod entry;
+pub mod fault;
+mod marks;
+mod space;
+#[cfg(test)]
+mod tests;
+pub mod volume;
