@@ -1,0 +1,7 @@
+mod ExecNames
+mod Faultless
+mod Keys
+mod Places
+mod Refusals
+mod SameOperand
+mod Told

@@ -1,0 +1,7 @@
+use Rattle.std.proofs.Common.{◌≡◌, drop}
+use Rattle.jcl_parse.specs.Keywords.{has_twice}
+use Rattle.jcl_parse.specs.Reading.{is_later}
+use Rattle.jcl_parse.proofs.rules.has_twice.Given as goal
+
+abbrev pub invariant-loop-at : goal.invariant-loop-at
+invariant-loop-at l = has_twice (is_later l.form) l.keywords ≡ has_twice (is_later l.form) (drop l.at l.keywords)

@@ -1,0 +1,16 @@
+use Rattle.std.proofs.Common.{sym, ap, ◌∙◌, take}
+use Rattle.std.specs.List.{flat_map}
+use Rattle.jcl_parse.specs.Faults.{earlier, told}
+use Rattle.jcl_parse.specs.Reading.{keyword_faults}
+use Rattle.jcl_parse.proofs.Told.{told_flat_map_more}
+use Rattle.jcl_parse.proofs.rules.keywords_fault.Goals as goal
+
+pub loop-keyword-preserved : goal.loop-keyword-preserved
+loop-keyword-preserved c =
+    let faults = keyword_faults c.args.form in
+    let keywords = c.args.keywords.now in
+    let at = c.loop-keyword.keyword-index in
+    c.earlier-fault.ensures
+    ∙ ap (λ front. earlier front c.keyword_fault.result) c.loop-keyword.invariant
+    ∙ ap (earlier (told (flat_map faults (take at keywords)))) (c.keyword_fault.ensures ∙ ap (λ keyword. told (faults keyword)) c.keyword-item.is)
+    ∙ sym (told_flat_map_more faults keywords at c.keyword-item.result c.loop-keyword-test.true)

@@ -1,0 +1,241 @@
+//! The JOB statement.
+ghost use Rattle.std.specs.Prelude.{◌≡◌, ◌+◌, ◌*◌, ◌-◌, ◌≤◌, IsTrue, IfOk, MatchOption, None, min, true, false};
+ghost use Rattle.std.specs.List.{list_all};
+ghost use Rattle.jname_core.specs.Characters.{is_digit};
+ghost use Rattle.std.specs.Option.{option_copied};
+ghost use Rattle.jcl_parse.specs.Faults.{told};
+ghost use Rattle.jcl_parse.specs.Keywords.{unknown_faults, value_faults, value_of};
+ghost use Rattle.jcl_parse.specs.JobCards.{class_of, decimal_value, is_job_class, is_output_class, is_priority, job_keyword_faults, later_on_job, left_out_on_job, job_card, job_faults, job_name_faults, job_of_statement, job_operand_faults, own_job_faults, priority_of};
+ghost use Rattle.jcl_parse.specs.Reading.{Gives, Tells};
+
+use crate::fault::{earlier, long_fault, name_fault, when, written_name_fault};
+use crate::keyword::{is_long, unknown_fault, value_of};
+use crate::operand::{Keyword, Operand, operand_of};
+use crate::refusal::ReadError;
+use crate::rules::{Form, has_twice, keywords_fault};
+use card_core::statement::Statement;
+use jcl_plan::fault::Cause;
+use jname_core::name8::Name8;
+use std::alloc::{AllocError, Global};
+
+/// A JOB statement that was read.
+#[derive(Clone, Copy, Debug)]
+pub struct JobCard {
+    pub name: Name8,
+    /// A to O.
+    pub class: u8,
+    /// 0 to 13.
+    pub priority: u8,
+    /// The class of the job's listing, a letter or a digit.
+    pub message_class: u8,
+}
+
+pub fn later_on_job(key: &[u8]) -> bool
+    ensures { result ≡ later_on_job key.now }
+{
+    key == b"COND".as_slice()
+        || key == b"MSGLEVEL".as_slice()
+        || key == b"NOTIFY".as_slice()
+        || key == b"REGION".as_slice()
+        || key == b"TIME".as_slice()
+}
+
+fn left_out_on_job(key: &[u8]) -> bool
+    ensures { result ≡ left_out_on_job key.now }
+{
+    key == b"RD".as_slice()
+        || key == b"RESTART".as_slice()
+        || key == b"TYPRUN".as_slice()
+        || key == b"ROLL".as_slice()
+}
+
+fn is_job_class(value: &[u8]) -> bool
+    ensures { result ≡ is_job_class value.now }
+{
+    match value {
+        [c] => b'A' <= *c && *c <= b'O',
+        _ => false,
+    }
+}
+
+pub fn is_output_class(value: &[u8]) -> bool
+    ensures { result ≡ is_output_class value.now }
+{
+    match value {
+        [c] => b'A' <= *c && *c <= b'Z' || b'0' <= *c && *c <= b'9',
+        _ => false,
+    }
+}
+
+pub fn class_of(value: Option<&[u8]>) -> u8
+    ensures { result ≡ class_of (option_copied value.entry) }
+{
+    match value {
+        Some([c, ..]) => *c,
+        _ => b'A',
+    }
+}
+
+/// The number of decimal digits, or 14 where it is more.
+fn capped_value(text: &[u8]) -> Option<u8>
+    ensures { MatchOption result (list_all is_digit text.now ≡ false) (λ n. (list_all is_digit text.now ≡ true) × (n ≡ min 14 (decimal_value text.now))) }
+{
+    let mut number = 0;
+    for c in text {
+        if !is_digit(*c) {
+            return None;
+        }
+        number = next_value(number, *c);
+    }
+    Some(number)
+}
+
+fn is_digit(c: u8) -> bool
+    ensures { result ≡ is_digit c }
+{
+    b'0' <= c && c <= b'9'
+}
+
+fn next_value(number: u8, digit: u8) -> u8
+    requires small { number ≤ 14 }
+    requires digit { IsTrue (is_digit digit) }
+    ensures { result ≡ min 14 (10 * number + (digit - 48)) }
+{
+    (10 * number + (digit - b'0')).min(14)
+}
+
+/// A priority, where the value is one.
+fn priority(value: &[u8]) -> Option<u8>
+    ensures { MatchOption result (is_priority value.now ≡ false) (λ n. (is_priority value.now ≡ true) × (n ≡ decimal_value value.now)) }
+{
+    if value.is_empty() {
+        return None;
+    }
+    match capped_value(value) {
+        Some(number) if number <= 13 => Some(number),
+        _ => None,
+    }
+}
+
+fn priority_of(value: Option<&[u8]>) -> u8
+    ensures { result ≡ priority_of (option_copied value.entry) }
+{
+    match value {
+        None => 6,
+        Some(value) => match priority(value) {
+            Some(number) => number,
+            None => 6,
+        },
+    }
+}
+
+fn job_class_fault(value: Option<&[u8]>) -> Option<Cause>
+    ensures { result ≡ told (value_faults is_job_class (option_copied value.entry)) }
+{
+    match value {
+        None => None,
+        Some(value) => when(!is_job_class(value), Cause::P(6)),
+    }
+}
+
+fn priority_fault(value: Option<&[u8]>) -> Option<Cause>
+    ensures { result ≡ told (value_faults is_priority (option_copied value.entry)) }
+{
+    match value {
+        None => None,
+        Some(value) => when(priority(value).is_none(), Cause::P(6)),
+    }
+}
+
+fn output_class_fault(value: Option<&[u8]>) -> Option<Cause>
+    ensures { result ≡ told (value_faults is_output_class (option_copied value.entry)) }
+{
+    match value {
+        None => None,
+        Some(value) => when(!is_output_class(value), Cause::P(6)),
+    }
+}
+
+pub fn job_keyword_fault(keyword: &Keyword<'_>) -> Option<Cause>
+    ensures { result ≡ told (job_keyword_faults keyword.now) }
+{
+    let key = keyword.key();
+    if later_on_job(key) {
+        Some(Cause::P(19))
+    } else if key == b"CLASS".as_slice() {
+        job_class_fault(keyword.value())
+    } else if key == b"PRTY".as_slice() {
+        priority_fault(keyword.value())
+    } else if key == b"MSGCLASS".as_slice() {
+        output_class_fault(keyword.value())
+    } else {
+        Some(unknown_fault(left_out_on_job(key)))
+    }
+}
+
+fn job_name_fault(name: &[u8]) -> Option<Cause>
+    ensures { result ≡ told (job_name_faults name.now) }
+{
+    if name.is_empty() {
+        Some(Cause::P(2))
+    } else {
+        name_fault(name)
+    }
+}
+
+fn job_operand_fault(operand: &Operand<'_>) -> Option<Cause>
+    ensures { Tells job_operand_faults operand.now result }
+{
+    let keywords = operand.keywords.as_slice();
+    let fault = earlier(operand.fault, keywords_fault(Form::Job, keywords));
+    earlier(fault, when(has_twice(Form::Job, keywords), Cause::P(5)))
+}
+
+/// The fault of a statement whose operand is read.
+#[tactic(auto, using(crate::proofs::Told::told_append))]
+pub fn own_job_fault(alloc: Global, statement: &Statement) -> Result<Option<Cause>, AllocError>
+    ensures { IfOk result (λ fault. fault ≡ told (own_job_faults statement.now)) }
+{
+    let operand = operand_of(alloc, 2, statement.operand.as_slice())?;
+    let name = job_name_fault(statement.name.as_slice());
+    Ok(earlier(name, job_operand_fault(&operand)))
+}
+
+#[tactic(auto, using(crate::proofs::Told::told_append))]
+fn job_fault(alloc: Global, statement: &Statement) -> Result<Option<Cause>, AllocError>
+    ensures { IfOk result (λ fault. fault ≡ told (job_faults statement.now)) }
+{
+    if is_long(statement.operand.as_slice()) {
+        Ok(long_fault(written_name_fault(statement.name.as_slice())))
+    } else {
+        own_job_fault(alloc, statement)
+    }
+}
+
+/// The card of a statement without a fault.
+pub fn job_card(alloc: Global, statement: &Statement) -> Result<JobCard, AllocError>
+    requires { told (own_job_faults statement.now) ≡ None }
+    ensures { IfOk result (λ card. card ≡ job_card statement.now) }
+{
+    let Ok(name) = Name8::read(statement.name.as_slice()) else {
+        unreachable!()
+    };
+    let operand = operand_of(alloc, 2, statement.operand.as_slice())?;
+    let keywords = operand.keywords.as_slice();
+    Ok(JobCard {
+        name,
+        class: class_of(value_of(keywords, b"CLASS")),
+        priority: priority_of(value_of(keywords, b"PRTY")),
+        message_class: class_of(value_of(keywords, b"MSGCLASS")),
+    })
+}
+
+/// The card that a JOB statement is, or the fault that is told of it.
+pub fn read_job(alloc: Global, statement: &Statement) -> Result<JobCard, ReadError>
+    ensures { Gives (λ card. card) result (job_of_statement statement.now) }
+{
+    match job_fault(alloc, statement)? {
+        Some(fault) => Err(ReadError::Refused(fault)),
+        None => Ok(job_card(alloc, statement)?),
+    }
+}

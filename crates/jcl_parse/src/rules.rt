@@ -1,0 +1,68 @@
+//! The rules that each statement has for its keywords.
+ghost use Rattle.std.specs.Prelude.{◌≡◌};
+ghost use Rattle.std.specs.List.{flat_map};
+ghost use Rattle.jcl_parse.specs.Faults.{told};
+ghost use Rattle.jcl_parse.specs.Keywords.{has_twice};
+ghost use Rattle.jcl_parse.specs.Reading.{is_later, keyword_faults};
+
+use crate::dd::{dd_keyword_fault, later_on_dd};
+use crate::exec::{exec_keyword_fault, later_on_exec};
+use crate::fault::earlier;
+use crate::job::{job_keyword_fault, later_on_job};
+use crate::keyword::has_key;
+use crate::operand::Keyword;
+use jcl_plan::fault::Cause;
+
+/// Which statement's keywords.
+#[derive(Clone, Copy, Debug)]
+pub enum Form {
+    Job,
+    /// Whether a procedure is called.
+    Exec { calls: bool },
+    Dd,
+}
+
+fn keyword_fault(form: Form, keyword: &Keyword<'_>) -> Option<Cause>
+    ensures { result ≡ told (keyword_faults form keyword.now) }
+{
+    match form {
+        Form::Job => job_keyword_fault(keyword),
+        Form::Exec { calls } => exec_keyword_fault(calls, keyword),
+        Form::Dd => dd_keyword_fault(keyword),
+    }
+}
+
+/// Whether a keyword is not brought yet.
+fn is_later(form: Form, key: &[u8]) -> bool
+    ensures { result ≡ is_later form key.now }
+{
+    match form {
+        Form::Job => later_on_job(key),
+        Form::Exec { .. } => later_on_exec(key),
+        Form::Dd => later_on_dd(key),
+    }
+}
+
+/// The fault of the keywords, each by itself.
+pub fn keywords_fault(form: Form, keywords: &[Keyword<'_>]) -> Option<Cause>
+    ensures { result ≡ told (flat_map (keyword_faults form) keywords.now) }
+{
+    let mut fault = None;
+    for keyword in keywords {
+        fault = earlier(fault, keyword_fault(form, keyword));
+    }
+    fault
+}
+
+/// Whether a keyword stands twice, those that are not brought yet apart.
+pub fn has_twice(form: Form, keywords: &[Keyword<'_>]) -> bool
+    ensures { result ≡ has_twice (is_later form) keywords.now }
+{
+    for (at, keyword) in keywords.iter().enumerate() {
+        let (_, behind) = keywords.split_at(at + 1);
+        if !is_later(form, keyword.key()) && has_key(behind, keyword.key()) {
+            return true;
+        }
+    }
+    false
+}
