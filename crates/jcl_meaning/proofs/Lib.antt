@@ -1,4 +1,5 @@
 mod Backs
+mod Budgets
 mod Groups
 mod Keys
 mod Moves

@@ -2,6 +2,7 @@
 //! the catalog; programs and their requests are this profile's)
 #![tactic(auto)]
 
+pub mod budget;
 pub mod disposition;
 mod ends;
 pub mod history;
