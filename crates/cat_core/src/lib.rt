@@ -4,4 +4,6 @@
 pub mod catalog;
 pub mod fault;
 #[cfg(test)]
+mod refused;
+#[cfg(test)]
 mod tests;

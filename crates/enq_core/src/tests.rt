@@ -14,7 +14,7 @@ fn name(text: &str) -> Result<DsName, Fail> {
     Ok(read_ds_name(text.as_bytes())?)
 }
 
-fn want(text: &str, exclusive: bool) -> Result<Want, Fail> {
+pub(crate) fn want(text: &str, exclusive: bool) -> Result<Want, Fail> {
     Ok(Want {
         name: name(text)?,
         exclusive,
@@ -28,7 +28,7 @@ fn comes_before_all(want: &Want, others: &[Want]) -> bool
 }
 
 /// Whether the wants stand in byte order of their names, each name once.
-fn are_wants(wants: &[Want]) -> bool
+pub(crate) fn are_wants(wants: &[Want]) -> bool
     ensures { result ≡ true → AreWants wants.now }
 {
     for i in 0..wants.len() {
@@ -39,7 +39,7 @@ fn are_wants(wants: &[Want]) -> bool
     true
 }
 
-fn holds_none(table: &EnqTable, job: u16) -> bool
+pub(crate) fn holds_none(table: &EnqTable, job: u16) -> bool
     ensures { result ≡ true → HoldsNone table.now job }
 {
     table.holds().iter().all(|hold| hold.job != job)

@@ -1,9 +1,6 @@
-mod Backs
 mod Budgets
 mod Groups
+mod HeldNames
 mod Keys
-mod Moves
-mod Passes
-mod Runs
+mod LineCounts
 mod StoreLists
-mod Starts

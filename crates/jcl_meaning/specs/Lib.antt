@@ -3,12 +3,12 @@ pub mod Agendas
 pub mod Dispositions
 pub mod EndActs
 pub mod History
+pub mod LineCounts
 pub mod Lists
 pub mod Names
 pub mod Plans
 pub mod Programs
 pub mod RequestActs
-pub mod Runners
 pub mod Solo
 pub mod States
 pub mod Stores

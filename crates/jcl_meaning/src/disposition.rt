@@ -1,6 +1,6 @@
 //! What becomes of a set at its disposition and at the job's end. (DISP parameter; LEFT and BACK are this profile's)
 ghost use Rattle.std.specs.Prelude.{◌≡◌, ◌<◌, ◌≤◌, Ok, IfOk, OnOk, length};
-ghost use Rattle.jcl_meaning.specs.Dispositions.{as_taken, back_word, catalogs, catalogs_by, catalogs_in_group, catalogs_name, changed, deletes, disposed_by, does, fault_in, is_deleted_back, is_entered_on, left_word, left_word_after, uncatalogs, unless_gone, word_does};
+ghost use Rattle.jcl_meaning.specs.Dispositions.{as_taken, back_word, catalogs, catalogs_by, catalogs_in_group, catalogs_name, changed, deletes, disposed_by, does, fault_in, is_deleted_back, is_entered_on, left_word, left_word_after, uncatalogs, word_does};
 ghost use Rattle.jcl_meaning.specs.Stores.{after_rolling, cut_at, entry_in, generation_entered, member_of, rolled_off, set_in, store_of};
 ghost use Rattle.group_core.specs.Entries.{volume_in};
 ghost use Rattle.group_core.specs.Groups.{GroupState, RollsInRange};

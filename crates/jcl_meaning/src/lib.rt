@@ -4,16 +4,12 @@
 
 pub mod budget;
 pub mod disposition;
-mod ends;
 pub mod history;
 pub mod names;
 pub mod program;
-mod requests;
-mod runner;
 pub mod solo;
 pub mod source;
 pub mod state;
-mod steps;
 pub mod store;
 pub mod take;
 pub mod words;

@@ -1,4 +1,6 @@
 //! What is a job's own while it runs. Steps and DDs count from 1.
+ghost use Rattle.std.specs.Prelude.{◌≡◌, IfOk};
+
 use jcl_plan::fault::Fault;
 use jcl_plan::outcome::Outcome;
 use jcl_plan::plan::Record;
@@ -7,6 +9,7 @@ use jname_core::key::Key;
 use jname_core::name8::Name8;
 use jname_core::serial::Serial;
 use plain::listed::Listed;
+use std::alloc::{AllocError, Global};
 
 /// A set that was passed and not yet received. (DISP parameter, PASS)
 #[derive(Clone, Copy, Debug)]
@@ -58,6 +61,22 @@ pub struct DdState {
     pub written: bool,
     /// The records put to SYSOUT.
     pub spooled: Listed<Record>,
+}
+
+impl DdState {
+    pub fn copy_of(&self, alloc: Global) -> Result<DdState, AllocError>
+        ensures { IfOk result (λ x. x ≡ self.now) }
+    {
+        Ok(DdState {
+            number: self.number,
+            name: self.name,
+            taken: self.taken,
+            member: self.member,
+            position: self.position,
+            written: self.written,
+            spooled: Listed::copy_of(alloc, self.spooled.as_slice())?,
+        })
+    }
 }
 
 /// What is due at a device's end.

@@ -6,14 +6,15 @@ use Rattle.jcl_plan.specs.declared.fault.Cause.{Cause}
 use Rattle.jcl_plan.specs.declared.fault.Cause.TheVariants.{P}
 use Rattle.card_core.specs.declared.statement.Statement.{Statement}
 use Rattle.jcl_parse.specs.declared.exec.ExecKeyword.TheVariants as word
-use Rattle.jcl_parse.specs.Faults.{name_faults, told, when, written_name_faults}
-use Rattle.jcl_parse.specs.Operands.{Keyword, Operand, is_crowded, operand_of, operand_of_parts, part_faults, parts_of}
-use Rattle.jcl_parse.specs.Keywords.{has_key, twice_faults, value_of}
-use Rattle.jcl_parse.specs.ExecCards.{calls, exec_keyword, exec_keyword_faults, exec_operand_faults, exec_word_faults, first_of, has_positional, later_on_exec, own_exec_faults, program_faults, read_name_faults, runs_badly, symbol_faults}
-use Rattle.jcl_parse.specs.Reading.{CanRun, operand_with}
-use Rattle.jcl_parse.proofs.Faultless.{none_behind, none_in_front}
-use Rattle.jcl_parse.proofs.Told.{told-none}
-use Rattle.jcl_parse.proofs.Keys.{first_has_none, first_is_read, value_is_read}
+use Rattle.operand_core.specs.Faults.{name_faults, read_name_faults, told, when, written_name_faults}
+use Rattle.operand_core.specs.Operands.{Keyword, Operand, first_of, is_crowded, operand_of, operand_of_parts, part_faults, parts_of}
+use Rattle.operand_core.specs.Keywords.{has_key, twice_faults, value_of}
+use Rattle.jcl_parse.specs.ExecCards.{calls, exec_keyword, exec_keyword_faults, exec_operand_faults, exec_word_faults, has_positional, later_on_exec, own_exec_faults, program_faults, runs_badly, symbol_faults}
+use Rattle.jcl_parse.specs.Reading.{CanRun}
+use Rattle.operand_core.specs.Reading.{operand_with}
+use Rattle.operand_core.proofs.Faultless.{none_behind, none_in_front}
+use Rattle.operand_core.proofs.Told.{told-none}
+use Rattle.operand_core.proofs.Keys.{first_has_none, first_is_read, value_is_read}
 
 -- a symbol's keyword without a fault has the name of a symbol
 pub symbol_is : (keyword : Keyword) → word.Symbol ≡ exec_keyword true keyword.key → exec_keyword_faults true keyword ≡ [] → symbol_faults keyword.key ≡ []

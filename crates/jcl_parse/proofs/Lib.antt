@@ -1,7 +1,2 @@
 mod ExecNames
-mod Faultless
-mod Keys
-mod Places
 mod Refusals
-mod SameOperand
-mod Told

@@ -7,13 +7,13 @@ use Rattle.jcl_plan.specs.declared.fault.Cause.{Cause}
 use Rattle.jcl_parse.specs.declared.deck.Operation.{Operation}
 use Rattle.jcl_parse.specs.declared.deck.Operation.TheVariants as operation
 use Rattle.jcl_parse.specs.declared.deck.Place.{Place}
-use Rattle.jcl_parse.specs.Faults.{told}
+use Rattle.operand_core.specs.Faults.{told}
 use Rattle.jcl_parse.specs.JobCards.{own_job_faults}
 use Rattle.jcl_parse.specs.DdCards.{dd_card}
 use Rattle.jcl_parse.specs.Decks.{dds_behind, faults_at, first_told, is_dd, is_long_at, names_of, operation_of, own_faults, place_behind, place_faults, refusal_from, start}
 use Rattle.jcl_parse.specs.Reading.{HasNoRefusal}
-use Rattle.jcl_parse.proofs.Faultless.{own_from_long, told_none_behind, told_none_in_front}
-use Rattle.jcl_parse.proofs.Told.{told-none}
+use Rattle.operand_core.proofs.Faultless.{own_from_long, told_none_behind, told_none_in_front}
+use Rattle.operand_core.proofs.Told.{told-none}
 
 none_first : (a b : Option Cause) → first_told a b ≡ None → a ≡ None
 none_first None b h = refl

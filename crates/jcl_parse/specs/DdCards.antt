@@ -1,19 +1,19 @@
 -- The DD statement. (GC28-6704, "DD statement": *, DATA, DUMMY, SYSOUT)
-use Rattle.std.specs.Prelude.{ℕ, ◌+◌, ◌-◌, Bool, false, not, ◌&&◌, ◌||◌, ◌==◌, nat_lt, nat_le, List, [], ◌∷◌, ◌++◌, length, take, drop, count_by, codes, Option, Some, None, is_some, unwrap_or, Result, if◌then◌else◌}
+use Rattle.std.specs.Prelude.{ℕ, ◌+◌, Bool, false, not, ◌&&◌, ◌||◌, nat_lt, nat_le, List, [], ◌∷◌, ◌++◌, length, drop, count_by, codes, Option, Some, None, is_some, unwrap_or, Result, if◌then◌else◌}
 use Rattle.std.specs.List.{flat_map}
 use Rattle.std.specs.Str.{bytes_eq}
 use Rattle.card_core.specs.declared.statement.Statement.{Statement}
-use Rattle.card_core.specs.Fields.{quoted_after}
 use Rattle.jcl_plan.specs.declared.fault.Cause.{Cause}
 use Rattle.jcl_plan.specs.declared.fault.Cause.TheVariants.{P}
 use Rattle.jcl_parse.specs.declared.dd.DdCard.{DdCard}
 use Rattle.jcl_parse.specs.declared.dd.DdCardKind.{DdCardKind}
 use Rattle.jcl_parse.specs.declared.dd.DdCardKind.TheVariants.{Cards, Dummy, Sysout, UnnamedSet}
-use Rattle.jcl_parse.specs.Faults.{long_faults, name_faults, or_fault, told, when, written_name_faults}
-use Rattle.jcl_parse.specs.Operands.{Keyword, Operand, depth_after, operand_of, places_of}
-use Rattle.jcl_parse.specs.Keywords.{is_among, is_long, twice_faults, unknown_faults, value_of}
-use Rattle.jcl_parse.specs.JobCards.{class_of, is_output_class}
-use Rattle.jcl_parse.specs.ExecCards.{first_of, head_of, is_qualified, written_name}
+use Rattle.operand_core.specs.Faults.{long_faults, name_faults, or_fault, told, when, written_name, written_name_faults}
+use Rattle.operand_core.specs.Operands.{Keyword, Operand, first_of, operand_of}
+use Rattle.operand_core.specs.Keywords.{is_among, is_long, twice_faults, unknown_faults, value_of}
+use Rattle.operand_core.specs.Subparameters.{first_place, subparameters_of}
+use Rattle.operand_core.specs.Values.{class_of, coded, is_output_class}
+use Rattle.operand_core.specs.Qualified.{head_of, is_qualified}
 
 -- keywords that are not brought yet
 abbrev pub later_on_dd : List ℕ → Bool
@@ -23,39 +23,9 @@ later_on_dd key = is_among (codes "DSNAME" ∷ codes "DSN" ∷ codes "DISP" ∷ 
 abbrev pub left_out_on_dd : List ℕ → Bool
 left_out_on_dd key = is_among (codes "AFF" ∷ codes "SEP" ∷ codes "SPLIT" ∷ codes "SUBALLOC" ∷ codes "QNAME" ∷ codes "DYNAM" ∷ codes "TERM" ∷ []) key
 
--- whether the parenthesis that is open closes with the last character, and not before
-abbrev pub closes_last : Bool → ℕ → List ℕ → Bool
-closes_last quoted depth [] = false
-closes_last quoted depth (c ∷ []) = not quoted && depth == 1 && c == 41
-closes_last quoted depth (c ∷ d ∷ cs) =
-    if not quoted && depth == 1 && c == 41 then false
-    else closes_last (quoted_after quoted c) (depth_after quoted depth c) (d ∷ cs)
-
--- one pair of parentheses round something
-abbrev pub is_wrapped : List ℕ → Bool
-is_wrapped [] = false
-is_wrapped (c ∷ cs) = c == 40 && closes_last false 1 cs
-
-abbrev pub inside : List ℕ → List ℕ
-inside text = take (length text - 2) (drop 1 text)
-
--- of `(a,b)` a and b, of `a` a alone
-abbrev pub subparameters_of : List ℕ → List (List ℕ)
-subparameters_of value = if is_wrapped value then places_of (inside value) else value ∷ []
-
-abbrev pub first_place : List (List ℕ) → List ℕ
-first_place [] = []
-first_place (place ∷ places) = place
-
 -- a class, by itself or as the first of at most three places
 abbrev pub is_sysout : List ℕ → Bool
 is_sysout value = is_output_class (first_place (subparameters_of value)) && nat_le (length (subparameters_of value)) 3
-
--- a value, where one is coded
-abbrev pub coded : Option (List ℕ) → Option (List ℕ)
-coded None = None
-coded (Some []) = None
-coded (Some (c ∷ cs)) = Some (c ∷ cs)
 
 abbrev pub sysout_faults : Option (List ℕ) → List Cause
 sysout_faults None = []

@@ -14,8 +14,8 @@ use Rattle.jcl_parse.specs.declared.deck.Place.{Place}
 use Rattle.jcl_parse.specs.declared.exec.Runs.{Runs}
 use Rattle.jcl_parse.specs.declared.exec.Runs.TheVariants.{Program, Procedure}
 use Rattle.jcl_parse.specs.declared.job.JobCard.{JobCard}
-use Rattle.jcl_parse.specs.Faults.{long_faults, told, when, written_name_faults}
-use Rattle.jcl_parse.specs.Keywords.{is_long}
+use Rattle.operand_core.specs.Faults.{long_faults, told, when, written_name_faults}
+use Rattle.operand_core.specs.Keywords.{is_long}
 use Rattle.jcl_parse.specs.JobCards.{job_card, own_job_faults}
 use Rattle.jcl_parse.specs.ExecCards.{exec_card, own_exec_faults}
 use Rattle.jcl_parse.specs.DdCards.{dd_card, dd_name_faults, own_dd_faults}

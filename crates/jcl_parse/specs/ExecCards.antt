@@ -1,11 +1,10 @@
 -- The EXEC statement. (GC28-6704, "EXEC statement": PGM, procedure name, PROC, symbolic parameters)
-use Rattle.std.specs.Prelude.{ℕ, Bool, true, false, not, ◌&&◌, ◌||◌, ◌==◌, nat_lt, nat_eq, List, [], ◌∷◌, ◌++◌, length, take_while, codes, Option, Some, None, unwrap_or, Result, if◌then◌else◌}
-use Rattle.std.specs.List.{flat_map, list_any, starts_with}
+use Rattle.std.specs.Prelude.{ℕ, Bool, true, false, not, ◌&&◌, ◌||◌, ◌==◌, nat_lt, nat_eq, List, [], ◌∷◌, ◌++◌, length, codes, Option, Some, None, unwrap_or, Result, if◌then◌else◌}
+use Rattle.std.specs.List.{flat_map, starts_with}
 use Rattle.std.specs.Str.{bytes_eq}
 use Rattle.jname_core.specs.Characters.{is_name_character}
 use Rattle.jname_core.specs.Faults.{first_fault, has_other_than}
 use Rattle.card_core.specs.declared.statement.Statement.{Statement}
-use Rattle.card_core.specs.Fields.{begun_with}
 use Rattle.jcl_plan.specs.declared.fault.Cause.{Cause}
 use Rattle.jcl_plan.specs.declared.fault.Cause.TheVariants.{P}
 use Rattle.jcl_parse.specs.declared.exec.ExecCard.{ExecCard}
@@ -14,19 +13,11 @@ use Rattle.jcl_parse.specs.declared.exec.ExecKeyword.TheVariants as word
 use Rattle.jcl_parse.specs.declared.exec.Runs.{Runs}
 use Rattle.jcl_parse.specs.declared.exec.Runs.TheVariants.{Program, Procedure}
 use Rattle.jcl_parse.specs.declared.exec.Symbol.{Symbol}
-use Rattle.jcl_parse.specs.Faults.{as_cause, long_faults, name_faults, or_fault, told, when, written_name_faults}
-use Rattle.jcl_parse.specs.Operands.{Keyword, Operand, operand_of}
-use Rattle.jcl_parse.specs.Keywords.{has_key, is_among, is_long, twice_faults, value_of}
-
-abbrev pub is_no_period : ℕ → Bool
-is_no_period c = not (c == 46)
-
--- the characters before the first period
-abbrev pub head_of : List ℕ → List ℕ
-head_of key = take_while is_no_period key
-
-abbrev pub is_qualified : List ℕ → Bool
-is_qualified key = list_any (λ c. c == 46) key
+use Rattle.operand_core.specs.Faults.{as_cause, long_faults, name_faults, or_fault, read_name_faults, told, when, written_name, written_name_faults}
+use Rattle.operand_core.specs.Operands.{Keyword, Operand, first_of, operand_of}
+use Rattle.operand_core.specs.Keywords.{has_key, is_among, is_long, twice_faults, value_of}
+use Rattle.operand_core.specs.Qualified.{head_of, is_qualified}
+use Rattle.operand_core.specs.Values.{unquoted}
 
 -- keywords that are not brought yet, also for one step of a procedure, as COND.STEP
 abbrev pub later_on_exec : List ℕ → Bool
@@ -51,10 +42,6 @@ exec_keyword calls key =
 abbrev pub program_faults : Option (List ℕ) → List Cause
 program_faults None = []
 program_faults (Some value) = if starts_with nat_eq value (codes "*.") then P 19 ∷ [] else name_faults value
-
-abbrev pub read_name_faults : Option (List ℕ) → List Cause
-read_name_faults None = []
-read_name_faults (Some value) = name_faults value
 
 -- a symbol has one to seven name characters
 abbrev pub symbol_faults : List ℕ → List Cause
@@ -84,10 +71,6 @@ runs_badly operand =
     (if has_key (codes "PGM") operand.keywords then calls operand else not (calls operand))
     || has_positional operand && has_key (codes "PROC") operand.keywords
 
-abbrev pub first_of : List (Option (List ℕ)) → Option (List ℕ)
-first_of [] = None
-first_of (part ∷ parts) = part
-
 abbrev pub exec_operand_faults : Operand → List Cause
 exec_operand_faults operand =
     operand.faults ++ when (runs_badly operand) (P 10) ++ read_name_faults (first_of operand.positional)
@@ -99,18 +82,6 @@ own_exec_faults statement = written_name_faults statement.name ++ exec_operand_f
 
 abbrev pub exec_faults : Statement → List Cause
 exec_faults statement = if is_long statement.operand then long_faults (written_name_faults statement.name) else own_exec_faults statement
-
--- the text up to the apostrophe that ends it, two within being one; one may have begun that is the last or the first of two
-abbrev pub enclosed : Bool → List ℕ → Option (List ℕ)
-enclosed begun [] = if begun then Some [] else None
-enclosed begun (c ∷ cs) =
-    if c == 39 then (if begun then begun_with 39 (enclosed false cs) else enclosed true cs)
-    else (if begun then None else begun_with c (enclosed false cs))
-
--- a value without apostrophes that enclose it whole
-abbrev pub unquoted : List ℕ → List ℕ
-unquoted [] = []
-unquoted (c ∷ cs) = if c == 39 then unwrap_or (enclosed false cs) (c ∷ cs) else c ∷ cs
 
 abbrev pub symbol_of : Keyword → Symbol
 symbol_of keyword = record { name = keyword.key; value = unquoted (unwrap_or keyword.value []) }
@@ -135,11 +106,6 @@ program_of operand = unwrap_or (value_of (codes "PGM") operand.keywords) []
 abbrev pub runs_of : Operand → Runs
 runs_of operand =
     if calls operand then Procedure (procedure_of operand) (symbols_of operand.keywords) else Program (program_of operand)
-
--- a name, or none where the field is empty
-abbrev pub written_name : List ℕ → Option (List ℕ)
-written_name [] = None
-written_name (c ∷ cs) = Some (c ∷ cs)
 
 -- the card of a statement without a fault
 abbrev pub exec_card : Statement → ExecCard

@@ -1,15 +1,16 @@
 -- The JOB statement. (GC28-6704, "JOB statement": accounting information, programmer's name, CLASS, PRTY, MSGCLASS)
-use Rattle.std.specs.Prelude.{ℕ, ◌+◌, ◌*◌, ◌-◌, Bool, false, not, ◌&&◌, ◌||◌, ◌==◌, nat_le, List, [], ◌∷◌, ◌++◌, length, fold, codes, Option, Some, None, Result, if◌then◌else◌}
+use Rattle.std.specs.Prelude.{ℕ, ◌+◌, ◌*◌, ◌-◌, Bool, false, not, ◌&&◌, ◌==◌, nat_le, List, [], ◌∷◌, ◌++◌, length, fold, codes, Option, Some, None, Result, if◌then◌else◌}
 use Rattle.std.specs.List.{flat_map, list_all}
 use Rattle.std.specs.Str.{bytes_eq}
-use Rattle.jname_core.specs.Characters.{is_between, is_digit, is_letter}
+use Rattle.jname_core.specs.Characters.{is_between, is_digit}
 use Rattle.card_core.specs.declared.statement.Statement.{Statement}
 use Rattle.jcl_plan.specs.declared.fault.Cause.{Cause}
 use Rattle.jcl_plan.specs.declared.fault.Cause.TheVariants.{P}
 use Rattle.jcl_parse.specs.declared.job.JobCard.{JobCard}
-use Rattle.jcl_parse.specs.Faults.{name_faults, told, written_name_faults, long_faults, or_fault}
-use Rattle.jcl_parse.specs.Operands.{Keyword, Operand, operand_of}
-use Rattle.jcl_parse.specs.Keywords.{is_among, is_long, twice_faults, unknown_faults, value_faults, value_of}
+use Rattle.operand_core.specs.Faults.{name_faults, told, written_name_faults, long_faults, or_fault}
+use Rattle.operand_core.specs.Operands.{Keyword, Operand, operand_of}
+use Rattle.operand_core.specs.Keywords.{is_among, is_long, twice_faults, unknown_faults, value_faults, value_of}
+use Rattle.operand_core.specs.Values.{class_of, is_output_class}
 
 -- keywords that are not brought yet
 abbrev pub later_on_job : List ℕ → Bool
@@ -23,11 +24,6 @@ left_out_on_job key = is_among (codes "RD" ∷ codes "RESTART" ∷ codes "TYPRUN
 abbrev pub is_job_class : List ℕ → Bool
 is_job_class (c ∷ []) = is_between 65 79 c
 is_job_class _ = false
-
--- a letter or a digit
-abbrev pub is_output_class : List ℕ → Bool
-is_output_class (c ∷ []) = is_letter c || is_digit c
-is_output_class _ = false
 
 -- the number of decimal digits
 abbrev pub decimal_value : List ℕ → ℕ
@@ -59,11 +55,6 @@ own_job_faults statement = job_name_faults statement.name ++ job_operand_faults 
 
 abbrev pub job_faults : Statement → List Cause
 job_faults statement = if is_long statement.operand then long_faults (written_name_faults statement.name) else own_job_faults statement
-
--- A where none is coded
-abbrev pub class_of : Option (List ℕ) → ℕ
-class_of (Some (c ∷ cs)) = c
-class_of _ = 65
 
 -- 6 where none is coded
 abbrev pub priority_of : Option (List ℕ) → ℕ

@@ -1,26 +1,19 @@
 -- What the parts of the reading say.
-use Rattle.std.specs.Prelude.{◌≡◌, ℕ, Bool, true, false, List, [], Option, None, Result, Ok, Err}
+use Rattle.std.specs.Prelude.{◌≡◌, ℕ, Bool, true, false, List, [], None, Result, Ok, Err}
 use Rattle.std.specs.List.{flat_map}
 use Rattle.card_core.specs.declared.statement.Statement.{Statement}
 use Rattle.jcl_plan.specs.declared.fault.Cause.{Cause}
 use Rattle.jcl_parse.specs.declared.deck.Place.{Place}
-use Rattle.jcl_parse.specs.declared.operand.Operand as code
 use Rattle.jcl_parse.specs.declared.refusal.ReadError.{ReadError}
 use Rattle.jcl_parse.specs.declared.refusal.ReadError.TheVariants.{Refused, Memory}
 use Rattle.jcl_parse.specs.declared.rules.Form.{Form}
 use Rattle.jcl_parse.specs.declared.rules.Form.TheVariants as form
-use Rattle.jcl_parse.specs.Faults.{name_faults, told}
-use Rattle.jcl_parse.specs.Operands.{Keyword, Operand}
+use Rattle.operand_core.specs.Faults.{name_faults, told}
+use Rattle.operand_core.specs.Operands.{Keyword, Operand}
 use Rattle.jcl_parse.specs.JobCards.{job_keyword_faults, later_on_job}
 use Rattle.jcl_parse.specs.ExecCards.{calls, exec_keyword_faults, later_on_exec, procedure_of, program_of}
 use Rattle.jcl_parse.specs.DdCards.{dd_keyword_faults, later_on_dd}
 use Rattle.jcl_parse.specs.Decks.{refusal_from}
-
--- an operand, and the one of its faults that is told
-pub record IsOperand (read : code.Operand) (operand : Operand) : Type 0 where
-  pub positional : read.positional.items ≡ operand.positional
-  pub keywords : read.keywords.items ≡ operand.keywords
-  pub fault : read.fault ≡ told operand.faults
 
 abbrev pub keyword_faults : Form → Keyword → List Cause
 keyword_faults form.Job keyword = job_keyword_faults keyword
@@ -37,14 +30,6 @@ abbrev pub Gives : {X Y : Type 0} → (X → Y) → Result X ReadError → Resul
 Gives view (Ok x) denoted = denoted ≡ Ok (view x)
 Gives view (Err (Refused fault)) denoted = denoted ≡ Err fault
 Gives view (Err Memory) denoted = Unit {0}
-
--- the fault is the one that is told of these of an operand
-abbrev pub Tells : (Operand → List Cause) → code.Operand → Option Cause → Type 0
-Tells faults_of read fault = (operand : Operand) → IsOperand read operand → fault ≡ told (faults_of operand)
-
--- an operand by its parts alone
-abbrev pub operand_with : List (Option (List ℕ)) → List Keyword → Operand
-operand_with positional keywords = record { positional = positional; keywords = keywords; faults = [] }
 
 -- what a step runs has a name, and its symbols have names
 pub record CanRun (operand : Operand) : Type 0 where

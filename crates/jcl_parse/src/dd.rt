@@ -1,26 +1,26 @@
 //! The DD statement.
-ghost use Rattle.std.specs.Prelude.{◌≡◌, ◌≤◌, [], length, true, false, count_by, unwrap_or, Some, None, IfOk};
+ghost use Rattle.std.specs.Prelude.{◌≡◌, [], count_by, unwrap_or, Some, None, IfOk};
 ghost use Rattle.std.specs.Option.{option_copied};
-ghost use Rattle.jcl_parse.specs.Faults.{told};
-ghost use Rattle.jcl_parse.specs.Operands.{places_of};
-ghost use Rattle.jcl_parse.specs.DdCards.{closes_last, coded, dd_keyword_faults, first_place, inside, is_dd_word, is_sysout, is_wrapped, later_on_dd, left_out_on_dd, subparameters_of, sysout_faults, behind_period, dd_card, dd_faults, dd_kind, dd_name_faults, dd_name_of, dd_of_statement, dd_operand_faults, dd_positional_faults, excludes, is_read_word, own_dd_faults, qualifier_of, sysout_of};
-ghost use Rattle.jcl_parse.specs.JobCards.{class_of};
-ghost use Rattle.jcl_parse.specs.Reading.{Gives, Tells, operand_with};
+ghost use Rattle.operand_core.specs.Faults.{told};
+ghost use Rattle.operand_core.specs.Subparameters.{first_place, subparameters_of};
+ghost use Rattle.operand_core.specs.Values.{class_of};
+ghost use Rattle.jcl_parse.specs.DdCards.{dd_keyword_faults, is_dd_word, is_sysout, later_on_dd, left_out_on_dd, sysout_faults, behind_period, dd_card, dd_faults, dd_kind, dd_name_faults, dd_name_of, dd_of_statement, dd_operand_faults, dd_positional_faults, excludes, is_read_word, own_dd_faults, qualifier_of, sysout_of};
+ghost use Rattle.jcl_parse.specs.Reading.{Gives};
+ghost use Rattle.operand_core.specs.Reading.{Tells, operand_with};
 
-use crate::exec::{first_of, head_len, head_of, is_qualified};
-use crate::fault::{
-    earlier, long_fault, name_fault, valid_name, when, written_name, written_name_fault,
-};
-use crate::job::{class_of, is_output_class};
-use crate::keyword::{is_long, unknown_fault, value_of};
-use crate::operand::{Keyword, Operand, Positional, operand_of};
-use crate::parts::first_part;
 use crate::refusal::ReadError;
 use crate::rules::{Form, has_twice, keywords_fault};
-use crate::scan::{depth_after, quoted_after};
 use card_core::statement::Statement;
 use jcl_plan::fault::Cause;
 use jname_core::name8::Name8;
+use operand_core::fault::{
+    earlier, long_fault, name_fault, valid_name, when, written_name, written_name_fault,
+};
+use operand_core::keyword::{is_long, unknown_fault, value_of};
+use operand_core::operand::{Keyword, Operand, Positional, first_of, operand_of};
+use operand_core::qualified::{head_len, head_of, is_qualified};
+use operand_core::subparameter::{first_subparameter, subparameter_count};
+use operand_core::value::{class_of, coded, is_output_class};
 use plain::listed::Listed;
 use std::alloc::{AllocError, Global};
 
@@ -76,96 +76,10 @@ fn left_out_on_dd(key: &[u8]) -> bool
         || key == b"TERM".as_slice()
 }
 
-/// Whether the parenthesis that is open closes with the last character, and not before.
-fn closes_last(text: &[u8]) -> bool
-    ensures { result ≡ closes_last false 1 text.now }
-{
-    let mut quoted = false;
-    let mut depth = 1;
-    let mut rest = text;
-    while let Some((c, behind)) = rest.split_first() {
-        let closes = !quoted && depth == 1 && *c == b')';
-        if behind.is_empty() {
-            return closes;
-        }
-        if closes {
-            return false;
-        }
-        depth = depth_after(quoted, depth, *c);
-        quoted = quoted_after(quoted, *c);
-        rest = behind;
-    }
-    false
-}
-
-fn is_wrapped(text: &[u8]) -> bool
-    ensures { result ≡ is_wrapped text.now }
-{
-    match text.split_first() {
-        Some((c, behind)) => *c == b'(' && closes_last(behind),
-        None => false,
-    }
-}
-
-fn inside(text: &[u8]) -> &[u8]
-    requires { 2 ≤ length text.now }
-    ensures { result.now ≡ inside text.now }
-{
-    let (_, behind) = text.split_at(1);
-    let (inside, _) = behind.split_at(behind.len() - 1);
-    inside
-}
-
-/// How many places stand between commas.
-fn place_count(text: &[u8]) -> usize
-    ensures { result ≡ length (places_of text.now) }
-{
-    let mut count = 1;
-    let mut rest = text;
-    while let Some((_, behind)) = first_part(rest) {
-        count += 1;
-        rest = behind;
-    }
-    count
-}
-
-fn subparameter_count(value: &[u8]) -> usize
-    ensures { result ≡ length (subparameters_of value.now) }
-{
-    if is_wrapped(value) {
-        place_count(inside(value))
-    } else {
-        1
-    }
-}
-
-fn first_subparameter(value: &[u8]) -> &[u8]
-    ensures { result.now ≡ first_place (subparameters_of value.now) }
-{
-    if !is_wrapped(value) {
-        return value;
-    }
-    let text = inside(value);
-    match first_part(text) {
-        Some((first, _)) => first,
-        None => text,
-    }
-}
-
 fn is_sysout(value: &[u8]) -> bool
     ensures { result ≡ is_sysout value.now }
 {
     is_output_class(first_subparameter(value)) && subparameter_count(value) <= 3
-}
-
-/// The value, where one is coded.
-fn coded(value: Option<&[u8]>) -> Option<&[u8]>
-    ensures { option_copied result ≡ coded (option_copied value.entry) }
-{
-    match value {
-        Some(value) if !value.is_empty() => Some(value),
-        _ => None,
-    }
 }
 
 fn sysout_fault(value: Option<&[u8]>) -> Option<Cause>
@@ -201,7 +115,7 @@ fn behind_period(name: &[u8]) -> &[u8]
     }
 }
 
-#[tactic(auto, using(crate::proofs::Told::told_append))]
+#[tactic(auto, using(operand_core::proofs::Told::told_append))]
 pub fn dd_name_fault(name: &[u8]) -> Option<Cause>
     ensures { result ≡ told (dd_name_faults name.now) }
 {
@@ -290,7 +204,7 @@ pub fn own_dd_fault(alloc: Global, statement: &Statement) -> Result<Option<Cause
     Ok(earlier(name, dd_operand_fault(&operand)))
 }
 
-#[tactic(auto, using(crate::proofs::Told::told_append))]
+#[tactic(auto, using(operand_core::proofs::Told::told_append))]
 fn dd_fault(alloc: Global, statement: &Statement) -> Result<Option<Cause>, AllocError>
     ensures { IfOk result (λ fault. fault ≡ told (dd_faults statement.now)) }
 {

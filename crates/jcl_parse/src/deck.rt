@@ -1,17 +1,17 @@
 //! A deck of statements.
 ghost use Rattle.std.specs.Prelude.{◌≡◌, None, IfOk};
-ghost use Rattle.jcl_parse.specs.Faults.{told};
+ghost use Rattle.operand_core.specs.Faults.{told};
 ghost use Rattle.jcl_parse.specs.Decks.{dds_behind, deck_of, deck_without_refusal, faults_at, has_misplaced_qualifier, has_no_name, has_qualified, is_dd, is_exec, is_long_at, is_of_job_library, names_of, operation_of, own_faults, place_behind, place_faults, refusal_from, start, steps_of};
 ghost use Rattle.jcl_parse.specs.Reading.{Gives, HasNoRefusal};
 
 use crate::dd::{DdCard, dd_card, dd_name_fault, own_dd_fault};
 use crate::exec::{ExecCard, Runs, exec_card, own_exec_fault};
-use crate::fault::{earlier, long_fault, when, written_name_fault};
 use crate::job::{JobCard, job_card, own_job_fault};
-use crate::keyword::is_long;
 use crate::refusal::ReadError;
 use card_core::statement::Statement;
 use jcl_plan::fault::Cause;
+use operand_core::fault::{earlier, long_fault, when, written_name_fault};
+use operand_core::keyword::is_long;
 use plain::listed::Listed;
 use std::alloc::{AllocError, Global};
 
@@ -101,7 +101,7 @@ fn is_of_job_library(place: Place, statement: &Statement) -> bool
     statement.name.as_slice() == b"JOBLIB".as_slice() || has_no_name(statement) && place.behind_dd
 }
 
-#[tactic(auto, using(crate::proofs::Told::told_append))]
+#[tactic(auto, using(operand_core::proofs::Told::told_append))]
 fn dd_place_fault(place: Place, statement: &Statement) -> Option<Cause>
     ensures { result ≡ told (place_faults place Operation.Dd statement.now) }
 {
@@ -127,7 +127,7 @@ fn place_fault(place: Place, operation: Operation, statement: &Statement) -> Opt
 }
 
 /// The fault of a statement with an unknown operation.
-#[tactic(auto, using(crate::proofs::Told::told_append))]
+#[tactic(auto, using(operand_core::proofs::Told::told_append))]
 fn unknown_fault(statement: &Statement) -> Option<Cause>
     ensures { result ≡ told (own_faults Operation.Other statement.now) }
 {
@@ -171,7 +171,7 @@ fn is_long_at(operation: Operation, statement: &Statement) -> bool
     }
 }
 
-#[tactic(auto, using(crate::proofs::Told::told_append))]
+#[tactic(auto, using(operand_core::proofs::Told::told_append))]
 fn fault_at(
     alloc: Global,
     place: Place,

@@ -1,23 +1,27 @@
 //! The EXEC statement.
-ghost use Rattle.std.specs.Prelude.{◌≡◌, ◌≤◌, length, take_while, [], None, true, false, unwrap_or, IfOk};
+ghost use Rattle.std.specs.Prelude.{◌≡◌, [], None, true, IfOk};
 ghost use Rattle.std.specs.List.{flat_map};
 ghost use Rattle.jname_core.specs.Characters.{is_name_character};
 ghost use Rattle.jname_core.specs.Faults.{has_other_than};
 ghost use Rattle.std.specs.Option.{option_copied};
-ghost use Rattle.jcl_parse.specs.Faults.{name_faults, told};
-ghost use Rattle.jcl_parse.specs.ExecCards.{head_of, is_no_period, is_qualified, later_on_exec, left_out_on_exec, exec_keyword, program_faults, read_name_faults, symbol_faults, calls, exec_faults, exec_keyword_faults, exec_operand_faults, first_of, own_exec_faults, runs_badly, enclosed, unquoted, symbol_of, symbols_of, procedure_of, program_of, runs_of, exec_card, exec_of_statement};
-ghost use Rattle.jcl_parse.specs.Reading.{CanRun, Gives, Tells, operand_with};
+ghost use Rattle.operand_core.specs.Faults.{told};
+ghost use Rattle.jcl_parse.specs.ExecCards.{later_on_exec, left_out_on_exec, exec_keyword, program_faults, symbol_faults, calls, exec_faults, exec_keyword_faults, exec_operand_faults, own_exec_faults, runs_badly, symbol_of, symbols_of, procedure_of, program_of, runs_of, exec_card, exec_of_statement};
+ghost use Rattle.jcl_parse.specs.Reading.{CanRun, Gives};
+ghost use Rattle.operand_core.specs.Reading.{Tells, operand_with};
 
-use crate::fault::{
-    earlier, long_fault, name_fault, valid_name, when, written_name, written_name_fault,
-};
-use crate::keyword::{has_key, is_long, value_of};
-use crate::operand::{Keyword, Operand, Positional, operand_of};
 use crate::refusal::ReadError;
 use crate::rules::{Form, has_twice, keywords_fault};
 use card_core::statement::Statement;
 use jcl_plan::fault::Cause;
 use jname_core::name8::{Name8, is_name_character};
+use operand_core::fault::{
+    earlier, long_fault, name_fault, read_name_fault, valid_name, when, written_name,
+    written_name_fault,
+};
+use operand_core::keyword::{has_key, is_long, value_of};
+use operand_core::operand::{Keyword, Operand, Positional, first_of, operand_of};
+use operand_core::qualified::{head_of, is_qualified};
+use operand_core::value::{unquoted, value_or_nothing};
 use plain::listed::Listed;
 use plain::short::Short;
 use plain::text::Text;
@@ -62,27 +66,6 @@ pub enum ExecKeyword {
     Later,
     /// It gives a value to a symbol.
     Symbol,
-}
-
-pub fn head_len(key: &[u8]) -> usize
-    ensures count { result ≡ length (take_while is_no_period key.now) }
-    ensures bound { result ≤ length key.now }
-{
-    key.iter().take_while(|c| **c != b'.').count()
-}
-
-/// The characters before the first period.
-pub fn head_of(key: &[u8]) -> &[u8]
-    ensures { result.now ≡ head_of key.now }
-{
-    let (head, _) = key.split_at(head_len(key));
-    head
-}
-
-pub fn is_qualified(key: &[u8]) -> bool
-    ensures { result ≡ is_qualified key.now }
-{
-    key.iter().any(|c| *c == b'.')
 }
 
 pub fn later_on_exec(key: &[u8]) -> bool
@@ -139,15 +122,6 @@ fn program_fault(value: Option<&[u8]>) -> Option<Cause>
     }
 }
 
-pub fn read_name_fault(value: Option<&[u8]>) -> Option<Cause>
-    ensures { result ≡ told (read_name_faults (option_copied value.entry)) }
-{
-    match value {
-        None => None,
-        Some(name) => name_fault(name),
-    }
-}
-
 fn has_other_character(key: &[u8]) -> bool
     ensures { result ≡ has_other_than is_name_character key.now }
 {
@@ -178,15 +152,6 @@ pub fn exec_keyword_fault(calls: bool, keyword: &Keyword<'_>) -> Option<Cause>
         ExecKeyword::LeftOut => Some(Cause::P(19)),
         ExecKeyword::Later => Some(Cause::P(19)),
         ExecKeyword::Symbol => symbol_fault(keyword.key()),
-    }
-}
-
-pub fn first_of<'a>(positional: &[Positional<'a>]) -> Option<&'a [u8]>
-    ensures { option_copied result ≡ first_of positional.now }
-{
-    match positional.split_first() {
-        Some((part, _)) => part.text(),
-        None => None,
     }
 }
 
@@ -232,7 +197,7 @@ pub fn own_exec_fault(alloc: Global, statement: &Statement) -> Result<Option<Cau
     Ok(earlier(name, exec_operand_fault(&operand)))
 }
 
-#[tactic(auto, using(crate::proofs::Told::told_append))]
+#[tactic(auto, using(operand_core::proofs::Told::told_append))]
 fn exec_fault(alloc: Global, statement: &Statement) -> Result<Option<Cause>, AllocError>
     ensures { IfOk result (λ fault. fault ≡ told (exec_faults statement.now)) }
 {
@@ -241,41 +206,6 @@ fn exec_fault(alloc: Global, statement: &Statement) -> Result<Option<Cause>, All
     } else {
         own_exec_fault(alloc, statement)
     }
-}
-
-/// The text up to the apostrophe that ends it, two within being one.
-fn enclosed(alloc: Global, text: &[u8]) -> Result<Option<Text>, AllocError>
-    ensures { IfOk result (λ found. found ≡ enclosed false text.now) }
-{
-    let mut found = Vec::new(alloc);
-    let mut begun = false;
-    for c in text {
-        let is_apostrophe = *c == b'\'';
-        if begun && !is_apostrophe {
-            return Ok(None);
-        }
-        if begun || !is_apostrophe {
-            found.push(*c)?;
-        }
-        begun = is_apostrophe && !begun;
-    }
-    if begun {
-        Ok(Some(Text::new(found)))
-    } else {
-        Ok(None)
-    }
-}
-
-/// A value without apostrophes that enclose it whole.
-fn unquoted(alloc: Global, value: &[u8]) -> Result<Text, AllocError>
-    ensures { IfOk result (λ text. text ≡ unquoted value.now) }
-{
-    if let Some((b'\'', behind)) = value.split_first() {
-        if let Some(text) = enclosed(alloc, behind)? {
-            return Ok(text);
-        }
-    }
-    Text::copy_of(alloc, value)
 }
 
 fn symbol_of(alloc: Global, keyword: &Keyword<'_>) -> Result<Symbol, AllocError>
@@ -303,15 +233,6 @@ fn symbols_of(alloc: Global, keywords: &[Keyword<'_>]) -> Result<Listed<Symbol>,
         }
     }
     Ok(Listed::new(symbols))
-}
-
-fn value_or_nothing<'a>(value: Option<&'a [u8]>) -> &'a [u8]
-    ensures { result.now ≡ unwrap_or (option_copied value.entry) [] }
-{
-    match value {
-        Some(text) => text,
-        None => &[],
-    }
 }
 
 fn procedure_of<'a>(positional: &[Positional<'a>], keywords: &[Keyword<'a>]) -> &'a [u8]

@@ -3,19 +3,22 @@ ghost use Rattle.std.specs.Prelude.{◌≡◌, ◌+◌, ◌*◌, ◌-◌, ◌≤
 ghost use Rattle.std.specs.List.{list_all};
 ghost use Rattle.jname_core.specs.Characters.{is_digit};
 ghost use Rattle.std.specs.Option.{option_copied};
-ghost use Rattle.jcl_parse.specs.Faults.{told};
-ghost use Rattle.jcl_parse.specs.Keywords.{unknown_faults, value_faults, value_of};
-ghost use Rattle.jcl_parse.specs.JobCards.{class_of, decimal_value, is_job_class, is_output_class, is_priority, job_keyword_faults, later_on_job, left_out_on_job, job_card, job_faults, job_name_faults, job_of_statement, job_operand_faults, own_job_faults, priority_of};
-ghost use Rattle.jcl_parse.specs.Reading.{Gives, Tells};
+ghost use Rattle.operand_core.specs.Faults.{told};
+ghost use Rattle.operand_core.specs.Keywords.{unknown_faults, value_faults, value_of};
+ghost use Rattle.operand_core.specs.Values.{is_output_class};
+ghost use Rattle.jcl_parse.specs.JobCards.{decimal_value, is_job_class, is_priority, job_keyword_faults, later_on_job, left_out_on_job, job_card, job_faults, job_name_faults, job_of_statement, job_operand_faults, own_job_faults, priority_of};
+ghost use Rattle.jcl_parse.specs.Reading.{Gives};
+ghost use Rattle.operand_core.specs.Reading.{Tells};
 
-use crate::fault::{earlier, long_fault, name_fault, when, written_name_fault};
-use crate::keyword::{is_long, unknown_fault, value_of};
-use crate::operand::{Keyword, Operand, operand_of};
 use crate::refusal::ReadError;
 use crate::rules::{Form, has_twice, keywords_fault};
 use card_core::statement::Statement;
 use jcl_plan::fault::Cause;
 use jname_core::name8::Name8;
+use operand_core::fault::{earlier, long_fault, name_fault, when, written_name_fault};
+use operand_core::keyword::{is_long, unknown_fault, value_of};
+use operand_core::operand::{Keyword, Operand, operand_of};
+use operand_core::value::{class_of, is_output_class};
 use std::alloc::{AllocError, Global};
 
 /// A JOB statement that was read.
@@ -55,24 +58,6 @@ fn is_job_class(value: &[u8]) -> bool
     match value {
         [c] => b'A' <= *c && *c <= b'O',
         _ => false,
-    }
-}
-
-pub fn is_output_class(value: &[u8]) -> bool
-    ensures { result ≡ is_output_class value.now }
-{
-    match value {
-        [c] => b'A' <= *c && *c <= b'Z' || b'0' <= *c && *c <= b'9',
-        _ => false,
-    }
-}
-
-pub fn class_of(value: Option<&[u8]>) -> u8
-    ensures { result ≡ class_of (option_copied value.entry) }
-{
-    match value {
-        Some([c, ..]) => *c,
-        _ => b'A',
     }
 }
 
@@ -192,7 +177,7 @@ fn job_operand_fault(operand: &Operand<'_>) -> Option<Cause>
 }
 
 /// The fault of a statement whose operand is read.
-#[tactic(auto, using(crate::proofs::Told::told_append))]
+#[tactic(auto, using(operand_core::proofs::Told::told_append))]
 pub fn own_job_fault(alloc: Global, statement: &Statement) -> Result<Option<Cause>, AllocError>
     ensures { IfOk result (λ fault. fault ≡ told (own_job_faults statement.now)) }
 {
@@ -201,7 +186,7 @@ pub fn own_job_fault(alloc: Global, statement: &Statement) -> Result<Option<Caus
     Ok(earlier(name, job_operand_fault(&operand)))
 }
 
-#[tactic(auto, using(crate::proofs::Told::told_append))]
+#[tactic(auto, using(operand_core::proofs::Told::told_append))]
 fn job_fault(alloc: Global, statement: &Statement) -> Result<Option<Cause>, AllocError>
     ensures { IfOk result (λ fault. fault ≡ told (job_faults statement.now)) }
 {

@@ -4,13 +4,8 @@
 pub mod dd;
 pub mod deck;
 pub mod exec;
-mod fault;
 pub mod job;
-mod keyword;
-mod operand;
-mod parts;
 pub mod refusal;
 mod rules;
-mod scan;
 #[cfg(test)]
 mod tests;

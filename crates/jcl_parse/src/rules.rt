@@ -1,17 +1,17 @@
 //! The rules that each statement has for its keywords.
 ghost use Rattle.std.specs.Prelude.{◌≡◌};
 ghost use Rattle.std.specs.List.{flat_map};
-ghost use Rattle.jcl_parse.specs.Faults.{told};
-ghost use Rattle.jcl_parse.specs.Keywords.{has_twice};
+ghost use Rattle.operand_core.specs.Faults.{told};
+ghost use Rattle.operand_core.specs.Keywords.{has_twice};
 ghost use Rattle.jcl_parse.specs.Reading.{is_later, keyword_faults};
 
 use crate::dd::{dd_keyword_fault, later_on_dd};
 use crate::exec::{exec_keyword_fault, later_on_exec};
-use crate::fault::earlier;
 use crate::job::{job_keyword_fault, later_on_job};
-use crate::keyword::has_key;
-use crate::operand::Keyword;
 use jcl_plan::fault::Cause;
+use operand_core::fault::earlier;
+use operand_core::keyword::has_key;
+use operand_core::operand::Keyword;
 
 /// Which statement's keywords.
 #[derive(Clone, Copy, Debug)]

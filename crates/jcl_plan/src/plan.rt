@@ -1,4 +1,6 @@
 //! A job as its deck or its records denote it.
+ghost use Rattle.std.specs.Prelude.{◌≡◌, []};
+
 use crate::day::Day;
 use crate::outcome::Code;
 use arrayvec::ArrayVec;
@@ -29,6 +31,17 @@ pub struct Test {
     pub code: Code,
     pub operator: Operator,
     pub step: Option<u16>,
+}
+
+/// What fills the unused places of a list of tests.
+impl Default for Test {
+    fn default() -> Test {
+        Test {
+            code: Code::zero(),
+            operator: Operator::Gt,
+            step: None,
+        }
+    }
 }
 
 /// Whether a step runs after an ABEND. (COND parameter)
@@ -145,6 +158,13 @@ pub struct StepPlan {
 
 /// At most eight tests.
 pub type Tests = ArrayVec<Test, 8>;
+
+/// No test.
+pub fn no_tests() -> Tests
+    ensures { result.items ≡ [] }
+{
+    Tests::new()
+}
 
 /// A job. (JOB statement)
 #[derive(Debug, Drop)]

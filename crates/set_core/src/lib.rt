@@ -3,4 +3,6 @@
 
 pub mod records;
 #[cfg(test)]
+mod refused;
+#[cfg(test)]
 mod tests;

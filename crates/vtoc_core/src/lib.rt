@@ -6,6 +6,8 @@ mod contents;
 pub mod entry;
 pub mod fault;
 mod marks;
+#[cfg(test)]
+mod refused;
 mod space;
 #[cfg(test)]
 mod tests;

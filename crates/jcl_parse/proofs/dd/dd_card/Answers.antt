@@ -1,8 +1,8 @@
 use Rattle.std.proofs.Common.{ap, ◌∙◌}
-use Rattle.jcl_parse.specs.Faults.{told}
-use Rattle.jcl_parse.specs.Operands.{operand_of}
+use Rattle.operand_core.specs.Faults.{told}
+use Rattle.operand_core.specs.Operands.{operand_of}
 use Rattle.jcl_parse.specs.DdCards.{dd_name_faults, dd_operand_faults}
-use Rattle.jcl_parse.proofs.Faultless.{told_none_in_front}
+use Rattle.operand_core.proofs.Faultless.{told_none_in_front}
 use Rattle.jcl_parse.proofs.dd.dd_card.Goals as goal
 
 pub qualifier_of-requires : goal.qualifier_of-requires

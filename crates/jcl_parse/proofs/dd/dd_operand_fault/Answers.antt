@@ -1,13 +1,12 @@
 use Rattle.std.proofs.Common.{◌++◌, ap, ◌∙◌}
 use Rattle.std.specs.List.{flat_map}
 use Rattle.jcl_plan.specs.declared.fault.Cause.TheVariants.{P}
-use Rattle.jcl_parse.specs.Faults.{told, when}
-use Rattle.jcl_parse.specs.Operands.{Operand}
-use Rattle.jcl_parse.specs.Keywords.{twice_faults}
-use Rattle.jcl_parse.specs.ExecCards.{first_of}
+use Rattle.operand_core.specs.Faults.{told, when}
+use Rattle.operand_core.specs.Operands.{Operand, first_of}
+use Rattle.operand_core.specs.Keywords.{twice_faults}
 use Rattle.jcl_parse.specs.DdCards.{dd_keyword_faults, dd_operand_faults, dd_positional_faults, excludes, later_on_dd}
-use Rattle.jcl_parse.proofs.SameOperand.{operand_is}
-use Rattle.jcl_parse.proofs.Told.{told_joined}
+use Rattle.operand_core.proofs.SameOperand.{operand_is}
+use Rattle.operand_core.proofs.Told.{told_joined}
 use Rattle.jcl_parse.proofs.dd.dd_operand_fault.Goals as goal
 
 pub returns : goal.returns

@@ -1,8 +1,8 @@
 use Rattle.std.proofs.Common.{ap, ◌∙◌}
-use Rattle.jcl_parse.specs.Faults.{told}
-use Rattle.jcl_parse.specs.Operands.{operand_of}
+use Rattle.operand_core.specs.Faults.{told}
+use Rattle.operand_core.specs.Operands.{operand_of}
 use Rattle.jcl_parse.specs.DdCards.{dd_name_faults, dd_operand_faults}
-use Rattle.jcl_parse.proofs.Told.{told_joined}
+use Rattle.operand_core.proofs.Told.{told_joined}
 use Rattle.jcl_parse.proofs.dd.own_dd_fault.Goals as goal
 
 pub returns : goal.returns

@@ -1,7 +1,7 @@
 use Rattle.std.proofs.Common.{sym, ◌∙◌}
-use Rattle.jcl_parse.specs.Keywords.{is_long}
+use Rattle.operand_core.specs.Keywords.{is_long}
 use Rattle.jcl_parse.specs.DdCards.{dd_name_faults, own_dd_faults}
-use Rattle.jcl_parse.proofs.Faultless.{own_from_long}
+use Rattle.operand_core.proofs.Faultless.{own_from_long}
 use Rattle.jcl_parse.proofs.dd.read_dd.Goals as goal
 
 pub dd_card-requires : goal.dd_card-requires

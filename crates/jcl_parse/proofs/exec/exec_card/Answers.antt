@@ -1,5 +1,5 @@
 use Rattle.std.proofs.Common.{ap, ◌∙◌}
-use Rattle.jcl_parse.specs.Operands.{operand_of}
+use Rattle.operand_core.specs.Operands.{operand_of}
 use Rattle.jcl_parse.proofs.ExecNames.{can_run_statement}
 use Rattle.jcl_parse.proofs.exec.exec_card.Goals as goal
 

@@ -1,12 +1,12 @@
 use Rattle.std.proofs.Common.{◌++◌, ap, ◌∙◌}
 use Rattle.std.specs.List.{flat_map}
 use Rattle.jcl_plan.specs.declared.fault.Cause.TheVariants.{P}
-use Rattle.jcl_parse.specs.Faults.{told, when}
-use Rattle.jcl_parse.specs.Operands.{Operand}
-use Rattle.jcl_parse.specs.Keywords.{twice_faults}
-use Rattle.jcl_parse.specs.ExecCards.{calls, exec_keyword_faults, exec_operand_faults, first_of, later_on_exec, read_name_faults, runs_badly}
-use Rattle.jcl_parse.proofs.SameOperand.{operand_is}
-use Rattle.jcl_parse.proofs.Told.{told_joined}
+use Rattle.operand_core.specs.Faults.{read_name_faults, told, when}
+use Rattle.operand_core.specs.Operands.{Operand, first_of}
+use Rattle.operand_core.specs.Keywords.{twice_faults}
+use Rattle.jcl_parse.specs.ExecCards.{calls, exec_keyword_faults, exec_operand_faults, later_on_exec, runs_badly}
+use Rattle.operand_core.proofs.SameOperand.{operand_is}
+use Rattle.operand_core.proofs.Told.{told_joined}
 use Rattle.jcl_parse.proofs.exec.exec_operand_fault.Goals as goal
 
 pub returns : goal.returns

@@ -1,8 +1,8 @@
 use Rattle.std.proofs.Common.{ap, ◌∙◌}
-use Rattle.jcl_parse.specs.Faults.{told, written_name_faults}
-use Rattle.jcl_parse.specs.Operands.{operand_of}
+use Rattle.operand_core.specs.Faults.{told, written_name_faults}
+use Rattle.operand_core.specs.Operands.{operand_of}
 use Rattle.jcl_parse.specs.ExecCards.{exec_operand_faults}
-use Rattle.jcl_parse.proofs.Told.{told_joined}
+use Rattle.operand_core.proofs.Told.{told_joined}
 use Rattle.jcl_parse.proofs.exec.own_exec_fault.Goals as goal
 
 pub returns : goal.returns

@@ -1,6 +1,6 @@
 use Rattle.std.proofs.Common.{true, sym, ap, ◌∙◌}
 use Rattle.jcl_parse.specs.ExecCards.{exec_keyword, exec_keyword_faults}
-use Rattle.jcl_parse.proofs.Keys.{one_has_none}
+use Rattle.operand_core.proofs.Keys.{one_has_none}
 use Rattle.jcl_parse.proofs.ExecNames.{symbol_is}
 use Rattle.jcl_parse.proofs.exec.symbols_of.Goals as goal
 

@@ -1,10 +1,10 @@
 use Rattle.std.proofs.Common.{◌++◌, ap, ◌∙◌}
 use Rattle.std.specs.List.{flat_map}
 use Rattle.jcl_plan.specs.declared.fault.Cause.TheVariants.{P}
-use Rattle.jcl_parse.specs.Faults.{told, when}
-use Rattle.jcl_parse.specs.Keywords.{has_twice, twice_faults}
+use Rattle.operand_core.specs.Faults.{told, when}
+use Rattle.operand_core.specs.Keywords.{has_twice, twice_faults}
 use Rattle.jcl_parse.specs.JobCards.{job_keyword_faults, later_on_job}
-use Rattle.jcl_parse.proofs.Told.{told_joined}
+use Rattle.operand_core.proofs.Told.{told_joined}
 use Rattle.jcl_parse.proofs.job.job_operand_fault.Goals as goal
 
 pub returns : goal.returns

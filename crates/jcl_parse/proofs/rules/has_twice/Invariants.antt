@@ -1,5 +1,5 @@
 use Rattle.std.proofs.Common.{◌≡◌, drop}
-use Rattle.jcl_parse.specs.Keywords.{has_twice}
+use Rattle.operand_core.specs.Keywords.{has_twice}
 use Rattle.jcl_parse.specs.Reading.{is_later}
 use Rattle.jcl_parse.proofs.rules.has_twice.Given as goal
 

@@ -1,8 +1,8 @@
 use Rattle.std.proofs.Common.{sym, ap, ◌∙◌, take}
 use Rattle.std.specs.List.{flat_map}
-use Rattle.jcl_parse.specs.Faults.{earlier, told}
+use Rattle.operand_core.specs.Faults.{earlier, told}
 use Rattle.jcl_parse.specs.Reading.{keyword_faults}
-use Rattle.jcl_parse.proofs.Told.{told_flat_map_more}
+use Rattle.operand_core.proofs.Told.{told_flat_map_more}
 use Rattle.jcl_parse.proofs.rules.keywords_fault.Goals as goal
 
 pub loop-keyword-preserved : goal.loop-keyword-preserved

@@ -1,6 +1,6 @@
 use Rattle.std.proofs.Common.{◌≡◌, take}
 use Rattle.std.specs.List.{flat_map}
-use Rattle.jcl_parse.specs.Faults.{told}
+use Rattle.operand_core.specs.Faults.{told}
 use Rattle.jcl_parse.specs.Reading.{keyword_faults}
 use Rattle.jcl_parse.proofs.rules.keywords_fault.Given as goal
 

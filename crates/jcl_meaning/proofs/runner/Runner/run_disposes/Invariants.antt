@@ -1,7 +1,0 @@
-use Rattle.std.proofs.Common.{take}
-use Rattle.jcl_meaning.specs.Agendas.{disposes_from}
-use Rattle.jcl_meaning.specs.Runners.{Acts}
-use Rattle.jcl_meaning.proofs.runner.Runner.run_disposes.Given as goal
-
-abbrev pub invariant-loop-i : goal.invariant-loop-i
-invariant-loop-i l = Acts (disposes_from l.n 1 (take l.i l.dds)) l.fn.self l.self

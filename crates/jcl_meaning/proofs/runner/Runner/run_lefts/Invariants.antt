@@ -1,7 +1,0 @@
-use Rattle.std.proofs.Common.{take}
-use Rattle.jcl_meaning.specs.Agendas.{lefts_from}
-use Rattle.jcl_meaning.specs.Runners.{Acts}
-use Rattle.jcl_meaning.proofs.runner.Runner.run_lefts.Given as goal
-
-abbrev pub invariant-loop-i : goal.invariant-loop-i
-invariant-loop-i l = Acts (lefts_from 1 (take l.i l.steps)) l.fn.self l.self

@@ -1,7 +1,0 @@
-use Rattle.std.proofs.Common.{take}
-use Rattle.jcl_meaning.specs.Agendas.{moves_from}
-use Rattle.jcl_meaning.specs.Runners.{Acts}
-use Rattle.jcl_meaning.proofs.runner.Runner.run_moves.Given as goal
-
-abbrev pub invariant-loop-wants : goal.invariant-loop-wants
-invariant-loop-wants l = Acts (moves_from l.step (take l.wants-index l.moves)) l.fn.self l.self

@@ -1,7 +1,0 @@
-use Rattle.std.proofs.Common.{sym, ap}
-use Rattle.jname_core.proofs.Names.{name8_none}
-use Rattle.jcl_parse.specs.Faults.{told, as_cause}
-use Rattle.jcl_parse.proofs.fault.name_fault.Goals as goal
-
-pub returns-in-Ok : goal.returns-in-Ok
-returns-in-Ok c = sym (ap (λ fault. told (as_cause fault)) (name8_none c.args.text.now c.in-Ok.ensures.read.1))

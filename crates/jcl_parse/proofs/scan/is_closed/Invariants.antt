@@ -1,6 +1,0 @@
-use Rattle.std.proofs.Common.{◌≡◌, false, drop}
-use Rattle.jcl_parse.specs.Operands.{open_at_end}
-use Rattle.jcl_parse.proofs.scan.is_closed.Given as goal
-
-abbrev pub invariant-loop-c : goal.invariant-loop-c
-invariant-loop-c l = open_at_end false l.text ≡ open_at_end l.quoted (drop l.c-index l.text)

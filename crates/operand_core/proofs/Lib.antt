@@ -1,0 +1,5 @@
+pub mod Faultless
+pub mod Keys
+pub mod Places
+pub mod SameOperand
+pub mod Told

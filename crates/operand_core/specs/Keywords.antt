@@ -1,0 +1,40 @@
+-- The keywords of a statement.
+use Rattle.std.specs.Prelude.{ℕ, Bool, false, not, ◌&&◌, ◌||◌, nat_lt, List, [], ◌∷◌, length, Option, Some, None, if◌then◌else◌}
+use Rattle.std.specs.List.{list_any}
+use Rattle.std.specs.Str.{bytes_eq}
+use Rattle.jcl_plan.specs.declared.fault.Cause.{Cause}
+use Rattle.jcl_plan.specs.declared.fault.Cause.TheVariants.{P}
+use Rattle.operand_core.specs.Faults.{when}
+use Rattle.operand_core.specs.Operands.{Keyword}
+
+abbrev pub is_among : List (List ℕ) → List ℕ → Bool
+is_among words text = list_any (λ word. bytes_eq text word) words
+
+abbrev pub has_key : List ℕ → List Keyword → Bool
+has_key key keywords = list_any (λ keyword. bytes_eq keyword.key key) keywords
+
+-- the value of the first keyword with this key, where it is read
+abbrev pub value_of : List ℕ → List Keyword → Option (List ℕ)
+value_of key [] = None
+value_of key (keyword ∷ keywords) = if bytes_eq keyword.key key then keyword.value else value_of key keywords
+
+-- a keyword stands twice, those that are to come apart
+abbrev pub has_twice : (List ℕ → Bool) → List Keyword → Bool
+has_twice later [] = false
+has_twice later (keyword ∷ keywords) = (not (later keyword.key) && has_key keyword.key keywords) || has_twice later keywords
+
+abbrev pub twice_faults : (List ℕ → Bool) → List Keyword → List Cause
+twice_faults later keywords = when (has_twice later keywords) (P 5)
+
+-- a keyword that the statement does not take: one that is left out for good, or an unknown one
+abbrev pub unknown_faults : (List ℕ → Bool) → List ℕ → List Cause
+unknown_faults left_out key = if left_out key then P 19 ∷ [] else P 4 ∷ []
+
+-- a value that is read and of wrong form
+abbrev pub value_faults : (List ℕ → Bool) → Option (List ℕ) → List Cause
+value_faults is_good None = []
+value_faults is_good (Some value) = when (not (is_good value)) (P 6)
+
+-- an operand of over 1,024 characters is not read
+abbrev pub is_long : List ℕ → Bool
+is_long operand = nat_lt 1024 (length operand)

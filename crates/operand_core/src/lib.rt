@@ -1,0 +1,13 @@
+//! The operand of a statement: its parts, its keywords and their values, and the fault that is told of it. (GC28-6704: positional and keyword parameters)
+#![tactic(auto)]
+
+pub mod fault;
+pub mod keyword;
+pub mod operand;
+pub mod parts;
+pub mod qualified;
+pub mod scan;
+pub mod subparameter;
+#[cfg(test)]
+mod tests;
+pub mod value;

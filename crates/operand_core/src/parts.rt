@@ -1,0 +1,107 @@
+//! The parts of an operand.
+ghost use Rattle.std.specs.Prelude.{◌≡◌, ◌∷◌, [], take_while, ◌<◌, ◌≤◌, ◌||◌, ◌==◌, length, Some, None, IfOk, IfSome, IfNone, MatchOption};
+ghost use Rattle.std.specs.Option.{option_copied};
+ghost use Rattle.operand_core.specs.Operands.{places_of, parts_of, keyword_of, is_key_character, is_positional};
+
+use crate::scan::{depth_after, ends_part, quoted_after};
+use jname_core::name8::is_name_character;
+use std::alloc::{AllocError, Global};
+use std::marker::Model;
+
+/// A part of an operand that a clause sees as its bytes.
+#[derive(Drop)]
+pub struct Part<'a> {
+    text: &'a [u8],
+}
+
+impl<'a> Model for Part<'a> {
+    ghost use Rattle.std.specs.Prelude.{ℕ, List};
+
+    ghost Value = { List ℕ };
+
+    ghost view = { λ p. p.text.now };
+}
+
+impl<'a> Part<'a> {
+    /// Its characters.
+    pub fn text(&self) -> &'a [u8]
+        ensures { result.now ≡ self.now }
+    {
+        self.text
+    }
+
+    /// Whether it begins with no keyword.
+    pub fn is_positional(&self) -> bool
+        ensures { result ≡ is_positional self.now }
+    {
+        keyword_of(self.text).is_none()
+    }
+}
+
+/// The first of several parts, and what stands behind its comma.
+pub fn first_part(text: &[u8]) -> Option<(&[u8], &[u8])>
+    ensures some { IfSome result (λ r. places_of text.now ≡ r.0.now ∷ places_of r.1.now) }
+    ensures shorter { IfSome result (λ r. length r.1.now < length text.now) }
+    ensures none { IfNone result (places_of text.now ≡ text.now ∷ []) }
+{
+    let mut quoted = false;
+    let mut depth = 0;
+    for (at, c) in text.iter().enumerate() {
+        if ends_part(quoted, depth, *c) {
+            let (part, _) = text.split_at(at);
+            let (_, behind) = text.split_at(at + 1);
+            return Some((part, behind));
+        }
+        depth = depth_after(quoted, depth, *c);
+        quoted = quoted_after(quoted, *c);
+    }
+    None
+}
+
+/// The places between commas, of which an empty text has one.
+pub fn places_of<'a>(alloc: Global, text: &'a [u8]) -> Result<Vec<Part<'a>>, AllocError>
+    ensures { IfOk result (λ v. v.items ≡ places_of text.now) }
+{
+    let mut parts = Vec::new(alloc);
+    let mut rest = text;
+    while let Some((part, behind)) = first_part(rest) {
+        parts.push(Part { text: part })?;
+        rest = behind;
+    }
+    parts.push(Part { text: rest })?;
+    Ok(parts)
+}
+
+/// The parts of an operand, of which an empty one has none.
+pub fn parts_of<'a>(alloc: Global, operand: &'a [u8]) -> Result<Vec<Part<'a>>, AllocError>
+    ensures { IfOk result (λ v. v.items ≡ parts_of operand.now) }
+{
+    if operand.is_empty() {
+        return Ok(Vec::new(alloc));
+    }
+    places_of(alloc, operand)
+}
+
+fn is_key_character(c: u8) -> bool
+    ensures { result ≡ is_key_character c }
+{
+    is_name_character(c) || c == b'.'
+}
+
+fn key_len(part: &[u8]) -> usize
+    ensures count { result ≡ length (take_while is_key_character part.now) }
+    ensures bound { result ≤ length part.now }
+{
+    part.iter().take_while(|c| is_key_character(**c)).count()
+}
+
+/// A keyword and what stands behind its `=`.
+pub fn keyword_of(part: &[u8]) -> Option<(&[u8], &[u8])>
+    ensures { MatchOption result (keyword_of part.now ≡ None) (λ r. keyword_of part.now ≡ Some (r.0.now, r.1.now)) }
+{
+    let (key, behind) = part.split_at(key_len(part));
+    match behind.split_first() {
+        Some((b'=', value)) if !key.is_empty() => Some((key, value)),
+        _ => None,
+    }
+}

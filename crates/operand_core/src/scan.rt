@@ -1,0 +1,74 @@
+//! An operand's characters: apostrophes, parentheses and commas.
+ghost use Rattle.std.specs.Prelude.{◌≡◌, ◌≤◌, ◌<◌, length, false};
+ghost use Rattle.card_core.specs.Fields.{quoted_after};
+ghost use Rattle.operand_core.specs.Operands.{depth_after, ends_part, closes_nothing, is_balanced, is_closed, is_read};
+
+/// Whether an apostrophe is open behind a character.
+pub fn quoted_after(quoted: bool, c: u8) -> bool
+    ensures { result ≡ quoted_after quoted c }
+{
+    if c == b'\'' { !quoted } else { quoted }
+}
+
+/// How many parentheses are open behind a character, where so many were open before it.
+pub fn depth_after(quoted: bool, depth: usize, c: u8) -> usize
+    requires { depth < 18446744073709551615 }
+    ensures value { result ≡ depth_after quoted depth c }
+{
+    if quoted {
+        depth
+    } else {
+        match c {
+            b'(' => depth + 1,
+            b')' => depth.saturating_sub(1),
+            _ => depth,
+        }
+    }
+}
+
+/// Whether a character is a comma outside apostrophes and parentheses.
+pub fn ends_part(quoted: bool, depth: usize, c: u8) -> bool
+    ensures { result ≡ ends_part quoted depth c }
+{
+    !quoted && depth == 0 && c == b','
+}
+
+fn closes_nothing(quoted: bool, depth: usize, c: u8) -> bool
+    ensures { result ≡ closes_nothing quoted depth c }
+{
+    !quoted && depth == 0 && c == b')'
+}
+
+/// Whether each parenthesis outside apostrophes has its other.
+pub fn is_balanced(text: &[u8]) -> bool
+    ensures { result ≡ is_balanced text.now }
+{
+    let mut quoted = false;
+    let mut depth = 0;
+    for c in text {
+        if closes_nothing(quoted, depth, *c) {
+            return false;
+        }
+        depth = depth_after(quoted, depth, *c);
+        quoted = quoted_after(quoted, *c);
+    }
+    depth == 0
+}
+
+/// Whether the apostrophes close.
+pub fn is_closed(text: &[u8]) -> bool
+    ensures { result ≡ is_closed text.now }
+{
+    let mut open = false;
+    for c in text {
+        open = quoted_after(open, *c);
+    }
+    !open
+}
+
+/// Whether a part's parentheses balance and its apostrophes close.
+pub fn is_read(part: &[u8]) -> bool
+    ensures { result ≡ is_read part.now }
+{
+    is_balanced(part) && is_closed(part)
+}

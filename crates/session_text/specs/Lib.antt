@@ -1,0 +1,5 @@
+pub mod Numbers
+pub mod Lines
+pub mod Fields
+pub mod Rows
+pub mod Statements

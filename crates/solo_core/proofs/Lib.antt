@@ -1,0 +1,5 @@
+mod Backs
+mod Moves
+mod Passes
+mod Runs
+mod Starts

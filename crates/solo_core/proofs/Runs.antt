@@ -1,0 +1,141 @@
+-- Actions carried out one after another.
+use Rattle.std.proofs.Common.{◌≡◌, ◌+◌, ◌<◌, ◌==◌, ◌&&◌, ◌++◌, ◌∷◌, ℕ, suc, Bool, true, false, List, [], Option, Some, None, length, map, take, get_or, refl, sym, ap, ◌∙◌, subst, append_assoc, arith}
+use Rattle.std.proofs.Math.Dec.{eqb-suc-zero}
+use Rattle.std.proofs.lemmas.List.{append-nil, length-map, length-take-le, take_more}
+use Rattle.jcl_plan.specs.declared.fault.Fault.{Fault}
+use Rattle.jcl_plan.specs.declared.plan.DdPlan.{DdPlan}
+use Rattle.jcl_plan.specs.declared.plan.StepPlan.{StepPlan}
+use Rattle.jcl_meaning.specs.declared.program.Move.{Move}
+use Rattle.solo_core.specs.declared.runner.Runner.{Runner}
+use Rattle.jcl_meaning.specs.Acts.{act}
+use Rattle.jcl_meaning.specs.Agendas.{Action, Take, Ask, Receive, Dispose, Left, disposes_from, left_by, lefts_from, lefts_in, moves_from, step_actions, steps_from, takes_from}
+use Rattle.jcl_meaning.specs.Plans.{passes}
+use Rattle.solo_core.specs.Runners.{Acts, Does, fixed_by, state_by}
+use Rattle.jcl_meaning.specs.Solo.{Met, Ran, is_clean, later, met_first, run}
+use Rattle.jcl_meaning.specs.States.{Fixed, State, no_fault}
+
+-- no action
+pub acts_none : (a : Runner) → Acts [] a a
+unfolding run
+acts_none a = record { state = refl; lines = sym (append-nil a.lines); clean = still a.clean; fixed = refl; volumes = refl }
+  where
+    still : (b : Bool) → b ≡ (b && true)
+    still true = refl
+    still false = refl
+
+clean_one : (m : Option Fault) → (length (met_first m []) == 0) ≡ no_fault m
+clean_one None = refl
+clean_one (Some f) = refl
+
+-- one action
+pub acts_one : (x : Action) (a b : Runner) → Does (act (fixed_by a) x (state_by a)) a b → Acts (x ∷ []) a b
+unfolding run
+acts_one x a b h = record {
+  state = h.state;
+  lines = h.lines ∙ ap (λ l. a.lines ++ l) (sym (append-nil (act (fixed_by a) x (state_by a)).lines));
+  clean = h.clean ∙ ap (λ c. a.clean && c) (sym (clean_one (act (fixed_by a) x (state_by a)).meets));
+  fixed = h.fixed;
+  volumes = h.volumes;
+}
+
+-- a run of more actions
+pub run_state-append : (f : Fixed) (xs ys : List Action) (s : State) → (run f (xs ++ ys) s).state ≡ (run f ys (run f xs s).state).state
+unfolding run
+run_state-append f [] ys s = refl
+run_state-append f (x ∷ xs) ys s = run_state-append f xs ys (act f x s).state
+
+pub run_lines-append : (f : Fixed) (xs ys : List Action) (s : State) → (run f (xs ++ ys) s).lines ≡ (run f xs s).lines ++ (run f ys (run f xs s).state).lines
+unfolding run
+run_lines-append f [] ys s = refl
+run_lines-append f (x ∷ xs) ys s =
+    ap (λ l. (act f x s).lines ++ l) (run_lines-append f xs ys (act f x s).state)
+    ∙ sym (append_assoc (act f x s).lines (run f xs (act f x s).state).lines (run f ys (run f xs (act f x s).state).state).lines)
+
+clean_step : (m : Option Fault) (more : List Met) → (length (met_first m (map later more)) == 0) ≡ (no_fault m && (length more == 0))
+clean_step None more = ap (λ n. n == 0) (length-map more later)
+clean_step (Some f) more = eqb-suc-zero (length (map later more))
+
+and_assoc : (a b c : Bool) → (a && (b && c)) ≡ ((a && b) && c)
+and_assoc true b c = refl
+and_assoc false b c = refl
+
+pub run_clean-append : (f : Fixed) (xs ys : List Action) (s : State) → is_clean (run f (xs ++ ys) s) ≡ (is_clean (run f xs s) && is_clean (run f ys (run f xs s).state))
+unfolding run
+run_clean-append f [] ys s = refl
+run_clean-append f (x ∷ xs) ys s =
+    clean_step (act f x s).meets (run f (xs ++ ys) (act f x s).state).faults
+    ∙ ap (λ c. no_fault (act f x s).meets && c) (run_clean-append f xs ys (act f x s).state)
+    ∙ and_assoc (no_fault (act f x s).meets) (is_clean (run f xs (act f x s).state)) (is_clean (run f ys (run f xs (act f x s).state).state))
+    ∙ ap (λ c. c && is_clean (run f ys (run f xs (act f x s).state).state)) (sym (clean_step (act f x s).meets (run f xs (act f x s).state).faults))
+
+-- these actions, and then those
+pub acts_more : (xs ys : List Action) (a b c : Runner) → Acts xs a b → Acts ys b c → Acts (xs ++ ys) a c
+acts_more xs ys a b c p q =
+    let f : Fixed = fixed_by a in
+    let s : State = state_by a in
+    let moved : run (fixed_by b) ys (state_by b) ≡ run f ys (run f xs s).state = λ i. run (p.fixed i) ys (p.state i) in
+    record {
+      state = q.state ∙ ap (λ (r : Ran). r.state) moved ∙ sym (run_state-append f xs ys s);
+      lines = q.lines ∙ (λ i. p.lines i ++ (moved i).lines)
+          ∙ append_assoc a.lines (run f xs s).lines (run f ys (run f xs s).state).lines ∙ ap (λ l. a.lines ++ l) (sym (run_lines-append f xs ys s));
+      clean = q.clean ∙ (λ i. p.clean i && is_clean (moved i))
+          ∙ sym (and_assoc a.clean (is_clean (run f xs s)) (is_clean (run f ys (run f xs s).state))) ∙ ap (λ x. a.clean && x) (sym (run_clean-append f xs ys s));
+      fixed = q.fixed ∙ p.fixed;
+      volumes = q.volumes ∙ p.volumes;
+    }
+
+-- one DD more
+pub takes-snoc : (n k : ℕ) (xs : List DdPlan) (d : DdPlan) → takes_from n k (xs ++ d ∷ []) ≡ takes_from n k xs ++ Take n (k + length xs) d ∷ []
+takes-snoc n k [] d = ap (λ m. Take n m d ∷ []) (let e : k ≡ k + 0 = omega arith in e)
+takes-snoc n k (x ∷ xs) d = ap (λ l. Take n k x ∷ l) (takes-snoc n (k + 1) xs d
+    ∙ ap (λ m. takes_from n (k + 1) xs ++ Take n m d ∷ []) (let e : k + 1 + length xs ≡ k + suc (length xs) = omega arith in e))
+
+pub disposes-snoc : (n k : ℕ) (xs : List DdPlan) (d : DdPlan) → disposes_from n k (xs ++ d ∷ []) ≡ disposes_from n k xs ++ Dispose n (k + length xs) d ∷ []
+disposes-snoc n k [] d = ap (λ m. Dispose n m d ∷ []) (let e : k ≡ k + 0 = omega arith in e)
+disposes-snoc n k (x ∷ xs) d = ap (λ l. Dispose n k x ∷ l) (disposes-snoc n (k + 1) xs d
+    ∙ ap (λ m. disposes_from n (k + 1) xs ++ Dispose n m d ∷ []) (let e : k + 1 + length xs ≡ k + suc (length xs) = omega arith in e))
+
+pub moves-snoc : (step : StepPlan) (xs : List Move) (m : Move) → moves_from step (xs ++ m ∷ []) ≡ moves_from step xs ++ Ask step m ∷ Receive ∷ []
+moves-snoc step [] m = refl
+moves-snoc step (x ∷ xs) m = ap (λ l. Ask step x ∷ Receive ∷ l) (moves-snoc step xs m)
+
+pub lefts_in-snoc : (n k : ℕ) (xs : List DdPlan) (d : DdPlan) → lefts_in n k (xs ++ d ∷ []) ≡ lefts_in n k xs ++ left_by n (k + length xs) d
+lefts_in-snoc n k [] d = append-nil (left_by n k d) ∙ ap (λ m. left_by n m d) (let e : k ≡ k + 0 = omega arith in e)
+lefts_in-snoc n k (x ∷ xs) d = ap (λ l. left_by n k x ++ l) (lefts_in-snoc n (k + 1) xs d)
+    ∙ sym (append_assoc (left_by n k x) (lefts_in n (k + 1) xs) (left_by n (k + 1 + length xs) d))
+    ∙ ap (λ m. (left_by n k x ++ lefts_in n (k + 1) xs) ++ left_by n m d) (let e : k + 1 + length xs ≡ k + suc (length xs) = omega arith in e)
+
+pub lefts_from-snoc : (n : ℕ) (xs : List StepPlan) (step : StepPlan) → lefts_from n (xs ++ step ∷ []) ≡ lefts_from n xs ++ lefts_in (n + length xs) 1 step.dds
+lefts_from-snoc n [] step = append-nil (lefts_in n 1 step.dds) ∙ ap (λ m. lefts_in m 1 step.dds) (let e : n ≡ n + 0 = omega arith in e)
+lefts_from-snoc n (x ∷ xs) step = ap (λ l. lefts_in n 1 x.dds ++ l) (lefts_from-snoc (n + 1) xs step)
+    ∙ sym (append_assoc (lefts_in n 1 x.dds) (lefts_from (n + 1) xs) (lefts_in (n + 1 + length xs) 1 step.dds))
+    ∙ ap (λ m. (lefts_in n 1 x.dds ++ lefts_from (n + 1) xs) ++ lefts_in m 1 step.dds) (let e : n + 1 + length xs ≡ n + suc (length xs) = omega arith in e)
+
+pub steps_from-snoc : (moves : List ℕ → List Move) (n : ℕ) (xs : List StepPlan) (step : StepPlan) →
+    steps_from moves n (xs ++ step ∷ []) ≡ steps_from moves n xs ++ step_actions (n + length xs) step (moves step.program)
+steps_from-snoc moves n [] step = append-nil (step_actions n step (moves step.program)) ∙ ap (λ m. step_actions m step (moves step.program)) (let e : n ≡ n + 0 = omega arith in e)
+steps_from-snoc moves n (x ∷ xs) step = ap (λ l. step_actions n x (moves x.program) ++ l) (steps_from-snoc moves (n + 1) xs step)
+    ∙ sym (append_assoc (step_actions n x (moves x.program)) (steps_from moves (n + 1) xs) (step_actions (n + 1 + length xs) step (moves step.program)))
+    ∙ ap (λ m. (step_actions n x (moves x.program) ++ steps_from moves (n + 1) xs) ++ step_actions m step (moves step.program)) (let e : n + 1 + length xs ≡ n + suc (length xs) = omega arith in e)
+
+-- the front of a list, one element longer
+pub front_more : {X : Type 0} (xs : List X) (i : ℕ) (x : X) → i < length xs → x ≡ get_or xs i x → take (i + 1) xs ≡ take i xs ++ x ∷ []
+front_more xs i x h e = take_more xs i x h ∙ ap (λ y. take i xs ++ y ∷ []) (sym e)
+
+pub acts_joined : (zs xs ys : List Action) (a b c : Runner) → zs ≡ xs ++ ys → Acts xs a b → Acts ys b c → Acts zs a c
+acts_joined zs xs ys a b c e p q = subst (λ (l : List Action). Acts l a c) (sym e) (acts_more xs ys a b c p q)
+
+-- a DD that passes has one action at the end, and another none
+pub left_none : (n dd : ℕ) (d : DdPlan) → passes d.kind ≡ false → left_by n dd d ≡ []
+left_none n dd d h = rw h refl
+
+pub left_some : (n dd : ℕ) (d : DdPlan) → passes d.kind ≡ true → left_by n dd d ≡ Left n dd d ∷ []
+left_some n dd d h = rw h refl
+
+-- a front's length, counted from 1
+pub front_number : {X : Type 0} (xs : List X) (i : ℕ) → i < length xs → 1 + length (take i xs) ≡ i + 1
+front_number xs i h = let e : length (take i xs) ≡ i = length-take-le i xs (omega arith) in omega (arith, e)
+
+-- the length of a front
+pub front_length : {X : Type 0} (xs : List X) (i : ℕ) → i < length xs → length (take i xs) ≡ i
+front_length xs i h = length-take-le i xs (omega arith)

@@ -1,0 +1,7 @@
+use Rattle.std.proofs.Common.{take}
+use Rattle.jcl_meaning.specs.Agendas.{lefts_in}
+use Rattle.solo_core.specs.Runners.{Acts}
+use Rattle.solo_core.proofs.runner.Runner.run_lefts_in.Given as goal
+
+abbrev pub invariant-loop-i : goal.invariant-loop-i
+invariant-loop-i l = Acts (lefts_in l.n 1 (take l.i l.dds)) l.fn.self l.self

@@ -1,0 +1,24 @@
+-- The runner starts fresh, and what it did is the run of the agenda.
+use Rattle.std.proofs.Common.{true, [], refl, ap}
+use Rattle.jcl_meaning.specs.declared.store.SoloStore.{SoloStore}
+use Rattle.jcl_meaning.specs.Solo.{place_of}
+use Rattle.jcl_meaning.specs.Stores.{resolution_of, store_of}
+use Rattle.solo_core.proofs.Starts.{is_run_of}
+use Rattle.solo_core.proofs.solo_path.Goals as goal
+
+pub returns : goal.returns
+returns c = is_run_of _ _ _ c.args.store.now _ c.run_agenda.new.self
+    c.empty.ensures refl (ap (λ (s : SoloStore). s.volumes) c.in_ok-copy_of.ensures)
+    (λ i. record {
+      job_tests = c.as_slice.ensures.value i;
+      volumes = c.args.store.now.volumes;
+      place = λ step dd. place_of c.args.places.now step dd;
+      resolve = λ key. resolution_of (store_of c.args.store.now) key;
+      date = c.args.date;
+    })
+    (λ i. record {
+      store = store_of (c.in_ok-copy_of.ensures i);
+      own = c.nothing_own.ensures i;
+      answers = record { outcomes = c.args.outcomes.now; cancels = []; grants = []; primary = true };
+    })
+    c.in_ok-run_agenda.ensures

@@ -1,0 +1,7 @@
+mod bench;
+mod ends;
+mod faults;
+mod requests;
+mod sets;
+mod steps;
+mod words;

@@ -1,0 +1,4 @@
+//! What the writers have to write: the listings of jobs that are over, and their SYSOUT sets.
+#![tactic(auto)]
+
+pub mod spool;
