@@ -14,3 +14,4 @@ pub mod States
 pub mod Stores
 pub mod TakeActs
 pub mod Takes
+pub mod Views

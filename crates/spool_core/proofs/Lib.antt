@@ -1,1 +1,3 @@
+mod Keeping
+mod Entering
 mod Taking

@@ -1,37 +1,48 @@
 -- The first line of a set is taken.
-use Rattle.std.proofs.Common.{◌≡◌, ℕ, zero, suc, Bool, true, false, cond, not, List, [], ◌∷◌, ◌++◌, Option, None, Some, All, length, filter, take, drop, refl, sym, ap, ◌∙◌, subst}
-use Rattle.std.specs.Prelude.{get_or, slice_get}
+use Rattle.std.proofs.Common.{◌≡◌, ◌≢◌, ℕ, suc, ◌<◌, Bool, true, false, not, List, [], ◌∷◌, ◌++◌, None, Some, All, length, get_or, take, drop, refl, sym, ap, ◌∙◌, subst, unwrap_or, is_some}
+use Rattle.std.specs.Prelude.{slice_get}
+use Rattle.std.specs.Option.{option_map}
 use Rattle.std.proofs.Math.Dec.{eqb-suc-zero}
-use Rattle.std.specs.List.{insert, remove}
-use Rattle.std.proofs.lemmas.List.Elements.{All-append, All-cons, All-nil, All-tail, All-take}
-use Rattle.std.proofs.lemmas.Option.{get_or_from_slice_get}
+use Rattle.std.specs.List.{remove}
+use Rattle.std.proofs.lemmas.List.{take-map}
+use Rattle.std.proofs.lemmas.List.Elements.{All-map, All-same, All-take}
+use Rattle.std.proofs.lemmas.Option.{get_or_from_slice_get, slice_get-map, slice_get_within}
+use Rattle.slab.proofs.SlabLemmas.{Updates-with_value}
+use Rattle.slab.specs.Slab.{Slab, Updates, get, with_value}
 use Rattle.jcl_plan.specs.declared.entry.Written.{Written}
 use Rattle.machine_meaning.specs.declared.machine.SpoolSet.{SpoolSet}
-use Rattle.machine_meaning.specs.Spools.{Takes, has_lines, left_of}
-use Rattle.spool_core.specs.Places.{IsPlace}
+use Rattle.machine_meaning.specs.Spools.{HasNoSet, Takes, has_lines, left_of}
+use Rattle.spool_core.specs.declared.spool.Place.{Place}
+use Rattle.spool_core.specs.Places.{HasSet, IsFirst, Stand, no_set, set_under, sets_at}
+use Rattle.spool_core.proofs.Keeping.{SameBut, sets_with, sets_without, split_at, stand_without}
 
-split_at : {X : Type 0} (xs : List X) (i : ℕ) (x : X) → slice_get xs i ≡ Some x → xs ≡ take i xs ++ x ∷ drop (suc i) xs
-split_at [] i x e = absurd (subst is_some (sym e) tt)
-  where
-    is_some : {Y : Type 0} → Option Y → Type 0
-    is_some None = ⊥
-    is_some (Some y) = Unit {0}
-split_at (y ∷ xs) zero x e = ap (λ z. z ∷ xs) (ap (or_some y) e)
-  where
-    or_some : {Y : Type 0} → Y → Option Y → Y
-    or_some z None = z
-    or_some z (Some y) = y
-split_at (y ∷ xs) (suc i) x e = ap (λ l. y ∷ l) (split_at xs i x e)
+pub no_set_of : (sets : Slab SpoolSet) (places : List Place) (class : ℕ) → All (HasSet sets) places → All (λ (p : Place). p.class ≢ class) places → HasNoSet (sets_at sets places) class
+no_set_of sets places class filled none =
+    All-map (λ (set : SpoolSet). set.class ≢ class) (λ (p : Place). set_under sets p.key) places
+    (λ k d within e. none k d within (sym (filled k d within).of_class ∙ e))
 
--- a set that is taken out and put back
-pub put_back : {X : Type 0} (xs : List X) (i : ℕ) (x y : X) → slice_get xs i ≡ Some x → insert (remove xs i) i y ≡ take i xs ++ y ∷ drop (suc i) xs
-put_back [] i x y e = absurd (subst is_some (sym e) tt)
-  where
-    is_some : {Y : Type 0} → Option Y → Type 0
-    is_some None = ⊥
-    is_some (Some y) = Unit {0}
-put_back (z ∷ xs) zero x y e = refl
-put_back (z ∷ xs) (suc i) x y e = ap (λ l. z ∷ l) (put_back xs i x y e)
+-- the first place of a class, as it is read
+pub record IsRead (sets : Slab SpoolSet) (places : List Place) (class index : ℕ) (place : Place) : Type 0 where
+  pub within : index < length places
+  pub at : slice_get places index ≡ Some place
+  pub of_class : (set_under sets place.key).class ≡ class
+  pub place_class : (set_under sets place.key).class ≡ place.class
+  pub with_lines : has_lines (set_under sets place.key) ≡ true
+  pub none_before : All (λ (p : Place). p.class ≢ class) (take index places)
+
+pub read : (sets : Slab SpoolSet) (places : List Place) (class index : ℕ) (place : Place) → Stand sets places → IsFirst places class index → place ≡ get_or places index place → IsRead sets places class index place
+read sets places class index place stand first is =
+    let within = slice_get_within places index first.place first.at in
+    let same : first.place ≡ place = sym (is ∙ get_or_from_slice_get places index first.place place first.at) in
+    let has = subst (HasSet sets) (sym is) (stand.filled index place within) in
+    record {
+      within = within;
+      at = first.at ∙ ap Some same;
+      of_class = has.of_class ∙ ap (λ (p : Place). p.class) (sym same) ∙ first.of_class;
+      place_class = has.of_class;
+      with_lines = has.with_lines;
+      none_before = first.none_before;
+    }
 
 left_some : (set rest : SpoolSet) → rest ≡ record set { lines = rest.lines } → has_lines rest ≡ true → left_of set rest.lines ≡ rest ∷ []
 left_some set rest e h = by_lines rest.lines refl
@@ -55,65 +66,64 @@ left_none set rest h = by_lines rest.lines refl
     by_lines [] l = ap (left_of set) l
     by_lines (x ∷ lines) l = absurd (subst if_true (sym (ap not (eqb-suc-zero (length lines))) ∙ ap (λ ls. has_lines (record rest { lines = ls })) (sym l) ∙ h) tt)
 
-taken_with : (sets left : List SpoolSet) (class place job : ℕ) (set rest : SpoolSet) (line : Written) (p : IsPlace sets class place) → slice_get sets place ≡ Some set →
-    set.lines ≡ line ∷ rest.lines → job ≡ set.job → left ≡ take place sets ++ (left_of set rest.lines ++ drop (suc place) sets) → Takes sets class job line left
-taken_with sets left class place job set rest line p at lines of_job is = record {
-  before = take place sets;
-  set = set;
-  after = drop (suc place) sets;
-  lines = rest.lines;
-  stands = split_at sets place set at;
-  none_before = p.none_before;
-  of_class = ap (λ (s : SpoolSet). s.class) (same set p.set (sym at ∙ p.at)) ∙ p.of_class;
-  of_job = sym of_job;
-  is_first = lines;
-  is_left = is;
-}
-  where
-    or_some : SpoolSet → Option SpoolSet → SpoolSet
-    or_some z None = z
-    or_some z (Some y) = y
+-- a line is taken from the set at the first place of a class
+pub record Pops (sets : Slab SpoolSet) (places : List Place) (class index : ℕ) (place : Place) (set rest : SpoolSet) (job : ℕ) (line : Written) : Type 0 where
+  pub stand : Stand sets places
+  pub there : IsRead sets places class index place
+  pub set_is : Some set ≡ get sets place.key
+  pub is_first : set.lines ≡ line ∷ rest.lines
+  pub of_job : job ≡ set.job
+  pub rest_is : rest ≡ record set { lines = rest.lines }
 
-    same : (x y : SpoolSet) → Some x ≡ Some y → x ≡ y
-    same x y e = ap (or_some x) e
+pub pops : {sets : Slab SpoolSet} {places : List Place} {class index : ℕ} {place : Place} {set rest : SpoolSet} {job : ℕ} {line : Written} → Stand sets places → IsFirst places class index → place ≡ get_or places index place → Some set ≡ get sets place.key →
+    (set.lines ≡ line ∷ rest.lines) × (job ≡ set.job) × (rest ≡ record set { lines = rest.lines }) → Pops sets places class index place set rest job line
+pops {sets = sets} {places = places} {class = class} {index = index} {place = place} stand first is set_is took =
+    record { stand = stand; there = read sets places class index place stand first is; set_is = set_is; is_first = took.0; of_job = took.1; rest_is = took.2 }
 
--- lines are left in the set
-pub taken_first : (sets : List SpoolSet) (class place job : ℕ) (set rest : SpoolSet) (line : Written) → IsPlace sets class place → slice_get sets place ≡ Some set →
-    set.lines ≡ line ∷ rest.lines → job ≡ set.job → rest ≡ record set { lines = rest.lines } → has_lines rest ≡ true → Takes sets class job line (insert (remove sets place) place rest)
-taken_first sets class place job set rest line p at lines of_job is some =
-    taken_with sets (insert (remove sets place) place rest) class place job set rest line p at lines of_job
-    (put_back sets place set rest at ∙ ap (λ l. take place sets ++ (l ++ drop (suc place) sets)) (sym (left_some set rest is some)))
+module _ {sets : Slab SpoolSet} {places : List Place} {class index : ℕ} {place : Place} {set rest : SpoolSet} {job : ℕ} {line : Written} (p : Pops sets places class index place set rest job line) where
+  under : set_under sets place.key ≡ set
+  under = ap (λ o. unwrap_or o no_set) (sym p.set_is)
 
--- it was the last
-pub taken_last : (sets : List SpoolSet) (class place job : ℕ) (set rest : SpoolSet) (line : Written) → IsPlace sets class place → slice_get sets place ≡ Some set →
-    set.lines ≡ line ∷ rest.lines → job ≡ set.job → has_lines rest ≡ false → Takes sets class job line (remove sets place)
-taken_last sets class place job set rest line p at lines of_job none =
-    taken_with sets (remove sets place) class place job set rest line p at lines of_job
-    (ap (λ l. take place sets ++ (l ++ drop (suc place) sets)) (sym (left_none set rest none)))
+  written : Updates sets (with_value sets place.key rest) place.key (Some rest)
+  written = Updates-with_value sets place.key rest (ap is_some (sym p.set_is))
 
--- the set that is taken out
-pub set_out : (sets : List SpoolSet) (class place : ℕ) (set : SpoolSet) → IsPlace sets class place → set ≡ get_or sets place set → slice_get sets place ≡ Some set
-set_out sets class place set p is = p.at ∙ ap Some (sym (is ∙ get_or_from_slice_get sets place p.set set p.at))
+  now_rest : set_under (with_value sets place.key rest) place.key ≡ rest
+  now_rest = ap (λ o. unwrap_or o no_set) written.changed
 
--- every set has lines
-all_drop : (P : SpoolSet → Type 0) (n : ℕ) (sets : List SpoolSet) → All P sets → All P (drop n sets)
-all_drop P zero sets all = all
-all_drop P (suc n) [] all = all
-all_drop P (suc n) (set ∷ sets) all = all_drop P n sets (All-tail P set sets all)
+  taken : (left : List SpoolSet) → left ≡ take index (sets_at sets places) ++ (left_of set rest.lines ++ drop (suc index) (sets_at sets places)) → Takes (sets_at sets places) class job line left
+  taken left is = record {
+    before = take index (sets_at sets places);
+    set = set;
+    after = drop (suc index) (sets_at sets places);
+    lines = rest.lines;
+    stands = split_at (sets_at sets places) index set (slice_get-map (λ (q : Place). set_under sets q.key) places index ∙ ap (option_map (λ (q : Place). set_under sets q.key)) p.there.at ∙ ap Some under);
+    none_before = All-same (λ (s : SpoolSet). s.class ≢ class) (take index (sets_at sets places)) (sets_at sets (take index places)) (take-map (λ (q : Place). set_under sets q.key) index places)
+        (no_set_of sets (take index places) class (All-take (HasSet sets) index places p.stand.filled) p.there.none_before);
+    of_class = ap (λ (s : SpoolSet). s.class) (sym under) ∙ p.there.of_class;
+    of_job = sym p.of_job;
+    is_first = p.is_first;
+    is_left = is;
+  }
 
-pub all_put_back : (P : SpoolSet → Type 0) (sets : List SpoolSet) (place : ℕ) (set : SpoolSet) → All P sets → P set → All P (insert (remove sets place) place set)
-all_put_back P sets place set all p =
-    let out = All-append P (take place sets) (drop (suc place) sets) (All-take P place sets all) (all_drop P (suc place) sets all) in
-    All-append P (take place (remove sets place)) (set ∷ drop place (remove sets place)) (All-take P place (remove sets place) out)
-    (All-cons P set (drop place (remove sets place)) p (all_drop P place (remove sets place) out))
+  -- lines are left in the set
+  pub taken_first : has_lines rest ≡ true → Takes (sets_at sets places) class job line (sets_at (with_value sets place.key rest) places)
+  taken_first some =
+      let front = take index (sets_at sets places) in
+      let behind = drop (suc index) (sets_at sets places) in
+      taken (sets_at (with_value sets place.key rest) places)
+      (sets_with sets (with_value sets place.key rest) places index place p.stand p.there.at written.others ∙ ap (λ s. front ++ s ∷ behind) now_rest ∙ ap (λ l. front ++ (l ++ behind)) (sym (left_some set rest p.rest_is some)))
 
-all_filtered : (b : Bool) (set : SpoolSet) (sets : List SpoolSet) → has_lines set ≡ b → All (λ x. has_lines x ≡ true) sets → All (λ x. has_lines x ≡ true) (cond b (set ∷ sets) sets)
-all_filtered true set sets h all = All-cons (λ x. has_lines x ≡ true) set sets h all
-all_filtered false set sets h all = all
+  -- it was the last line, and the set is taken out
+  module _ (later : Slab SpoolSet) (out : Updates (with_value sets place.key rest) later place.key None) where
+    same_but : SameBut sets later place.key
+    same_but other differs = out.others other differs ∙ written.others other differs
 
-all_with_lines : (sets : List SpoolSet) → All (λ set. has_lines set ≡ true) (filter has_lines sets)
-all_with_lines [] = All-nil (λ set. has_lines set ≡ true)
-all_with_lines (set ∷ sets) = all_filtered (has_lines set) set (filter has_lines sets) refl (all_with_lines sets)
+    pub taken_last : has_lines rest ≡ false → Takes (sets_at sets places) class job line (sets_at later (remove places index))
+    taken_last none =
+        let front = take index (sets_at sets places) in
+        let behind = drop (suc index) (sets_at sets places) in
+        taken (sets_at later (remove places index))
+        (sets_without sets later places index place p.stand p.there.at same_but ∙ ap (λ l. front ++ (l ++ behind)) (sym (left_none set rest none)))
 
-pub all_entered : (sets more : List SpoolSet) → All (λ set. has_lines set ≡ true) sets → All (λ set. has_lines set ≡ true) (sets ++ filter has_lines more)
-all_entered sets more all = All-append (λ set. has_lines set ≡ true) sets (filter has_lines more) all (all_with_lines more)
+    pub stands_last : Stand later (remove places index)
+    stands_last = stand_without sets later places index place p.stand p.there.at same_but

@@ -1,10 +1,33 @@
--- The first set of a class.
-use Rattle.std.specs.Prelude.{◌≡◌, ℕ, List, take, slice_get, Some}
+-- Where the sets of a spool lie, in the order in which they entered.
+use Rattle.std.specs.Prelude.{◌≡◌, ◌≢◌, ℕ, true, List, [], take, map, All, AllPairs, slice_get, Some}
+use Rattle.std.specs.Option.{unwrap_or}
+use Rattle.slab.specs.Slab.{Slab, get}
 use Rattle.machine_meaning.specs.declared.machine.SpoolSet.{SpoolSet}
-use Rattle.machine_meaning.specs.Spools.{HasNoSet}
+use Rattle.machine_meaning.specs.Spools.{has_lines}
+use Rattle.spool_core.specs.declared.spool.Place.{Place}
 
-pub record IsPlace (sets : List SpoolSet) (class place : ℕ) : Type 0 where
-  pub set : SpoolSet
-  pub at : slice_get sets place ≡ Some set
-  pub of_class : set.class ≡ class
-  pub none_before : HasNoSet (take place sets) class
+abbrev pub no_set : SpoolSet
+no_set = record { class = 0; job = 0; lines = [] }
+
+abbrev pub set_under : Slab SpoolSet → ℕ → SpoolSet
+set_under sets key = unwrap_or (get sets key) no_set
+
+abbrev pub sets_at : Slab SpoolSet → List Place → List SpoolSet
+sets_at sets places = map (λ (p : Place). set_under sets p.key) places
+
+-- under the key lies a set of the class with lines
+pub record HasSet (sets : Slab SpoolSet) (place : Place) : Type 0 where
+  pub of_class : (set_under sets place.key).class ≡ place.class
+  pub with_lines : has_lines (set_under sets place.key) ≡ true
+
+-- no two places have the same key
+pub record Stand (sets : Slab SpoolSet) (places : List Place) : Type 0 where
+  pub filled : All (HasSet sets) places
+  pub apart : AllPairs (λ p q. p.key ≢ q.key) places
+
+-- the first place of a class
+pub record IsFirst (places : List Place) (class index : ℕ) : Type 0 where
+  pub place : Place
+  pub at : slice_get places index ≡ Some place
+  pub of_class : place.class ≡ class
+  pub none_before : All (λ p. p.class ≢ class) (take index places)

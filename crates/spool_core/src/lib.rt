@@ -2,3 +2,5 @@
 #![tactic(auto)]
 
 pub mod spool;
+#[cfg(test)]
+mod tests;

@@ -1,11 +1,12 @@
 //! The spool.
-ghost use Rattle.std.specs.Prelude.{◌≡◌, ◌++◌, [], filter, IfNone, IfOk, IfSome, OnErr, OnOk, ◌==◌, ◌∷◌};
+ghost use Rattle.std.specs.Prelude.{◌≡◌, ◌≢◌, ◌∷◌, [], All, IfNone, IfSome, OnErr, OnOk};
 ghost use Rattle.machine_meaning.specs.Spools.{HasNoSet, Takes, has_lines, with_sets};
-ghost use Rattle.spool_core.specs.Places.{IsPlace};
+ghost use Rattle.spool_core.specs.Places.{IsFirst};
 
 use jcl_plan::entry::Written;
 use machine_meaning::machine::SpoolSet;
 use plain::listed::Listed;
+use slab::Slab;
 use std::alloc::{AllocError, Global};
 use std::collections::VecDeque;
 use std::marker::Model;
@@ -38,10 +39,10 @@ impl Queued {
         }
     }
 
-    fn is_of(&self, class: u8) -> bool
-        ensures { result ≡ (self.now.class == class) }
+    fn class(&self) -> u8
+        ensures { result ≡ self.now.class }
     {
-        self.class == class
+        self.class
     }
 
     fn has_lines(&self) -> bool
@@ -62,23 +63,30 @@ impl Queued {
     }
 }
 
+/// The class of a set, and the key under which it lies.
+#[derive(Clone, Copy, Debug)]
+struct Place {
+    class: u8,
+    key: usize,
+}
+
 /// Sets of lines, in the order in which their jobs ended.
 #[derive(Debug, Drop)]
 pub struct Spool {
-    alloc: Global,
-    sets: Vec<Queued>,
+    sets: Slab<Queued>,
+    places: Vec<Place>,
 }
 
 impl Model for Spool {
-    ghost use Rattle.std.specs.Prelude.{◌≡◌, List, All, true};
-    ghost use Rattle.machine_meaning.specs.Spools.{has_lines};
+    ghost use Rattle.std.specs.Prelude.{List};
     ghost use Rattle.machine_meaning.specs.declared.machine.SpoolSet.{SpoolSet};
+    ghost use Rattle.spool_core.specs.Places.{Stand, sets_at};
 
     ghost Value = { List SpoolSet };
 
-    ghost view = { λ s. s.sets.items };
+    ghost view = { λ s. sets_at s.sets s.places.items };
 
-    ghost invariant = { λ s. All (λ set. has_lines set ≡ true) s.sets.items };
+    ghost invariant = { λ s. Stand s.sets s.places.items };
 }
 
 impl Spool {
@@ -86,8 +94,8 @@ impl Spool {
         ensures { result ≡ [] }
     {
         Spool {
-            alloc,
-            sets: Vec::new(alloc),
+            sets: Slab::new(alloc),
+            places: Vec::new(alloc),
         }
     }
 
@@ -96,8 +104,17 @@ impl Spool {
         ensures ok { OnOk result (self.new ≡ with_sets self.old sets) }
         ensures err { OnErr result (self.new ≡ self.old) }
     {
-        let mut queued = with_lines(self.alloc, sets)?;
-        self.sets.append(&mut queued)?;
+        let sets = sets.into_vec();
+        self.sets.reserve(sets.len())?;
+        self.places.reserve(sets.len())?;
+        for set in sets {
+            let queued = Queued::new(set);
+            if queued.has_lines() {
+                let class = queued.class();
+                let key = self.sets.insert_reserved(queued);
+                self.places.push_reserved(Place { class, key });
+            }
+        }
         Ok(())
     }
 
@@ -106,46 +123,34 @@ impl Spool {
         ensures some { IfSome result (λ r. Takes self.old class r.0 r.1 self.new) }
         ensures none { IfNone result (HasNoSet self.old class × (self.new ≡ self.old)) }
     {
-        let Some(place) = place_of(self.sets.as_slice(), class) else {
+        let Some(index) = index_of(self.places.as_slice(), class) else {
             return None;
         };
-        let mut set = self.sets.remove(place);
-        let Some((job, line)) = set.pop() else {
+        let key = self.places[index].key;
+        let Some(set) = self.sets.get_mut(key) else {
             unreachable!();
         };
-        if !set.has_lines() {
-            return Some((job, line));
+        let Some(taken) = set.pop() else {
+            unreachable!();
+        };
+        if set.has_lines() {
+            return Some(taken);
         }
-        let Ok(()) = self.sets.insert(place, set) else {
-            unreachable!();
-        };
-        Some((job, line))
+        self.sets.remove(key);
+        self.places.remove(index);
+        Some(taken)
     }
 }
 
-/// The place of the first set of a class.
-fn place_of(sets: &[Queued], class: u8) -> Option<usize>
-    ensures some { IfSome result (IsPlace sets.now class) }
-    ensures none { IfNone result (HasNoSet sets.now class) }
+/// Where the first place of a class stands.
+fn index_of(places: &[Place], class: u8) -> Option<usize>
+    ensures some { IfSome result (IsFirst places.now class) }
+    ensures none { IfNone result (All (λ p. p.class ≢ class) places.now) }
 {
-    for (place, set) in sets.iter().enumerate() {
-        if set.is_of(class) {
-            return Some(place);
+    for (index, place) in places.iter().enumerate() {
+        if place.class == class {
+            return Some(index);
         }
     }
     None
-}
-
-/// The sets that have lines.
-fn with_lines(alloc: Global, sets: Listed<SpoolSet>) -> Result<Vec<Queued>, AllocError>
-    ensures { IfOk result (λ queued. queued.items ≡ filter has_lines sets) }
-{
-    let mut queued = Vec::new(alloc);
-    for set in sets.into_vec() {
-        let set = Queued::new(set);
-        if set.has_lines() {
-            queued.push(set)?;
-        }
-    }
-    Ok(queued)
 }

@@ -1,0 +1,14 @@
+mod UnitNames
+mod Indexes
+mod Setless
+mod Deeds
+mod Bests
+mod Selections
+mod Advances
+mod Spooled
+mod Safety
+mod Turning
+mod Acting
+mod Answering
+mod Selecting
+mod Denoted

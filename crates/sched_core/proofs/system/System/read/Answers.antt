@@ -1,0 +1,39 @@
+use Rattle.std.proofs.Common.{◌+◌, ◌<◌, [], Err, arith, refl, subst}
+use Rattle.jcl_parse.specs.declared.refusal.ReadError.TheVariants.{Refused}
+use Rattle.jcl_parse.specs.Reading.{Gives}
+use Rattle.jcl_plan.specs.declared.plan.JobPlan.{JobPlan}
+use Rattle.machine_meaning.specs.declared.machine.TheConstants.{MOST_JOBS}
+use Rattle.sched_core.specs.Jobs.{job_of}
+use Rattle.machine_meaning.specs.Transitions.{Reads, read, rejected}
+use Rattle.machine_meaning.specs.Worlds.{World}
+use Rattle.sched_core.specs.Systems.{IsTakenIn}
+use Rattle.sched_core.proofs.Answering.{answers_as}
+use Rattle.sched_core.proofs.Denoted.{denotes_none}
+use Rattle.sched_core.proofs.system.System.read.Goals as goal
+
+pub take_in-requires-clause-sets : goal.take_in-requires-clause-sets
+take_in-requires-clause-sets c = denotes_none c.args.deck.now c.in-Ok.plan c.in-Ok.ensures
+
+pub returns-in_ok-lines-in-Err-Refused : goal.returns-in_ok-lines-in-Err-Refused
+returns-in_ok-lines-in-Err-Refused c =
+    let few : c.self.inside.jobs < MOST_JOBS = omega arith in
+    let denied : Gives (λ (plan : JobPlan). plan) (Err (Refused c.in-Err-Refused.cause)) (job_of c.args.deck.now) = subst (λ e. Gives (λ (plan : JobPlan). plan) (Err e) (job_of c.args.deck.now)) c.in-Err-Refused.field-0-is c.in-Err-Refused.ensures in
+    rw (← c.self.view_is) (rejected c.in-Err-Refused.cause few denied c.in_ok-lines-in-Err-Refused.ensures refl)
+
+pub returns-in-Ok : goal.returns-in-Ok
+returns-in-Ok c =
+    let few : c.self.inside.jobs < MOST_JOBS = omega arith in
+    let old : World = record {
+      volumes = c.self.inside.volumes;
+      programs = [];
+      initiators = c.self.inside.initiators.items;
+      waiting = c.self.inside.waiting.items;
+      holds = [];
+      spool = c.self.inside.spool;
+      jobs = c.self.inside.jobs;
+      events = c.self.inside.events;
+    } in
+    let taken = rw (← c.self.view_is) at c.take_in.ensures in
+    rw (← c.self.view_is)
+    (answers_as c.take_in.result old c.take_in.new.self (IsTakenIn old (c.self.inside.jobs + 1) c.in-Ok.plan) (Reads job_of old c.args.deck.now)
+    (λ lines w t. read c.in-Ok.plan few c.in-Ok.ensures t.0 t.1) taken)

@@ -1,0 +1,219 @@
+//! The configuration of a machine, statement by statement.
+ghost use Rattle.std.specs.Prelude.{◌≡◌, None, Some, OnOk, OnErr, IfErr};
+ghost use Rattle.std.specs.List.{list_all};
+ghost use Rattle.machine_meaning.specs.Configs.{are_classes, are_different, has_class, has_initiator, has_volume, initiator_fault, is_job_class, nothing_configured, refused_by, unit_fault, volume_fault, with_initiator, with_unit, with_volume};
+ghost use Rattle.sched_core.specs.Refusals.{IsRefusal};
+
+use crate::units::Units;
+use jname_core::name8::UnitName;
+use jname_core::serial::Serial;
+use machine_meaning::config::{
+    ConfigFault, ConfiguredInitiator, ConfiguredUnit, ConfiguredVolume, LAST_INITIATOR,
+    MOST_TRACKS, MOST_UNITS, MOST_VOLUMES,
+};
+use plain::listed::Listed;
+use plain::short::Short;
+use std::alloc::{AllocError, Global};
+use std::marker::Model;
+
+/// Why a statement of the configuration changed nothing.
+#[derive(Clone, Copy, Debug, PartialEq, Eq)]
+pub enum ConfigError {
+    Refused(ConfigFault),
+    Memory,
+}
+
+impl From<AllocError> for ConfigError {
+    ghost use Rattle.std.specs.Prelude.{◌≡◌};
+    ghost use Rattle.sched_core.specs.declared.config.ConfigError.TheVariants.{Memory};
+
+    ghost from_gives = { λ _ e. e ≡ Memory };
+
+    fn from(_error: AllocError) -> ConfigError {
+        ConfigError::Memory
+    }
+}
+
+/// What was configured so far.
+#[derive(Debug, Drop)]
+pub struct Config {
+    alloc: Global,
+    volumes: Listed<ConfiguredVolume>,
+    units: Units,
+    initiators: Listed<ConfiguredInitiator>,
+}
+
+impl Model for Config {
+    ghost use Rattle.std.specs.List.{list_all};
+    ghost use Rattle.machine_meaning.specs.Configs.{Configuration};
+
+    ghost Value = { Configuration };
+
+    ghost view = { λ c. record { volumes = c.volumes; units = c.units; initiators = c.initiators } };
+}
+
+fn refused_by(value: bool, twice: bool) -> Option<ConfigFault>
+    ensures { result ≡ refused_by value twice }
+{
+    if value {
+        Some(ConfigFault::BadValue)
+    } else if twice {
+        Some(ConfigFault::DefinedTwice)
+    } else {
+        None
+    }
+}
+
+fn has_volume(volumes: &[ConfiguredVolume], serial: &Serial) -> bool
+    ensures { result ≡ has_volume volumes.now serial.now }
+{
+    volumes
+        .iter()
+        .any(|v| v.serial.as_slice() == serial.as_slice())
+}
+
+fn has_volumes(volumes: &[ConfiguredVolume], serials: &[Serial]) -> bool
+    ensures { result ≡ list_all (has_volume volumes.now) serials.now }
+{
+    serials.iter().all(|serial| has_volume(volumes, serial))
+}
+
+fn has_class(classes: &[u8], class: u8) -> bool
+    ensures { result ≡ has_class classes.now class }
+{
+    classes.iter().any(|other| *other == class)
+}
+
+fn are_different(classes: &[u8]) -> bool
+    ensures { result ≡ are_different classes.now }
+{
+    match classes.split_first() {
+        None => true,
+        Some((class, others)) => !has_class(others, *class) && are_different(others),
+    }
+}
+
+fn is_job_class(class: u8) -> bool
+    ensures { result ≡ is_job_class class }
+{
+    b'A' <= class && class <= b'O'
+}
+
+fn are_job_classes(classes: &[u8]) -> bool
+    ensures { result ≡ list_all is_job_class classes.now }
+{
+    classes.iter().all(|class| is_job_class(*class))
+}
+
+fn are_classes(classes: &[u8]) -> bool
+    ensures { result ≡ are_classes classes.now }
+{
+    !classes.is_empty() && classes.len() <= 8 && are_job_classes(classes) && are_different(classes)
+}
+
+fn has_initiator(initiators: &[ConfiguredInitiator], number: u16) -> bool
+    ensures { result ≡ has_initiator initiators.now number }
+{
+    initiators.iter().any(|x| u16::from(x.number) == number)
+}
+
+impl Config {
+    /// Nothing is configured.
+    pub fn new(alloc: Global) -> Config
+        ensures { result ≡ nothing_configured }
+    {
+        Config {
+            alloc,
+            volumes: Listed::empty(alloc),
+            units: Units::new(alloc),
+            initiators: Listed::empty(alloc),
+        }
+    }
+
+    pub fn volumes(&self) -> &[ConfiguredVolume]
+        ensures { result.now ≡ self.now.volumes }
+    {
+        self.volumes.as_slice()
+    }
+
+    pub fn initiators(&self) -> &[ConfiguredInitiator]
+        ensures { result.now ≡ self.now.initiators }
+    {
+        self.initiators.as_slice()
+    }
+
+    fn volume_fault(&self, serial: &Serial, tracks: u16) -> Option<ConfigFault>
+        ensures { result ≡ volume_fault self.now serial.now tracks }
+    {
+        refused_by(
+            tracks < 1 || MOST_TRACKS < tracks || MOST_VOLUMES <= self.volumes.len(),
+            has_volume(self.volumes.as_slice(), serial),
+        )
+    }
+
+    fn unit_fault(&self, name: &UnitName, serials: &[Serial]) -> Option<ConfigFault>
+        ensures { result ≡ unit_fault self.now name.now serials.now }
+    {
+        refused_by(
+            MOST_UNITS <= self.units.len()
+                || serials.is_empty()
+                || !has_volumes(self.volumes.as_slice(), serials),
+            self.units.has(name),
+        )
+    }
+
+    fn initiator_fault(&self, number: u16, classes: &[u8]) -> Option<ConfigFault>
+        ensures { result ≡ initiator_fault self.now number classes.now }
+    {
+        refused_by(
+            number < 1 || LAST_INITIATOR < number || !are_classes(classes),
+            has_initiator(self.initiators.as_slice(), number),
+        )
+    }
+
+    /// A volume of 1 to 4,000 tracks; the seventeenth is refused. A refusal, and want of memory, change nothing.
+    pub fn add_volume(&mut self, serial: Serial, tracks: u16) -> Result<(), ConfigError>
+        ensures sound { OnOk result (volume_fault self.old serial tracks ≡ None) }
+        ensures ok { OnOk result (self.new ≡ with_volume self.old serial tracks) }
+        ensures refused { IfErr result (IsRefusal (volume_fault self.old serial tracks)) }
+        ensures err { OnErr result (self.new ≡ self.old) }
+    {
+        if let Some(fault) = self.volume_fault(&serial, tracks) {
+            return Err(ConfigError::Refused(fault));
+        }
+        self.volumes.push(ConfiguredVolume { serial, tracks })?;
+        Ok(())
+    }
+
+    /// A name of volumes that are there. A refusal, and want of memory, change nothing.
+    pub fn add_unit(&mut self, name: UnitName, serials: &[Serial]) -> Result<(), ConfigError>
+        ensures sound { OnOk result (unit_fault self.old name serials.now ≡ None) }
+        ensures ok { OnOk result (self.new ≡ with_unit self.old name serials.now) }
+        ensures refused { IfErr result (IsRefusal (unit_fault self.old name serials.now)) }
+        ensures err { OnErr result (self.new ≡ self.old) }
+    {
+        if let Some(fault) = self.unit_fault(&name, serials) {
+            return Err(ConfigError::Refused(fault));
+        }
+        let serials = Listed::copy_of(self.alloc, serials)?;
+        self.units.push(ConfiguredUnit { name, serials })?;
+        Ok(())
+    }
+
+    /// An initiator 1 to 15 and its one to eight different classes A to O. A refusal, and want of memory, change nothing.
+    pub fn add_initiator(&mut self, number: u16, classes: &[u8]) -> Result<(), ConfigError>
+        ensures sound { OnOk result (initiator_fault self.old number classes.now ≡ None) }
+        ensures ok { OnOk result (self.new ≡ with_initiator self.old number classes.now) }
+        ensures refused { IfErr result (IsRefusal (initiator_fault self.old number classes.now)) }
+        ensures err { OnErr result (self.new ≡ self.old) }
+    {
+        if let Some(fault) = self.initiator_fault(number, classes) {
+            return Err(ConfigError::Refused(fault));
+        }
+        let number = number as u8;
+        let classes = Short::new(classes);
+        self.initiators
+            .push(ConfiguredInitiator { number, classes })?;
+        Ok(())
+    }
+}

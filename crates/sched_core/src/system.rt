@@ -1,0 +1,313 @@
+//! The machine.
+ghost use Rattle.std.specs.Prelude.{◌≡◌, ◌≢◌, ◌≤◌, ◌∷◌, ◌++◌, [], ℕ, List, All, IfNone, IfOk, IfSome, None, Some, map, OnErr, OnOk, slice_get};
+ghost use Rattle.jcl_plan.specs.declared.entry.Entry.TheVariants as entry;
+ghost use Rattle.machine_meaning.specs.Configs.{idle, start_of};
+ghost use Rattle.jcl_plan.specs.declared.entry.JobLine.TheVariants as line;
+ghost use Rattle.machine_meaning.specs.declared.machine.TheConstants.{MOST_JOBS};
+ghost use Rattle.machine_meaning.specs.Transitions.{Does, Reads, Transition, Turns, Writes, waits};
+ghost use Rattle.sched_core.specs.Jobs.{job_of};
+ghost use Rattle.sched_core.specs.Systems.{ActsAt, Answers, IsIdleAt, IsPlaceOf, IsTakenIn, RunsAt};
+ghost use Rattle.sched_core.specs.Todos.{HasNoSets};
+
+use crate::config::Config;
+use crate::copies::{entries_of, lines_of};
+use crate::initiator::act;
+use crate::jobs::job_of;
+use crate::queue::selected;
+use jcl_parse::refusal::ReadError;
+use jcl_plan::entry::{Entry, JobLine};
+use jcl_plan::fault::Cause;
+use jcl_plan::plan::JobPlan;
+use jname_core::serial::Serial;
+use machine_meaning::config::{ConfiguredInitiator, ConfiguredVolume};
+use machine_meaning::event::Event;
+use machine_meaning::machine::{Initiator, MOST_EVENTS, MOST_JOBS, Running, Stage, Waiting};
+use plain::listed::Listed;
+use plain::text::Text;
+use spool_core::spool::Spool;
+use std::alloc::{AllocError, Global};
+use std::marker::Model;
+
+/// Why an event was not done.
+#[derive(Clone, Copy, Debug, PartialEq, Eq)]
+pub enum ApplyFault {
+    /// The event changes the count of events alone.
+    Refused(Cause),
+    /// It changes nothing, and may be repeated.
+    Memory,
+}
+
+impl From<AllocError> for ApplyFault {
+    ghost use Rattle.std.specs.Prelude.{◌≡◌};
+    ghost use Rattle.sched_core.specs.declared.system.ApplyFault.TheVariants.{Memory};
+
+    ghost from_gives = { λ _ e. e ≡ Memory };
+
+    fn from(_error: AllocError) -> ApplyFault {
+        ApplyFault::Memory
+    }
+}
+
+/// The machine between two events.
+#[derive(Debug, Drop)]
+pub struct System {
+    alloc: Global,
+    volumes: Listed<Serial>,
+    initiators: Vec<Initiator>,
+    waiting: Vec<Waiting>,
+    spool: Spool,
+    jobs: u16,
+    events: u16,
+}
+
+impl Model for System {
+    ghost use Rattle.std.specs.Prelude.{◌≤◌, []};
+    ghost use Rattle.machine_meaning.specs.Worlds.{World};
+    ghost use Rattle.sched_core.specs.Systems.{IsKept};
+
+    ghost Value = { World };
+
+    ghost view = { λ s. record { volumes = s.volumes; programs = []; initiators = s.initiators.items; waiting = s.waiting.items; holds = []; spool = s.spool; jobs = s.jobs; events = s.events } };
+
+    ghost invariant = { λ s. IsKept s.waiting.items s.initiators.items s.jobs s.events };
+}
+
+fn one(alloc: Global, entry: Entry) -> Result<Listed<Entry>, AllocError>
+    ensures { IfOk result (λ lines. lines ≡ entry ∷ []) }
+{
+    let mut lines = Listed::empty(alloc);
+    lines.push(entry)?;
+    Ok(lines)
+}
+
+/// Where the initiator of a number is.
+fn place_of(initiators: &[Initiator], number: u8) -> Option<usize>
+    ensures some { IfSome result (IsPlaceOf initiators.now number) }
+    ensures none { IfNone result (All (λ x. x.number ≢ number) initiators.now) }
+{
+    for (place, x) in initiators.iter().enumerate() {
+        if x.number == number {
+            return Some(place);
+        }
+    }
+    None
+}
+
+/// The serials of the volumes, as configured.
+fn serials_of(alloc: Global, volumes: &[ConfiguredVolume]) -> Result<Listed<Serial>, AllocError>
+    ensures { IfOk result (λ serials. serials ≡ map (λ v. v.serial) volumes.now) }
+{
+    let mut serials = Listed::empty(alloc);
+    for v in volumes {
+        serials.push(v.serial)?;
+    }
+    Ok(serials)
+}
+
+/// The initiators, none of which has a job.
+fn idle_of(alloc: Global, configured: &[ConfiguredInitiator]) -> Result<Vec<Initiator>, AllocError>
+    ensures { IfOk result (λ initiators. initiators.items ≡ map idle configured.now) }
+{
+    let mut initiators = Vec::new(alloc);
+    for x in configured {
+        let initiator = Initiator {
+            number: x.number,
+            classes: x.classes,
+            running: None,
+        };
+        initiators.push(initiator)?;
+    }
+    Ok(initiators)
+}
+
+impl System {
+    /// The machine of a configuration, before its first event.
+    pub fn new(alloc: Global, config: &Config) -> Result<System, AllocError>
+        ensures { IfOk result (λ system. system ≡ start_of config.now) }
+    {
+        let volumes = serials_of(alloc, config.volumes())?;
+        let initiators = idle_of(alloc, config.initiators())?;
+        Ok(System {
+            alloc,
+            volumes,
+            initiators,
+            waiting: Vec::new(alloc),
+            spool: Spool::new(alloc),
+            jobs: 0,
+            events: 0,
+        })
+    }
+
+    /// A deck is read.
+    fn read(&mut self, deck: &[Text]) -> Result<Listed<Entry>, ApplyFault>
+        ensures { Answers result self.old self.new (Reads job_of self.old deck.now) }
+    {
+        if MOST_JOBS <= self.jobs {
+            return Err(ApplyFault::Refused(Cause::A(5)));
+        }
+        let job = self.jobs + 1;
+        match job_of(self.alloc, deck) {
+            Err(ReadError::Memory) => Err(ApplyFault::Memory),
+            Err(ReadError::Refused(cause)) => {
+                let lines = one(self.alloc, Entry::Job(job, JobLine::Rejected(cause)))?;
+                self.jobs = job;
+                Ok(lines)
+            }
+            Ok(plan) => self.take_in(job, plan),
+        }
+    }
+
+    /// A job goes into the queue.
+    fn take_in(&mut self, job: u16, plan: JobPlan) -> Result<Listed<Entry>, ApplyFault>
+        requires sets { HasNoSets plan }
+        requires number { job ≤ MOST_JOBS }
+        ensures { Answers result self.old self.new (IsTakenIn self.old job plan) }
+    {
+        let line = Some(first_line(&plan));
+        let lines = entries_of(self.alloc, job, &line)?;
+        let w = waiting_of(self.alloc, job, plan)?;
+        let Ok(()) = self.waiting.push(w) else {
+            return Err(ApplyFault::Memory);
+        };
+        self.jobs = job;
+        Ok(lines)
+    }
+
+    /// An initiator acts once.
+    fn turn(&mut self, number: u8) -> Result<Listed<Entry>, ApplyFault>
+        ensures { Answers result self.old self.new (Turns self.old number) }
+    {
+        let Some(place) = place_of(self.initiators.as_slice(), number) else {
+            return Err(ApplyFault::Refused(Cause::A(1)));
+        };
+        if self.initiators[place].running.is_some() {
+            self.go_on(place)
+        } else {
+            self.select(place)
+        }
+    }
+
+    /// An initiator goes on with its job.
+    fn go_on(&mut self, place: usize) -> Result<Listed<Entry>, ApplyFault>
+        requires { RunsAt self.old place }
+        ensures { Answers result self.old self.new (ActsAt self.old place) }
+    {
+        let lines = act(self.alloc, &mut self.initiators[place], &mut self.spool)?;
+        Ok(lines)
+    }
+
+    /// An idle initiator selects a job, if one waits for it.
+    fn select(&mut self, place: usize) -> Result<Listed<Entry>, ApplyFault>
+        requires { IsIdleAt self.old place }
+        ensures { Answers result self.old self.new (ActsAt self.old place) }
+    {
+        let number = self.initiators[place].number;
+        let classes = self.initiators[place].classes;
+        let Some(from) = selected(self.waiting.as_slice(), classes.as_slice()) else {
+            return Ok(Listed::empty(self.alloc));
+        };
+        let lines = entries_of(
+            self.alloc,
+            self.waiting[from].job,
+            &Some(JobLine::Selected(number)),
+        )?;
+        let mut listing = lines_of(self.alloc, self.waiting[from].listing.as_slice())?;
+        listing.push(JobLine::Selected(number))?;
+        let w = self.waiting.remove(from);
+        self.initiators[place].running = Some(Running {
+            job: w.job,
+            plan: w.plan,
+            listing,
+            stage: Stage::Selected,
+        });
+        Ok(lines)
+    }
+
+    /// A writer writes a line of its class.
+    fn write(&mut self, class: u8) -> Result<Listed<Entry>, ApplyFault>
+        ensures { Answers result self.old self.new (Writes self.old class) }
+    {
+        let mut lines = Vec::with_capacity(self.alloc, 1)?;
+        let Some((job, written)) = self.spool.write(class) else {
+            return Ok(Listed::new(lines));
+        };
+        let Ok(()) = lines.push(Entry::Writer {
+            class,
+            job,
+            written,
+        }) else {
+            unreachable!();
+        };
+        Ok(Listed::new(lines))
+    }
+
+    /// An event that is not past the last.
+    fn does(&mut self, event: &Event) -> Result<Listed<Entry>, ApplyFault>
+        ensures { Answers result self.old self.new (Does job_of self.old event.now) }
+    {
+        match event {
+            Event::Read(deck) => self.read(deck.as_slice()),
+            Event::Turn(number) => self.turn(*number),
+            Event::Write(class) => self.write(*class),
+        }
+    }
+
+    /// One event. A refusal changes the count of events alone, want of memory nothing.
+    pub fn apply(&mut self, event: &Event) -> Result<Listed<Entry>, ApplyFault>
+        ensures { Answers result self.old self.new (Transition job_of self.old event.now) }
+    {
+        if MOST_EVENTS <= self.events {
+            return Err(ApplyFault::Refused(Cause::A(5)));
+        }
+        self.events += 1;
+        let done = self.does(event);
+        if let Err(ApplyFault::Memory) = &done {
+            self.events -= 1;
+        }
+        done
+    }
+
+    /// One event, and a refusal as its line. Want of memory changes nothing.
+    pub fn apply_shown(&mut self, event: &Event) -> Result<Listed<Entry>, AllocError>
+        ensures step { IfOk result (λ lines. Transition job_of self.old event.now lines self.new) }
+        ensures err { OnErr result (self.new ≡ self.old) }
+    {
+        let mut refusal = Vec::with_capacity(self.alloc, 1)?;
+        match self.apply(event) {
+            Ok(lines) => Ok(lines),
+            Err(ApplyFault::Refused(cause)) => {
+                let Ok(()) = refusal.push(Entry::Refused(cause)) else {
+                    unreachable!();
+                };
+                Ok(Listed::new(refusal))
+            }
+            Err(ApplyFault::Memory) => Err(AllocError),
+        }
+    }
+}
+
+/// The first line of a job.
+fn first_line(plan: &JobPlan) -> JobLine
+    ensures { result ≡ line.Read plan.now.name plan.now.class plan.now.priority }
+{
+    JobLine::Read {
+        name: plan.name,
+        class: plan.class,
+        priority: plan.priority,
+    }
+}
+
+/// A job in the queue.
+fn waiting_of(alloc: Global, job: u16, plan: JobPlan) -> Result<Waiting, AllocError>
+    ensures { IfOk result (λ w. w ≡ waits job plan) }
+{
+    let mut listing = Listed::empty(alloc);
+    listing.push(first_line(&plan))?;
+    Ok(Waiting {
+        job,
+        class: plan.class,
+        priority: plan.priority,
+        plan,
+        listing,
+    })
+}

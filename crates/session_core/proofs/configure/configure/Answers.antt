@@ -1,0 +1,31 @@
+use Rattle.std.proofs.Common.{◌≡◌, ◌+◌, Some, take, drop, ap, ◌∙◌}
+use Rattle.session_core.specs.Sessions.{fault_behind}
+use Rattle.session_core.specs.Configuring.{config_fault, told}
+use Rattle.session_core.proofs.Configured.{Configured-more, Configured-stops, refused_config}
+use Rattle.session_core.proofs.Standing.{drop_at, take_at}
+use Rattle.session_core.proofs.configure.configure.Goals as goal
+
+pub returns-in-Refused-clause-err : goal.returns-in-Refused-clause-err
+returns-in-Refused-clause-err c =
+    let all = c.args.statements.now in
+    let s = c.index-statements-at.result in
+    let p = rw (drop_at all c.loop-at.at s c.loop-at-test.true c.index-statements-at.is) at c.loop-at.invariant in
+    Configured-stops all (take c.loop-at.at all) (drop (c.loop-at.at + 1) all) s c.loop-at.config c.in-Refused.fault p (ap (fault_behind (take c.loop-at.at all)) c.in-Refused.is)
+
+pub returns-in-Err-Refused : goal.returns-in-Err-Refused
+returns-in-Err-Refused c =
+    let all = c.args.statements.now in
+    let s = c.index-statements-at.result in
+    let p = rw (drop_at all c.loop-at.at s c.loop-at-test.true c.index-statements-at.is) at c.loop-at.invariant in
+    let own : config_fault c.loop-at.config s.says ≡ Some c.in-Err-Refused.fault = rw c.in-Err-Refused.field-0-is at c.in-Err-Refused.ensures.refused in
+    let is : c.told.result ≡ told c.in-Err-Refused.fault = c.told.ensures ∙ ap told c.in-Err-Refused.fault-is in
+    let fault = refused_config all (take c.loop-at.at all) (drop (c.loop-at.at + 1) all) s c.loop-at.config c.in-Err-Refused.fault p c.in_default.not-Refused c.in_default.not-Events own in
+    record { ok = tt; err = rw is (Configured-stops all (take c.loop-at.at all) (drop (c.loop-at.at + 1) all) s c.loop-at.config (told c.in-Err-Refused.fault) p fault) }
+
+pub loop-at-preserved : goal.loop-at-preserved
+loop-at-preserved c =
+    let all = c.args.statements.now in
+    let s = c.index-statements-at.result in
+    let p = rw (drop_at all c.loop-at.at s c.loop-at-test.true c.index-statements-at.is) at c.loop-at.invariant in
+    rw (take_at all c.loop-at.at s c.loop-at-test.true c.index-statements-at.is)
+    (Configured-more all (take c.loop-at.at all) (drop (c.loop-at.at + 1) all) s c.loop-at.config c.add.new.config p c.in_default.not-Refused c.in_default.not-Events c.in-Ok.ensures.sound c.in-Ok.ensures.ok)

@@ -1,0 +1,5 @@
+use Rattle.session_core.proofs.Applied.{AreApplied-more}
+use Rattle.session_core.proofs.run.run_events.Goals as goal
+
+pub loop-done-preserved : goal.loop-done-preserved
+loop-done-preserved c = AreApplied-more _ c.loop-done.system _ c.args.event.now c.loop-done.done _ c.loop-done.text.items _ c.loop-done.invariant c.in_ok-run_event.ensures.ok

@@ -1,0 +1,12 @@
+use Rattle.std.proofs.Common.{arith}
+use Rattle.session_core.proofs.Streams.{appended_twice, still_within, taken_more}
+use Rattle.session_core.proofs.stream.write_text.Goals as goal
+
+pub loop-at-preserved : goal.loop-at-preserved
+loop-at-preserved g c =
+    let at = c.loop-at.at in
+    let count = c.in-Ok.count in
+    let text = c.args.text.now in (
+      still_within at count text (omega arith) c.in-Ok.ensures.bound,
+      rw (← taken_more at count text) (appended_twice _ _ _ _ _ c.loop-at.invariant.1 c.in-Ok.ensures.bytes),
+    )

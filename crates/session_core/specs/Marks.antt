@@ -1,0 +1,23 @@
+-- Where the lines of each statement begin in a listing.
+use Rattle.std.specs.Prelude.{◌≡◌, ℕ, List, [], ◌∷◌, ◌++◌, length}
+use Rattle.session_text.specs.declared.statement.Statement.{Statement}
+use Rattle.session_core.specs.declared.listing.Mark.{Mark}
+use Rattle.session_core.specs.Listings.{Lists, ListsUpTo}
+use Rattle.session_core.specs.Sessions.{events_of}
+
+-- a statement of this line is listed last, behind what was listed earlier
+pub record IsListedLast (stands : List Statement) (line : ℕ) (earlier listing : List ℕ) : Type 0 where
+  pub before : List Statement
+  pub statement : Statement
+  pub after : List Statement
+  pub stands_so : stands ≡ before ++ statement ∷ after
+  pub at : statement.line ≡ line
+  pub lists : ListsUpTo before statement listing
+  pub lists_earlier : Lists before (events_of before) earlier
+
+-- these statements wrote this text, each its own part, behind what was listed earlier
+abbrev pub AreMarks : List Statement → List ℕ → List Mark → List ℕ → Type 0
+AreMarks stands earlier [] text = text ≡ []
+AreMarks stands earlier (mark ∷ marks) text =
+    (part : List ℕ) × (rest : List ℕ) × (text ≡ part ++ rest) × (mark.start ≡ length earlier) × IsListedLast stands mark.line earlier (earlier ++ part)
+    × AreMarks stands (earlier ++ part) marks rest

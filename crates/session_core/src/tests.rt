@@ -1,0 +1,268 @@
+//! Whole sessions, and readers and writers that fail.
+ghost use Rattle.std.specs.Prelude.{Some};
+
+use crate::{MOST_BYTES, Options, RiskChoice, SessionEnd, SessionFault, run_session};
+use std::alloc::Global;
+use std::io;
+use std::io::{ErrorKind, Read, Write};
+use std::test::Fail;
+
+/// Gives a byte at a time, and fails at one of its calls.
+#[derive(Drop)]
+struct Drip<'a> {
+    bytes: &'a [u8],
+    calls: usize,
+    fails_at: usize,
+}
+
+impl Read for Drip<'_> {
+    ghost remaining = { λ d. Some d.bytes.now };
+
+    fn read(&mut self, buf: &mut [u8]) -> io::Result<usize> {
+        self.calls = self.calls.saturating_add(1);
+        if self.calls == self.fails_at {
+            return Err(io::Error::from(ErrorKind::Other));
+        }
+        let one = buf.len().min(1);
+        Read::read(&mut self.bytes, &mut buf[..one])
+    }
+}
+
+/// Takes some bytes at a time, and at one of its calls none, or it fails there.
+#[derive(Drop)]
+struct Sink {
+    held: Vec<u8>,
+    most: usize,
+    calls: usize,
+    stops_at: usize,
+    fails: bool,
+}
+
+impl Write for Sink {
+    ghost contents = { λ s. Some s.held.items };
+
+    fn write(&mut self, buf: &[u8]) -> io::Result<usize> {
+        self.calls = self.calls.saturating_add(1);
+        if self.calls == self.stops_at {
+            return if self.fails {
+                Err(io::Error::from(ErrorKind::Other))
+            } else {
+                Ok(0)
+            };
+        }
+        let count = self.most.min(buf.len());
+        self.held.extend_from_slice(&buf[..count])?;
+        Ok(count)
+    }
+
+    fn flush(&mut self) -> io::Result<()> {
+        Ok(())
+    }
+}
+
+const OPTIONS: Options = Options {
+    risk: RiskChoice::Run,
+    views: 1024,
+};
+
+fn empty_sink(alloc: Global) -> Sink {
+    Sink {
+        held: Vec::new(alloc),
+        most: usize::MAX,
+        calls: 0,
+        stops_at: 0,
+        fails: false,
+    }
+}
+
+fn drip_of(bytes: &[u8]) -> Drip<'_> {
+    Drip {
+        bytes,
+        calls: 0,
+        fails_at: 0,
+    }
+}
+
+/// Sessions, their listings, and the number and line of their faults, 0 and 0 for none.
+const SESSIONS: &[(&str, &str, u8, usize)] = &[
+    ("", "", 0, 0),
+    (
+        "./ VOLUME VOL001 100\n./ UNIT SYSDA VOL001\n./ INIT 1 A\n./ INIT 2 A\n./ TURN 9\n",
+        "-- REFUSED A1\n",
+        0,
+        0,
+    ),
+    (
+        "./ VOLUME VOL001 100\n./ UNIT SYSDA VOL001\n./ INIT 1 A\n./ INIT 2 A\n./ TURN 9\n./ INIT 3 A\n",
+        "-- REFUSED A1\n",
+        8,
+        6,
+    ),
+    ("./ TRUN 1\n", "", 1, 1),
+    (
+        "./ INIT 1 A\n./ TURN 1*3\n./ WRITE A*2\n./ TURN 2*2",
+        "-- REFUSED A1\n-- REFUSED A1\n",
+        0,
+        0,
+    ),
+    ("./ TURN 1\nX\n./ TURN 1\n", "-- REFUSED A1\n", 1, 2),
+    ("./ TURN 1\n\n./ READ\nX\n", "-- REFUSED A1\n", 4, 3),
+    // the configuration
+    ("./ VOLUME A 0\n", "", 2, 1),
+    ("./ VOLUME A 4000\n./ VOLUME A 1\n", "", 3, 2),
+    ("./ VOLUME A 4000\n./ VOLUME A 4001\n", "", 2, 2),
+    ("./ UNIT U A\n", "", 2, 1),
+    ("./ VOLUME A 1\n./ UNIT U A\n./ UNIT U A,B\n", "", 2, 3),
+    ("./ VOLUME A 1\n./ UNIT U A\n./ UNIT U A\n", "", 3, 3),
+    ("./ INIT 1 AA\n", "", 2, 1),
+    ("./ INIT 1 P\n", "", 2, 1),
+    ("./ INIT 0 A\n", "", 2, 1),
+    ("./ INIT 1 A\n./ INIT 1 B\n", "", 3, 2),
+    // configuration behind the first event
+    (
+        "./ VOLUME A 1\n./ TURN 1\n./ VOLUME B 1\n",
+        "-- REFUSED A1\n",
+        8,
+        3,
+    ),
+    (
+        "./ VOLUME A 1\n./ TURN 1\n./ VOLUME A 1\n",
+        "-- REFUSED A1\n",
+        3,
+        3,
+    ),
+    (
+        "./ VOLUME A 1\n./ TURN 1\n./ VOLUME A 0\n",
+        "-- REFUSED A1\n",
+        2,
+        3,
+    ),
+    ("./ TURN 1\n./ UNIT U A\n", "-- REFUSED A1\n", 2, 2),
+    (
+        "./ INIT 1 A\n./ TURN 2\n./ INIT 1 A\n",
+        "-- REFUSED A1\n",
+        3,
+        3,
+    ),
+    (
+        "./ INIT 1 A\n./ TURN 2\n./ INIT 1\n",
+        "-- REFUSED A1\n",
+        2,
+        3,
+    ),
+    // decks
+    (
+        "./ READ\n//J JOB 1\nHELLO\n./ END\n",
+        "0001 REJECTED C7\n",
+        0,
+        0,
+    ),
+    ("./ READ\n//J JOB 1\n./ END\n", "0001 REJECTED P11\n", 0, 0),
+    (
+        "./ VOLUME VOL001 100\n./ UNIT SYSDA VOL001\n./ INIT 1 A\n./ INIT 2 A\n./ READ\n//TWO JOB 1\n//S1 EXEC PGM=NOPROG\n//IN DD *\nA\nB\n/*\n//X DD DUMMY\n./ END\n./ TURN 1*10\n",
+        "0001 READ TWO CLASS A PRTY 06\n0001 SELECTED 1\n0001 NAMES 0\n0001 ASSURED 0 TRACKS 7 ACTIONS\n0001 STEP 1 S1 RUN\n0001 TAKE 1 IN CARDS 2\n0001 TAKE 2 X DUMMY\n0001 ABEND S806\n0001 DISP 1 IN NONE\n0001 DISP 2 X NONE\n0001 END\n",
+        0,
+        0,
+    ),
+    (
+        "./ VOLUME VOL001 100\n./ UNIT SYSDA VOL001\n./ INIT 1 A\n./ INIT 2 A\n./ READ\n//ONE JOB 1\n//S1 EXEC PGM=IEFBR14\n//OUT DD SYSOUT=A\n./ END\n./ TURN 1*8\n./ WRITE A*12\n",
+        "0001 READ ONE CLASS A PRTY 06\n0001 SELECTED 1\n0001 NAMES 0\n0001 ASSURED 0 TRACKS 5 ACTIONS\n0001 STEP 1 S1 RUN\n0001 TAKE 1 OUT SYSOUT A\n0001 CODE 0000\n0001 DISP 1 OUT SPOOLED 0\n0001 END\n-- WRITER A 0001 0001 READ ONE CLASS A PRTY 06\n-- WRITER A 0001 0001 SELECTED 1\n-- WRITER A 0001 0001 NAMES 0\n-- WRITER A 0001 0001 ASSURED 0 TRACKS 5 ACTIONS\n-- WRITER A 0001 0001 STEP 1 S1 RUN\n-- WRITER A 0001 0001 TAKE 1 OUT SYSOUT A\n-- WRITER A 0001 0001 CODE 0000\n-- WRITER A 0001 0001 DISP 1 OUT SPOOLED 0\n-- WRITER A 0001 0001 END\n",
+        0,
+        0,
+    ),
+];
+
+#[test]
+fn lists_sessions(rt: HostRuntime) -> Result<(), Fail> {
+    for (text, listing, number, line) in SESSIONS {
+        let mut reader = drip_of(text.as_bytes());
+        let mut writer = empty_sink(rt.alloc());
+        let result = run_session(rt.alloc(), &mut reader, &mut writer, OPTIONS);
+        let told = match result {
+            Ok(SessionEnd) => Some((0, 0)),
+            Err(fault) => fault.number_and_line(),
+        };
+        assert_eq!(rt; told, Some((*number, *line)), "at {text:?}");
+        assert_eq!(rt; writer.held.as_slice(), listing.as_bytes(), "at {text:?}");
+    }
+    Ok(())
+}
+
+const TURNS: &[u8] = b"./ TURN 1\n./ WRITE A\n./ TURN 2*2\n";
+
+/// The line of the statement that a failed read cuts, when so many bytes were read.
+fn line_read(bytes: usize) -> usize {
+    if bytes < 10 {
+        1
+    } else if bytes < 21 {
+        2
+    } else if bytes < 33 {
+        3
+    } else {
+        4
+    }
+}
+
+#[test]
+fn fails_at_each_read(rt: HostRuntime) -> Result<(), Fail> {
+    for bytes in 0..34 {
+        let mut reader = drip_of(TURNS);
+        reader.fails_at = bytes + 1;
+        let mut writer = empty_sink(rt.alloc());
+        let result = run_session(rt.alloc(), &mut reader, &mut writer, OPTIONS);
+        let told = match result {
+            Ok(SessionEnd) => None,
+            Err(fault) => fault.number_and_line(),
+        };
+        assert_eq!(rt; told, Some((6, line_read(bytes))), "at {bytes}");
+        assert_eq!(rt; reader.calls, bytes + 1);
+        let listed = if bytes < 10 {
+            0
+        } else if bytes < 33 {
+            14
+        } else {
+            42
+        };
+        assert_eq!(rt; writer.held.len(), listed, "at {bytes}");
+    }
+    Ok(())
+}
+
+#[test]
+fn fails_at_each_write(rt: HostRuntime) -> Result<(), Fail> {
+    for call in 1..7 {
+        for fails in [false, true] {
+            let mut reader = drip_of(TURNS);
+            let mut writer = empty_sink(rt.alloc());
+            writer.most = 7;
+            writer.stops_at = call;
+            writer.fails = fails;
+            let result = run_session(rt.alloc(), &mut reader, &mut writer, OPTIONS);
+            let line = if call <= 2 { 1 } else { 3 };
+            assert_eq!(rt; result, Err(SessionFault::WriteFailed(line)), "at {call}");
+            assert_eq!(rt; writer.calls, call);
+            assert_eq!(rt; writer.held.len(), 7 * (call - 1));
+        }
+    }
+    Ok(())
+}
+
+#[test]
+fn stops_at_the_first_byte_past_the_limit(rt: HostRuntime) -> Result<(), Fail> {
+    let longest = vec![in rt.alloc(); b'\n'; MOST_BYTES]?;
+    let mut reader = drip_of(longest.as_slice());
+    let mut writer = empty_sink(rt.alloc());
+    let result = run_session(rt.alloc(), &mut reader, &mut writer, OPTIONS);
+    assert_eq!(rt; result, Ok(SessionEnd));
+    let long = vec![in rt.alloc(); b'\n'; MOST_BYTES + 2]?;
+    let mut reader = drip_of(long.as_slice());
+    let result = run_session(rt.alloc(), &mut reader, &mut writer, OPTIONS);
+    let told = match result {
+        Ok(SessionEnd) => None,
+        Err(fault) => fault.number_and_line(),
+    };
+    assert_eq!(rt; told, Some((5, MOST_BYTES + 1)));
+    assert_eq!(rt; reader.calls, MOST_BYTES + 1);
+    assert!(rt; writer.held.is_empty());
+    Ok(())
+}

@@ -1,0 +1,41 @@
+-- A set is entered under a key that had none.
+use Rattle.std.proofs.Common.{◌≡◌, ℕ, true, false, cond, List, [], ◌∷◌, ◌++◌, None, Some, All, filter, get_or, sym, ap, ◌∙◌, unwrap_or, append_assoc}
+use Rattle.std.proofs.lemmas.List.{map-append}
+use Rattle.std.proofs.lemmas.List.Elements.{All-append, All-cons, All-nil}
+use Rattle.std.proofs.lemmas.List.Quantifiers.{all_pairs_push}
+use Rattle.slab.specs.Slab.{Slab, Updates, get}
+use Rattle.machine_meaning.specs.declared.machine.SpoolSet.{SpoolSet}
+use Rattle.machine_meaning.specs.Spools.{has_lines}
+use Rattle.spool_core.specs.declared.spool.Place.{Place}
+use Rattle.spool_core.specs.Places.{HasSet, Stand, no_set, set_under, sets_at}
+use Rattle.spool_core.proofs.Keeping.{Apart, same_sets, still_filled}
+
+new_apart : (sets : Slab SpoolSet) (places : List Place) (key : ℕ) → All (HasSet sets) places → get sets key ≡ None → Apart key places
+new_apart sets places key filled vacant k d within e =
+    let was = (filled k d within).with_lines in
+    let none : set_under sets (get_or places k d).key ≡ no_set = ap (set_under sets) e ∙ ap (λ o. unwrap_or o no_set) vacant in
+    let both : false ≡ true = ap has_lines (sym none) ∙ was in
+    cc
+
+module _ (old new : Slab SpoolSet) (places : List Place) (place : Place) (set : SpoolSet) (stand : Stand old places) (vacant : get old place.key ≡ None) (in_slab : Updates old new place.key (Some set)) (some : has_lines set ≡ true) where
+  apart : Apart place.key places
+  apart = new_apart old places place.key stand.filled vacant
+
+  now_set : set_under new place.key ≡ set
+  now_set = ap (λ o. unwrap_or o no_set) in_slab.changed
+
+  pub stands_entered : place.class ≡ set.class → Stand new (places ++ place ∷ [])
+  stands_entered class = record {
+    filled = All-append (HasSet new) places (place ∷ []) (still_filled old new place.key places in_slab.others apart stand.filled)
+        (All-cons (HasSet new) place [] record { of_class = ap (λ (s : SpoolSet). s.class) now_set ∙ sym class; with_lines = ap has_lines now_set ∙ some } (All-nil (HasSet new)));
+    apart = all_pairs_push (λ (p q : Place). p.key ≡ q.key → ⊥) places place stand.apart apart;
+  }
+
+  pub sets_entered : (rest items whole : List SpoolSet) → items ≡ set ∷ rest → sets_at old places ++ filter has_lines items ≡ whole → sets_at new (places ++ place ∷ []) ++ filter has_lines rest ≡ whole
+  sets_entered rest items whole is so_far =
+      ap (λ l. l ++ filter has_lines rest) (map-append (λ (p : Place). set_under new p.key) places (place ∷ [])) ∙
+      ap (λ l. (l ++ set_under new place.key ∷ []) ++ filter has_lines rest) (same_sets old new place.key places in_slab.others apart) ∙
+      ap (λ s. (sets_at old places ++ s ∷ []) ++ filter has_lines rest) now_set ∙
+      append_assoc (sets_at old places) (set ∷ []) (filter has_lines rest) ∙
+      ap (λ b. sets_at old places ++ cond b (set ∷ filter has_lines rest) (filter has_lines rest)) (sym some) ∙
+      ap (λ l. sets_at old places ++ filter has_lines l) (sym is) ∙ so_far
