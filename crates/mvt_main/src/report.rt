@@ -1,0 +1,52 @@
+//! What the program ends with: a status, and what it says on standard error.
+ghost use Rattle.std.specs.Prelude.{◌≡◌, Some};
+ghost use Rattle.mvt_main.specs.Programs.{reported, text_of};
+
+use session_core::{SessionEnd, SessionFault};
+use std::fmt;
+
+/// The status of a session of which all was read.
+pub const ALL_READ: u8 = 0;
+
+/// The status of a session with a fault.
+pub const SESSION_FAULT: u8 = 1;
+
+/// The status of a command line that cannot be used, or that asks for help.
+pub const MISUSE: u8 = 2;
+
+/// The status where memory is wanting.
+pub const WANT_OF_MEMORY: u8 = 3;
+
+/// What is said on standard error.
+#[derive(Clone, Copy, Debug, PartialEq, Eq)]
+pub enum Message {
+    Nothing,
+    /// A fault of the session by its number, n of `Sn`, and its line, which counts from 1.
+    Fault(u8, usize),
+    OutOfMemory,
+}
+
+impl fmt::Display for Message {
+    ghost output = { λ m. Some (text_of m) };
+
+    fn fmt<W: fmt::Write>(&self, f: &mut fmt::Formatter<W>) -> fmt::Result {
+        match self {
+            Message::Nothing => Ok(()),
+            Message::Fault(number, line) => write!(f, "session fault S{number} at line {line}"),
+            Message::OutOfMemory => f.write_str("out of memory"),
+        }
+    }
+}
+
+/// The status of a session's end, and its message.
+pub fn report(outcome: Result<SessionEnd, SessionFault>) -> (u8, Message)
+    ensures { result ≡ reported outcome }
+{
+    match outcome {
+        Ok(SessionEnd) => (ALL_READ, Message::Nothing),
+        Err(fault) => match fault.number_and_line() {
+            Some((number, line)) => (SESSION_FAULT, Message::Fault(number, line)),
+            None => (WANT_OF_MEMORY, Message::OutOfMemory),
+        },
+    }
+}

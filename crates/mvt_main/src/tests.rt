@@ -1,0 +1,107 @@
+//! Statuses, what is said on standard error, and command lines.
+use crate::options::read_options;
+use crate::report::{Message, report};
+use clap::error::ErrorKind;
+use session_core::{Options, RiskChoice, SessionEnd, SessionFault};
+use session_text::fault::Fault;
+use std::test::Fail;
+
+/// Ends of sessions, their statuses, and what is said.
+const ENDS: &[(Result<SessionEnd, SessionFault>, u8, &str)] = &[
+    (Ok(SessionEnd), 0, ""),
+    (
+        Err(SessionFault::Stopped(Fault::UnknownStatement, 1)),
+        1,
+        "session fault S1 at line 1",
+    ),
+    (
+        Err(SessionFault::Stopped(Fault::BadValue, 7)),
+        1,
+        "session fault S2 at line 7",
+    ),
+    (
+        Err(SessionFault::Stopped(Fault::LateConfiguration, 1_048_576)),
+        1,
+        "session fault S8 at line 1048576",
+    ),
+    (
+        Err(SessionFault::WriteFailed(120)),
+        1,
+        "session fault S7 at line 120",
+    ),
+    (Err(SessionFault::Memory), 3, "out of memory"),
+];
+
+#[test]
+fn each_end_has_its_status_and_text(rt: HostRuntime) -> Result<(), Fail> {
+    for (outcome, status, text) in ENDS {
+        let (told, message) = report(*outcome);
+        assert_eq!(rt; told, *status);
+        let said = format!(in rt.alloc(); "{message}")?;
+        assert_eq!(rt; said.as_str(), *text);
+        assert_eq!(rt; message == Message::Nothing, *status == 0);
+    }
+    Ok(())
+}
+
+/// Command lines that are taken.
+const TAKEN: &[(&[&str], RiskChoice, u16)] = &[
+    (&["mvt"], RiskChoice::Run, 1024),
+    (&["mvt", "--risk", "run"], RiskChoice::Run, 1024),
+    (&["mvt", "--risk", "refuse"], RiskChoice::Refuse, 1024),
+    (
+        &["mvt", "--risk=refuse", "--views=1"],
+        RiskChoice::Refuse,
+        1,
+    ),
+    (&["mvt", "--views", "1024"], RiskChoice::Run, 1024),
+    (
+        &["mvt", "--views", "17", "--risk", "run"],
+        RiskChoice::Run,
+        17,
+    ),
+];
+
+#[test]
+fn options_are_read(rt: HostRuntime) -> Result<(), Fail> {
+    for (words, risk, views) in TAKEN {
+        let wanted = Options {
+            risk: *risk,
+            views: *views,
+        };
+        match read_options(rt.alloc(), *words) {
+            Ok(options) => assert_eq!(rt; options, wanted),
+            Err(error) => assert!(rt; false, "{error}"),
+        }
+    }
+    Ok(())
+}
+
+/// Command lines that are not, and why.
+const NOT_TAKEN: &[(&[&str], ErrorKind)] = &[
+    (&["mvt", "--help"], ErrorKind::DisplayHelp),
+    (&["mvt", "--views", "0"], ErrorKind::ValueValidation),
+    (&["mvt", "--views", "1025"], ErrorKind::ValueValidation),
+    (&["mvt", "--views", "70000"], ErrorKind::ValueValidation),
+    (&["mvt", "--views", "ten"], ErrorKind::ValueValidation),
+    (&["mvt", "--views"], ErrorKind::InvalidValue),
+    (&["mvt", "--risk", "stop"], ErrorKind::InvalidValue),
+    (&["mvt", "--risk"], ErrorKind::InvalidValue),
+    (&["mvt", "--explain"], ErrorKind::UnknownArgument),
+    (&["mvt", "session"], ErrorKind::UnknownArgument),
+    (
+        &["mvt", "--risk=run", "--risk=run"],
+        ErrorKind::ArgumentConflict,
+    ),
+];
+
+#[test]
+fn other_command_lines_are_not_taken(rt: HostRuntime) -> Result<(), Fail> {
+    for (words, kind) in NOT_TAKEN {
+        match read_options(rt.alloc(), *words) {
+            Ok(options) => assert!(rt; false, "{words:?} is taken as {options:?}"),
+            Err(error) => assert_eq!(rt; error.kind(), *kind, "at {words:?}"),
+        }
+    }
+    Ok(())
+}

@@ -1,0 +1,4 @@
+//! Views of worked examples: what a run sees behind each step.
+#![tactic(auto)]
+
+pub mod views;

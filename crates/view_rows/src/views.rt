@@ -1,0 +1,27 @@
+//! A set that is passed, deleted where a test lets the second step run, and wanted by the third.
+ghost use Rattle.view_rows.specs.Examples.{BehindTheFirstStep, BehindTheSecondStep, WithoutAWayOn, Refers, SeesItsPart};
+
+/// Behind the first step the set is there and passed. The second step's test is met by a code over 4 alone, so there are two views.
+pub fn behind_the_first_step()
+    ensures { BehindTheFirstStep }
+{}
+
+/// Behind the second step it is deleted, or still passed where the step was bypassed.
+pub fn behind_the_second_step()
+    ensures { BehindTheSecondStep }
+{}
+
+/// The third step does not find it where the second deleted it, and finds it where the second was bypassed.
+pub fn without_a_way_on()
+    ensures { WithoutAWayOn }
+{}
+
+/// A volume is seen while a later step refers to its DD, and no longer.
+pub fn seen_while_referred()
+    ensures { Refers }
+{}
+
+/// Of a store a job sees what is held under its names.
+pub fn sees_its_part()
+    ensures { SeesItsPart }
+{}
