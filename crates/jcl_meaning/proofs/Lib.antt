@@ -1,6 +1,3 @@
 mod Budgets
-mod Groups
 mod HeldNames
-mod Keys
 mod LineCounts
-mod StoreLists

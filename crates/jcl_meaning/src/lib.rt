@@ -3,7 +3,7 @@
 #![tactic(auto)]
 
 pub mod budget;
-pub mod disposition;
+pub mod ending;
 pub mod history;
 pub mod names;
 pub mod program;

@@ -1,5 +1,6 @@
 //! What is a job's own while it runs. Steps and DDs count from 1.
 ghost use Rattle.std.specs.Prelude.{◌≡◌, IfOk};
+ghost use Rattle.jcl_meaning.specs.Solo.{nothing_own};
 
 use jcl_plan::fault::Fault;
 use jcl_plan::outcome::Outcome;
@@ -132,6 +133,24 @@ pub struct Own {
     pub due: Option<Due>,
     /// The lines that its program has written.
     pub lines: usize,
+}
+
+/// What is a job's own before its first step.
+pub fn nothing_own(alloc: Global) -> Own
+    ensures { result ≡ nothing_own }
+{
+    Own {
+        passed: Listed::empty(alloc),
+        ended: Listed::empty(alloc),
+        faulted: false,
+        volumes: Listed::empty(alloc),
+        outputs: Listed::empty(alloc),
+        runs: false,
+        over: None,
+        dds: Listed::empty(alloc),
+        due: None,
+        lines: 0,
+    }
 }
 
 /// A DD on a volume.

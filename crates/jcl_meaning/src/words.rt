@@ -39,7 +39,8 @@ pub fn conditional_meaning(temporary: bool, conditional: Option<ConditionalWord>
     }
 }
 
-pub(crate) fn omitted(made: bool) -> Word
+/// The word where none is coded: a set that the job made is deleted, and another kept.
+pub fn omitted(made: bool) -> Word
     ensures { result ≡ omitted made }
 {
     if made { Word::Delete } else { Word::Keep }

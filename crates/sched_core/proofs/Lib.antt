@@ -1,14 +1,8 @@
 mod UnitNames
-mod Indexes
-mod Setless
-mod Deeds
 mod Bests
 mod Selections
-mod Advances
-mod Spooled
-mod Safety
-mod Turning
-mod Acting
 mod Answering
+mod Places
 mod Selecting
 mod Denoted
+mod Driving

@@ -15,7 +15,7 @@ use Rattle.machine_meaning.specs.Queues.{IsSelected}
 use Rattle.machine_meaning.specs.Transitions.{Acts, selected}
 use Rattle.machine_meaning.specs.Worlds.{World, of_job}
 use Rattle.sched_core.specs.Systems.{IsKept}
-use Rattle.sched_core.specs.Todos.{HasNoSets, RunsNoSets}
+use Rattle.init_core.specs.NoSets.{HasNoSets, RunsNoSets}
 
 -- the initiator with a job out of the queue
 abbrev pub with_job : Initiator → Waiting → List JobLine → Initiator

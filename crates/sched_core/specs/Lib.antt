@@ -1,7 +1,5 @@
 pub mod Jobs
 pub mod Names
 pub mod Refusals
-pub mod Todos
 pub mod Selection
-pub mod Initiators
 pub mod Systems

@@ -12,7 +12,7 @@ use Rattle.machine_meaning.specs.Worlds.{World, IsAt, of_job}
 use Rattle.sched_core.specs.declared.system.ApplyFault.{ApplyFault}
 use Rattle.sched_core.specs.declared.system.ApplyFault.TheVariants.{Refused, Memory}
 use Rattle.sched_core.specs.Jobs.{job_of}
-use Rattle.sched_core.specs.Todos.{HasNoSets, RunsNoSets}
+use Rattle.init_core.specs.NoSets.{HasNoSets, RunsNoSets}
 
 -- what was done is allowed; a refusal is shown as its line; where memory was wanting nothing changed
 abbrev pub Answers : Result (List Entry) ApplyFault → World → World → (List Entry → World → Type 0) → Type 0

@@ -1,13 +1,14 @@
 //! The machine: a configuration, and events one at a time.
 #![tactic(auto)]
 
-mod actions;
+#[cfg(test)]
+mod cases;
 pub mod config;
-mod copies;
-mod ending;
-mod initiator;
 pub mod jobs;
-mod progress;
 mod queue;
+#[cfg(test)]
+mod refused;
 pub mod system;
+#[cfg(test)]
+mod tests;
 mod units;

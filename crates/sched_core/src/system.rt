@@ -6,14 +6,14 @@ ghost use Rattle.jcl_plan.specs.declared.entry.JobLine.TheVariants as line;
 ghost use Rattle.machine_meaning.specs.declared.machine.TheConstants.{MOST_JOBS};
 ghost use Rattle.machine_meaning.specs.Transitions.{Does, Reads, Transition, Turns, Writes, waits};
 ghost use Rattle.sched_core.specs.Jobs.{job_of};
-ghost use Rattle.sched_core.specs.Systems.{ActsAt, Answers, IsIdleAt, IsPlaceOf, IsTakenIn, RunsAt};
-ghost use Rattle.sched_core.specs.Todos.{HasNoSets};
+ghost use Rattle.sched_core.specs.Systems.{ActsAt, Answers, IsDriven, IsIdleAt, IsPlaceOf, IsTakenIn, RunsAt};
+ghost use Rattle.init_core.specs.NoSets.{HasNoSets};
 
 use crate::config::Config;
-use crate::copies::{entries_of, lines_of};
-use crate::initiator::act;
 use crate::jobs::job_of;
 use crate::queue::selected;
+use init_core::initiator::act;
+use init_core::listing::lines_of;
 use jcl_parse::refusal::ReadError;
 use jcl_plan::entry::{Entry, JobLine};
 use jcl_plan::fault::Cause;
@@ -46,6 +46,15 @@ impl From<AllocError> for ApplyFault {
     fn from(_error: AllocError) -> ApplyFault {
         ApplyFault::Memory
     }
+}
+
+/// What came of a list of events.
+#[derive(Debug, Drop)]
+pub struct Driven {
+    /// The lines of each event that was done.
+    pub entries: Vec<Listed<Entry>>,
+    /// How many events were done, counted from the first on.
+    pub done: usize,
 }
 
 /// The machine between two events.
@@ -163,8 +172,7 @@ impl System {
         requires number { job ≤ MOST_JOBS }
         ensures { Answers result self.old self.new (IsTakenIn self.old job plan) }
     {
-        let line = Some(first_line(&plan));
-        let lines = entries_of(self.alloc, job, &line)?;
+        let lines = one(self.alloc, Entry::Job(job, first_line(&plan)))?;
         let w = waiting_of(self.alloc, job, plan)?;
         let Ok(()) = self.waiting.push(w) else {
             return Err(ApplyFault::Memory);
@@ -206,11 +214,8 @@ impl System {
         let Some(from) = selected(self.waiting.as_slice(), classes.as_slice()) else {
             return Ok(Listed::empty(self.alloc));
         };
-        let lines = entries_of(
-            self.alloc,
-            self.waiting[from].job,
-            &Some(JobLine::Selected(number)),
-        )?;
+        let job = self.waiting[from].job;
+        let lines = one(self.alloc, Entry::Job(job, JobLine::Selected(number)))?;
         let mut listing = lines_of(self.alloc, self.waiting[from].listing.as_slice())?;
         listing.push(JobLine::Selected(number))?;
         let w = self.waiting.remove(from);
@@ -283,6 +288,38 @@ impl System {
             }
             Err(ApplyFault::Memory) => Err(AllocError),
         }
+    }
+
+    /// Events one after another, up to the first that wants memory. A refusal is shown as its line.
+    pub fn drive(&mut self, events: &[Event]) -> Driven
+        ensures { IsDriven self.old events.now result.entries.items result.done self.new }
+    {
+        let mut entries = Vec::new(self.alloc);
+        let mut done = 0;
+        for event in events {
+            let Ok(()) = entries.reserve(1) else {
+                return Driven { entries, done };
+            };
+            let Ok(lines) = self.apply_shown(event) else {
+                return Driven { entries, done };
+            };
+            entries.push_reserved(lines);
+            done += 1;
+        }
+        Driven { entries, done }
+    }
+
+    /// Takes the machine apart, with the jobs that it still has. It takes no memory.
+    pub fn close(self) {
+        let System {
+            alloc: _,
+            volumes: _,
+            initiators: _,
+            waiting: _,
+            spool: _,
+            jobs: _,
+            events: _,
+        } = self;
     }
 }
 

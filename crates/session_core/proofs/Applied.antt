@@ -10,7 +10,8 @@ use Rattle.machine_meaning.specs.Transitions.{Denoting, Runs, text_of_all}
 use Rattle.machine_meaning.specs.Worlds.{World}
 use Rattle.session_core.specs.Running.{AreApplied, IsApplied}
 
-pub Runs-append : (job : Denoting) (a b c : World) (es fs : List Event) (xs ys : List (List Entry)) → Runs job a es xs b → Runs job b fs ys c → Runs job a (es ++ fs) (xs ++ ys) c
+pub Runs-append : (job : Denoting) (a b c : World) (es fs : List Event) (xs ys : List (List Entry)) → Runs job a es xs b → Runs job b fs ys c
+    → Runs job a (es ++ fs) (xs ++ ys) c
 Runs-append job a b c [] fs [] ys first then = subst (λ w. Runs job w fs ys c) first then
 Runs-append job a b c (e ∷ es) fs (x ∷ xs) ys first then = (first.0, first.1, Runs-append job first.0 b c es fs xs ys first.2 then)
 Runs-append job a b c [] fs (x ∷ xs) ys first then = absurd first
@@ -22,11 +23,22 @@ text_of_all-append xs ys = flat_map-append (λ lines. flat_map text_of lines) xs
 pub AreApplied-none : (world : World) (text : List ℕ) → AreApplied world [] world text text
 AreApplied-none world text = record { entries = []; run = refl; text = sym (append-nil text) }
 
-pub AreApplied-append : (a b c : World) (es fs : List Event) (start mid end : List ℕ) → AreApplied a es b start mid → AreApplied b fs c mid end → AreApplied a (es ++ fs) c start end
+pub AreApplied-append : (a b c : World) (es fs : List Event) (start mid end : List ℕ) → AreApplied a es b start mid → AreApplied b fs c mid end
+    → AreApplied a (es ++ fs) c start end
 AreApplied-append a b c es fs start mid end first then = record {
   entries = first.entries ++ then.entries;
   run = Runs-append _ a b c es fs first.entries then.entries first.run then.run;
-  text = then.text ∙ ap (λ x. x ++ text_of_all then.entries) first.text ∙ append_assoc start (text_of_all first.entries) (text_of_all then.entries) ∙ ap (λ x. start ++ x) (sym (text_of_all-append first.entries then.entries));
+  text = then.text ∙ ap (λ x. x ++ text_of_all then.entries) first.text ∙ append_assoc start (text_of_all first.entries) (text_of_all then.entries) ∙
+      ap (λ x. start ++ x) (sym (text_of_all-append first.entries then.entries));
+}
+
+-- the same behind another text
+pub AreApplied-behind : (world after : World) (events : List Event) (out old new : List ℕ) → AreApplied world events after old new
+    → AreApplied world events after (out ++ old) (out ++ new)
+AreApplied-behind world after events out old new a = record {
+  entries = a.entries;
+  run = a.run;
+  text = ap (λ x. out ++ x) a.text ∙ sym (append_assoc out old (text_of_all a.entries));
 }
 
 AreApplied-one : (world after : World) (event : Event) (old new : List ℕ) → IsApplied world event after old new → AreApplied world (event ∷ []) after old new
@@ -37,7 +49,9 @@ AreApplied-one world after event old new one = record {
 }
 
 -- once more
-pub AreApplied-more : (world mid after : World) (event : Event) (done : ℕ) (start old new : List ℕ) → AreApplied world (replicate done event) mid start old → IsApplied mid event after old new
+pub AreApplied-more : (world mid after : World) (event : Event) (done : ℕ) (start old new : List ℕ)
+    → AreApplied world (replicate done event) mid start old → IsApplied mid event after old new
     → AreApplied world (replicate (done + 1) event) after start new
 AreApplied-more world mid after event done start old new first one =
-    rw (replicate_next done event) (AreApplied-append world mid after (replicate done event) (event ∷ []) start old new first (AreApplied-one mid after event old new one))
+    rw (replicate_next done event) (AreApplied-append world mid after (replicate done event) (event ∷ []) start old new first
+    (AreApplied-one mid after event old new one))

@@ -1,5 +1,5 @@
 -- Where the lines of each statement begin in a listing.
-use Rattle.std.specs.Prelude.{◌≡◌, ℕ, List, [], ◌∷◌, ◌++◌, length}
+use Rattle.std.specs.Prelude.{◌≡◌, ℕ, ◌+◌, List, [], ◌∷◌, ◌++◌, length}
 use Rattle.session_text.specs.declared.statement.Statement.{Statement}
 use Rattle.session_core.specs.declared.listing.Mark.{Mark}
 use Rattle.session_core.specs.Listings.{Lists, ListsUpTo}
@@ -15,9 +15,9 @@ pub record IsListedLast (stands : List Statement) (line : ℕ) (earlier listing 
   pub lists : ListsUpTo before statement listing
   pub lists_earlier : Lists before (events_of before) earlier
 
--- these statements wrote this text, each its own part, behind what was listed earlier
-abbrev pub AreMarks : List Statement → List ℕ → List Mark → List ℕ → Type 0
-AreMarks stands earlier [] text = text ≡ []
-AreMarks stands earlier (mark ∷ marks) text =
-    (part : List ℕ) × (rest : List ℕ) × (text ≡ part ++ rest) × (mark.start ≡ length earlier) × IsListedLast stands mark.line earlier (earlier ++ part)
-    × AreMarks stands (earlier ++ part) marks rest
+-- these statements wrote this text, each its own part, behind what was listed earlier; the marks count from behind the first bytes of that
+abbrev pub AreMarks : List Statement → ℕ → List ℕ → List Mark → List ℕ → Type 0
+AreMarks stands out earlier [] text = text ≡ []
+AreMarks stands out earlier (mark ∷ marks) text =
+    (part : List ℕ) × (rest : List ℕ) × (text ≡ part ++ rest) × (out + mark.start ≡ length earlier) × IsListedLast stands mark.line earlier (earlier ++ part)
+    × AreMarks stands out (earlier ++ part) marks rest

@@ -3,6 +3,8 @@
 
 mod configure;
 mod listing;
+#[cfg(test)]
+mod refused;
 mod run;
 mod stream;
 #[cfg(test)]
@@ -12,7 +14,6 @@ ghost use Rattle.std.specs.Prelude.{◌≡◌};
 ghost use Rattle.session_core.specs.Numbers.{number_and_line};
 ghost use Rattle.session_core.specs.Outcomes.{IsSession};
 
-use crate::listing::Listing;
 use session_text::fault::Fault;
 use session_text::parse::statements;
 use std::alloc::Global;
@@ -67,7 +68,7 @@ impl SessionFault {
     }
 }
 
-/// Reads a session, runs it, and writes its listing. After a failed call the reader or the writer is not called again.
+/// Reads a session, runs it, and writes its listing while it runs. After a failed call the reader or the writer is not called again.
 pub fn run_session<R: Read, W: Write>(
     alloc: Global,
     reader: &mut R,
@@ -83,7 +84,5 @@ pub fn run_session<R: Read, W: Write>(
     let Ok(statements) = statements(alloc, input.text.as_slice(), input.ending) else {
         return Err(SessionFault::Memory);
     };
-    let mut listing = Listing::empty(alloc);
-    let outcome = run::run(alloc, statements.as_slice(), &mut listing);
-    listing::write_listing(writer, &listing, outcome)
+    run::run(alloc, statements.as_slice(), writer)
 }

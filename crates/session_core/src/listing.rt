@@ -1,29 +1,38 @@
-//! A listing, and where the lines of each statement begin in it.
-ghost use Rattle.std.specs.Prelude.{◌≡◌, ◌<◌, ℕ, [], List, length, take};
+//! The lines that are not written yet, and which statements wrote them.
+ghost use Rattle.std.specs.Prelude.{◌≡◌, ◌<◌, ◌++◌, ℕ, [], Err, IfErr, List, OnErr, OnOk, length, take};
 ghost use Rattle.std.specs.Io.KnownBytes.{Appends};
+ghost use Rattle.std.specs.List.{flat_map};
+ghost use Rattle.jcl_plan.specs.Lines.{text_of};
 ghost use Rattle.session_text.specs.declared.statement.Statement.{Statement};
 ghost use Rattle.session_core.specs.Listings.{StopsIn};
 ghost use Rattle.session_core.specs.Marks.{AreMarks};
 ghost use Rattle.session_core.specs.Outcomes.{IsOutcome};
 ghost use Rattle.session_core.specs.Sessions.{Session};
+ghost use Rattle.session_core.specs.declared.SessionEnd.{SessionEnd};
 
 use crate::stream::write_text;
 use crate::{SessionEnd, SessionFault};
-use std::alloc::Global;
+use jcl_plan::entry::Entry;
+use std::alloc::{AllocError, Global};
 use std::io::Write;
 
-/// Where the lines of a statement begin, and its own first line.
+/// So many bytes of lines are written out before the next statement runs.
+pub(crate) const MOST_HELD: usize = 65_536;
+
+/// Where the lines of a statement begin in the held text, and its own first line.
 #[derive(Clone, Copy, Debug)]
 pub(crate) struct Mark {
     pub(crate) line: usize,
     pub(crate) start: usize,
 }
 
-/// A text, and the statements that wrote it, in order.
+/// The text that is held, and the statements that wrote it, in order.
 #[derive(Drop)]
 pub(crate) struct Listing {
     pub(crate) text: Vec<u8>,
     pub(crate) marks: Vec<Mark>,
+    /// Room for the lines of one event, which are held whole or not at all.
+    lines: Vec<u8>,
 }
 
 impl Listing {
@@ -34,13 +43,75 @@ impl Listing {
         Listing {
             text: Vec::new(alloc),
             marks: Vec::new(alloc),
+            lines: Vec::new(alloc),
+        }
+    }
+
+    /// Holds the lines too, or none of them.
+    pub(crate) fn add(&mut self, entries: &[Entry]) -> Result<(), AllocError>
+        ensures ok { OnOk result (self.new.text.items ≡ self.old.text.items ++ flat_map text_of entries.now) }
+        ensures err { OnErr result (self.new.text.items ≡ self.old.text.items) }
+        ensures marks { self.new.marks.items ≡ self.old.marks.items }
+    {
+        write_lines(entries, &mut self.lines)?;
+        self.text.extend_from_slice(self.lines.as_slice())
+    }
+
+    /// Writes what is held, and holds nothing then. An `Err` is what the session comes to where the writer takes a part of it alone.
+    pub(crate) fn write_out<W: Write>(&mut self, writer: &mut W) -> Result<(), SessionFault>
+        ensures ok { OnOk result (Appends (W.contents writer.old) (W.contents writer.new) self.old.text.items) }
+        ensures text { OnOk result (self.new.text.items ≡ []) }
+        ensures marks { OnOk result (self.new.marks.items ≡ []) }
+        ensures err { IfErr result (λ fault. (s : Session) (before : List ℕ) →
+            AreMarks s.stands (length before) before self.old.marks.items self.old.text.items →
+            (written : List ℕ) × Appends (W.contents writer.old) (W.contents writer.new) written ×
+            IsOutcome {T = SessionEnd} s (Err fault) (before ++ written)) }
+    {
+        match write_text(writer, self.text.as_slice()) {
+            Ok(()) => {
+                self.text.clear();
+                self.marks.clear();
+                Ok(())
+            }
+            Err(taken) => {
+                let line = line_at(self.marks.as_slice(), taken);
+                Err(SessionFault::WriteFailed(line))
+            }
+        }
+    }
+
+    /// Writes what is held, and then answers with what the session came to.
+    pub(crate) fn end<W: Write>(
+        &mut self,
+        writer: &mut W,
+        outcome: Result<SessionEnd, SessionFault>,
+    ) -> Result<SessionEnd, SessionFault>
+        ensures { (s : Session) (before : List ℕ) → IsOutcome s outcome (before ++ self.old.text.items) →
+            AreMarks s.stands (length before) before self.old.marks.items self.old.text.items →
+            (written : List ℕ) × Appends (W.contents writer.old) (W.contents writer.new) written × IsOutcome s result (before ++ written) }
+    {
+        match self.write_out(writer) {
+            Ok(()) => outcome,
+            Err(fault) => Err(fault),
         }
     }
 }
 
+/// The text of the lines, in place of what stood there.
+fn write_lines(entries: &[Entry], text: &mut Vec<u8>) -> Result<(), AllocError>
+    ensures { OnOk result (text.new.items ≡ flat_map text_of entries.now) }
+{
+    text.clear();
+    for entry in entries {
+        entry.write_to(text)?;
+    }
+    Ok(())
+}
+
 /// The line of the statement whose lines have the byte behind these.
 fn line_at(marks: &[Mark], taken: usize) -> usize
-    ensures { (stands : List Statement) (text : List ℕ) → AreMarks stands [] marks.now text → taken < length text → StopsIn stands result (take taken text) }
+    ensures { (stands : List Statement) (before text : List ℕ) → AreMarks stands (length before) before marks.now text → taken < length text →
+        StopsIn stands result (before ++ take taken text) }
 {
     let mut line = 0;
     for mark in marks {
@@ -50,22 +121,4 @@ fn line_at(marks: &[Mark], taken: usize) -> usize
         line = mark.line;
     }
     line
-}
-
-/// Writes the listing, and then answers with what the session came to.
-pub(crate) fn write_listing<W: Write>(
-    writer: &mut W,
-    listing: &Listing,
-    outcome: Result<SessionEnd, SessionFault>,
-) -> Result<SessionEnd, SessionFault>
-    ensures { (s : Session) → IsOutcome s outcome listing.now.text.items → AreMarks s.stands [] listing.now.marks.items listing.now.text.items →
-        (written : List ℕ) × Appends (W.contents writer.old) (W.contents writer.new) written × IsOutcome s result written }
-{
-    match write_text(writer, listing.text.as_slice()) {
-        Ok(()) => outcome,
-        Err(taken) => {
-            let line = line_at(listing.marks.as_slice(), taken);
-            Err(SessionFault::WriteFailed(line))
-        }
-    }
 }

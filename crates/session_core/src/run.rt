@@ -1,70 +1,52 @@
 //! The events of the statements, and their lines.
-ghost use Rattle.std.specs.Prelude.{◌≡◌, [], IfOk, OnErr, OnOk, replicate};
-ghost use Rattle.std.specs.List.{flat_map};
-ghost use Rattle.jcl_plan.specs.Lines.{text_of};
+ghost use Rattle.std.specs.Prelude.{◌≡◌, ℕ, [], List, OnErr, OnOk, replicate};
+ghost use Rattle.std.specs.Io.KnownBytes.{Appends};
 ghost use Rattle.machine_meaning.specs.Configs.{start_of};
 ghost use Rattle.session_core.specs.Configuring.{IsConfigured};
-ghost use Rattle.session_core.specs.Marks.{AreMarks};
 ghost use Rattle.session_core.specs.Outcomes.{IsOutcome};
 ghost use Rattle.session_core.specs.Running.{AreApplied, AreAppliedInPart, IsApplied, StatementRuns};
 ghost use Rattle.session_core.specs.Sessions.{session_behind};
 
 use crate::configure::{configure, late_fault};
-use crate::listing::{Listing, Mark};
+use crate::listing::{Listing, MOST_HELD, Mark};
 use crate::{SessionEnd, SessionFault};
-use jcl_plan::entry::Entry;
 use machine_meaning::event::Event;
 use sched_core::config::Config;
 use sched_core::system::System;
 use session_text::statement::{Says, Statement};
 use std::alloc::{AllocError, Global};
-
-fn text_of(alloc: Global, entries: &[Entry]) -> Result<Vec<u8>, AllocError>
-    ensures { IfOk result (λ v. v.items ≡ flat_map text_of entries.now) }
-{
-    let mut text = Vec::new(alloc);
-    for entry in entries {
-        entry.write_to(&mut text)?;
-    }
-    Ok(text)
-}
+use std::io::Write;
 
 /// Applies an event and lists its lines, or lists nothing.
-fn run_event(
-    alloc: Global,
-    system: &mut System,
-    event: &Event,
-    text: &mut Vec<u8>,
-) -> Result<(), AllocError>
-    ensures ok { OnOk result (IsApplied system.old event.now system.new text.old.items text.new.items) }
-    ensures err { OnErr result (text.new.items ≡ text.old.items) }
+fn run_event(system: &mut System, event: &Event, listing: &mut Listing) -> Result<(), AllocError>
+    ensures ok { OnOk result (IsApplied system.old event.now system.new listing.old.text.items listing.new.text.items) }
+    ensures err { OnErr result (listing.new.text.items ≡ listing.old.text.items) }
+    ensures marks { listing.new.marks.items ≡ listing.old.marks.items }
 {
     let entries = system.apply_shown(event)?;
-    let lines = text_of(alloc, entries.as_slice())?;
-    text.extend_from_slice(lines.as_slice())
+    listing.add(entries.as_slice())
 }
 
 /// Applies an event so many times and lists its lines. With an `Err` it lists those of the first times.
 fn run_events(
-    alloc: Global,
     system: &mut System,
     event: &Event,
     times: u16,
-    text: &mut Vec<u8>,
+    listing: &mut Listing,
 ) -> Result<(), AllocError>
-    ensures ok { OnOk result (AreApplied system.old (replicate times event.now) system.new text.old.items text.new.items) }
-    ensures err { OnErr result (AreAppliedInPart system.old event.now times text.old.items text.new.items) }
+    ensures ok { OnOk result (AreApplied system.old (replicate times event.now) system.new listing.old.text.items listing.new.text.items) }
+    ensures err { OnErr result (AreAppliedInPart system.old event.now times listing.old.text.items listing.new.text.items) }
+    ensures marks { listing.new.marks.items ≡ listing.old.marks.items }
 {
     for done in 0..times {
         let _ = done;
-        run_event(alloc, system, event, text)?;
+        run_event(system, event, listing)?;
     }
     Ok(())
 }
 
 /// Runs a statement behind the configuration, and lists its lines.
 fn run_statement(
-    alloc: Global,
     statement: &Statement,
     config: &mut Config,
     system: &mut System,
@@ -81,7 +63,7 @@ fn run_statement(
             let Ok(()) = listing.marks.push(Mark { line, start }) else {
                 return Err(SessionFault::Memory);
             };
-            match run_events(alloc, system, event, *times, &mut listing.text) {
+            match run_events(system, event, *times, listing) {
                 Ok(()) => Ok(()),
                 Err(_) => Err(SessionFault::Memory),
             }
@@ -91,42 +73,46 @@ fn run_statement(
     }
 }
 
-/// Runs the statements from the first event on, and lists their lines.
-fn run_from(
+/// Runs the statements from the first event on, and writes their lines.
+fn run_from<W: Write>(
     alloc: Global,
     statements: &[Statement],
     from: usize,
     config: &mut Config,
     system: &mut System,
-    listing: &mut Listing,
+    writer: &mut W,
 ) -> Result<SessionEnd, SessionFault>
     requires configured { IsConfigured statements.now from config.old }
     requires started { system.old ≡ start_of config.old }
-    requires text { listing.old.text.items ≡ [] }
-    requires marks { listing.old.marks.items ≡ [] }
-    ensures outcome { IsOutcome (session_behind [] statements.now) result listing.new.text.items }
-    ensures marks { AreMarks (session_behind [] statements.now).stands [] listing.new.marks.items listing.new.text.items }
+    ensures { (written : List ℕ) × Appends (W.contents writer.old) (W.contents writer.new) written ×
+        IsOutcome (session_behind [] statements.now) result written }
 {
+    let mut listing = Listing::empty(alloc);
     let (_, rest) = statements.split_at(from);
     for statement in rest {
-        match run_statement(alloc, statement, config, system, listing) {
+        match run_statement(statement, config, system, &mut listing) {
+            Ok(()) => {}
+            Err(fault) => return listing.end(writer, Err(fault)),
+        }
+        if listing.text.len() < MOST_HELD {
+            continue;
+        }
+        match listing.write_out(writer) {
             Ok(()) => {}
             Err(fault) => return Err(fault),
         }
     }
-    Ok(SessionEnd)
+    listing.end(writer, Ok(SessionEnd))
 }
 
-/// Runs the statements up to the first fault, and lists their lines.
-pub(crate) fn run(
+/// Runs the statements up to the first fault, and writes their lines.
+pub(crate) fn run<W: Write>(
     alloc: Global,
     statements: &[Statement],
-    listing: &mut Listing,
+    writer: &mut W,
 ) -> Result<SessionEnd, SessionFault>
-    requires text { listing.old.text.items ≡ [] }
-    requires marks { listing.old.marks.items ≡ [] }
-    ensures outcome { IsOutcome (session_behind [] statements.now) result listing.new.text.items }
-    ensures marks { AreMarks (session_behind [] statements.now).stands [] listing.new.marks.items listing.new.text.items }
+    ensures { (written : List ℕ) × Appends (W.contents writer.old) (W.contents writer.new) written ×
+        IsOutcome (session_behind [] statements.now) result written }
 {
     let mut config = Config::new(alloc);
     let from = match configure(&mut config, statements) {
@@ -136,5 +122,5 @@ pub(crate) fn run(
     let Ok(mut system) = System::new(alloc, &config) else {
         return Err(SessionFault::Memory);
     };
-    run_from(alloc, statements, from, &mut config, &mut system, listing)
+    run_from(alloc, statements, from, &mut config, &mut system, writer)
 }

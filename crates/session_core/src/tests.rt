@@ -2,14 +2,14 @@
 ghost use Rattle.std.specs.Prelude.{Some};
 
 use crate::{MOST_BYTES, Options, RiskChoice, SessionEnd, SessionFault, run_session};
-use std::alloc::Global;
+use std::alloc::{AllocError, Global};
 use std::io;
 use std::io::{ErrorKind, Read, Write};
 use std::test::Fail;
 
 /// Gives a byte at a time, and fails at one of its calls.
 #[derive(Drop)]
-struct Drip<'a> {
+pub(crate) struct Drip<'a> {
     bytes: &'a [u8],
     calls: usize,
     fails_at: usize,
@@ -60,7 +60,7 @@ impl Write for Sink {
     }
 }
 
-const OPTIONS: Options = Options {
+pub(crate) const OPTIONS: Options = Options {
     risk: RiskChoice::Run,
     views: 1024,
 };
@@ -75,7 +75,7 @@ fn empty_sink(alloc: Global) -> Sink {
     }
 }
 
-fn drip_of(bytes: &[u8]) -> Drip<'_> {
+pub(crate) fn drip_of(bytes: &[u8]) -> Drip<'_> {
     Drip {
         bytes,
         calls: 0,
@@ -188,7 +188,7 @@ fn lists_sessions(rt: HostRuntime) -> Result<(), Fail> {
     Ok(())
 }
 
-const TURNS: &[u8] = b"./ TURN 1\n./ WRITE A\n./ TURN 2*2\n";
+pub(crate) const TURNS: &[u8] = b"./ TURN 1\n./ WRITE A\n./ TURN 2*2\n";
 
 /// The line of the statement that a failed read cuts, when so many bytes were read.
 fn line_read(bytes: usize) -> usize {
@@ -242,6 +242,75 @@ fn fails_at_each_write(rt: HostRuntime) -> Result<(), Fail> {
             assert_eq!(rt; result, Err(SessionFault::WriteFailed(line)), "at {call}");
             assert_eq!(rt; writer.calls, call);
             assert_eq!(rt; writer.held.len(), 7 * (call - 1));
+        }
+    }
+    Ok(())
+}
+
+/// A configuration of one line, and so many statements of a thousand refused events, each on a line of its own.
+fn long_session(alloc: Global, statements: usize) -> Result<Vec<u8>, AllocError> {
+    let mut text = Vec::from_slice(alloc, b"./ INIT 1 A\n")?;
+    for _ in 0..statements {
+        text.extend_from_slice(b"./ TURN 2*1000\n")?;
+    }
+    Ok(text)
+}
+
+/// Of 66 times 1,000 events the first 65,535 name an unknown initiator, and the others come past the last event.
+#[test]
+fn writes_while_it_runs(rt: HostRuntime) -> Result<(), Fail> {
+    let text = long_session(rt.alloc(), 66)?;
+    let mut reader = drip_of(text.as_slice());
+    let mut writer = empty_sink(rt.alloc());
+    let result = run_session(rt.alloc(), &mut reader, &mut writer, OPTIONS);
+    assert_eq!(rt; result, Ok(SessionEnd));
+    let listing = writer.held.as_slice();
+    assert_eq!(rt; listing.len(), 924_000);
+    for (number, line) in listing.chunks(14).enumerate() {
+        let expected = if number < 65_535 {
+            b"-- REFUSED A1\n"
+        } else {
+            b"-- REFUSED A5\n"
+        };
+        assert_eq!(rt; line, expected.as_slice(), "at {number}");
+    }
+    // the lines of five statements are more than a buffer holds; those of the last are written at the end
+    assert_eq!(rt; writer.calls, 14);
+    Ok(())
+}
+
+/// The bytes that a call takes, the call that takes none, the bytes taken before it, and the line that is told: each statement writes 14,000 bytes.
+const CUTS: &[(usize, usize, usize, usize)] = &[
+    (usize::MAX, 1, 0, 2),
+    (usize::MAX, 2, 70_000, 7),
+    (usize::MAX, 3, 140_000, 12),
+    (usize::MAX, 5, 280_000, 22),
+    (20_000, 2, 20_000, 3),
+    (20_000, 3, 40_000, 4),
+    (20_000, 4, 60_000, 6),
+    (20_000, 6, 90_000, 8),
+    (14_000, 2, 14_000, 3),
+    (13_999, 2, 13_999, 2),
+    (27_999, 5, 97_999, 8),
+];
+
+#[test]
+fn fails_while_it_runs(rt: HostRuntime) -> Result<(), Fail> {
+    let text = long_session(rt.alloc(), 22)?;
+    for (most, call, taken, line) in CUTS {
+        for fails in [false, true] {
+            let mut reader = drip_of(text.as_slice());
+            let mut writer = empty_sink(rt.alloc());
+            writer.most = *most;
+            writer.stops_at = *call;
+            writer.fails = fails;
+            let result = run_session(rt.alloc(), &mut reader, &mut writer, OPTIONS);
+            assert_eq!(rt; result, Err(SessionFault::WriteFailed(*line)), "at {call}");
+            assert_eq!(rt; writer.calls, *call);
+            assert_eq!(rt; writer.held.len(), *taken);
+            for line in writer.held.as_slice().chunks(14) {
+                assert!(rt; b"-- REFUSED A1\n".starts_with(line));
+            }
         }
     }
     Ok(())

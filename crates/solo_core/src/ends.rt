@@ -8,13 +8,13 @@ ghost use Rattle.jcl_meaning.specs.Names.{is_temporary};
 ghost use Rattle.jcl_meaning.specs.Plans.{conditional_meaning, normal_meaning, word_done};
 ghost use Rattle.jcl_meaning.specs.RequestActs.{head_or};
 ghost use Rattle.jcl_meaning.specs.Stores.{store_of};
-ghost use Rattle.jcl_meaning.specs.EndActs.{after_abend, as_ending, disposes, disposes_at, end_line, ended_with, finished, finishes, later_than, leaves, left_at, marked_later, passed_by, set_disposed, set_disposes, without_pass};
+ghost use Rattle.jcl_meaning.specs.EndActs.{after_abend, as_ending, disposes, disposes_at, end_line, ended_with, finished, finishes, leaves, left_at, passed_by, set_disposed, set_disposes, without_pass};
 ghost use Rattle.solo_core.specs.Runners.{Does, Sets, fixed_by, state_by};
 ghost use Rattle.jcl_meaning.specs.States.{goes, if_runs, others, with_own};
 ghost use Rattle.jcl_meaning.specs.Takes.{releases};
 
 use crate::runner::Runner;
-use jcl_meaning::disposition::{as_taken, fault_in, left_word};
+use jcl_meaning::ending::{as_ending, end_line, marked_later};
 use jcl_meaning::history::is_abend;
 use jcl_meaning::names::is_temporary;
 use jcl_meaning::state::{DdState, Disposed, Ended, Output, Passed, TakenSet};
@@ -25,30 +25,8 @@ use jcl_plan::plan::{DdKind, DdPlan, Record, SetPlan, Space, Word};
 use jcl_plan::words::DispWord;
 use jname_core::name8::Name8;
 use plain::listed::Listed;
-use std::alloc::{AllocError, Global};
-
-/// What is no end counts as code 0.
-fn as_ending(outcome: &Outcome) -> Outcome
-    ensures { result ≡ as_ending outcome.now }
-{
-    match outcome {
-        Outcome::Code(code) => Outcome::Code(*code),
-        Outcome::Abend(abend) => Outcome::Abend(*abend),
-        Outcome::Bypassed => Outcome::Code(Code::zero()),
-        Outcome::Flushed => Outcome::Code(Code::zero()),
-    }
-}
-
-fn end_line(outcome: &Outcome) -> JobLine
-    ensures { result ≡ end_line outcome.now }
-{
-    match outcome {
-        Outcome::Code(code) => JobLine::Code(*code),
-        Outcome::Abend(abend) => JobLine::Abend(*abend),
-        Outcome::Bypassed => JobLine::Code(Code::zero()),
-        Outcome::Flushed => JobLine::Code(Code::zero()),
-    }
-}
+use std::alloc::AllocError;
+use store_core::disposition::{as_taken, change, cut, disposed_by, fault_in, left_word};
 
 fn after_abend(over: &Option<Outcome>) -> bool
     ensures { result ≡ after_abend over.now }
@@ -66,31 +44,6 @@ fn releases(space: &Option<Space>) -> bool
         None => false,
         Some(space) => space.release,
     }
-}
-
-fn later_than(n: usize, p: &Passed) -> Passed
-    ensures { result ≡ later_than n p.now }
-{
-    Passed {
-        key: p.key,
-        serial: p.serial,
-        made: p.made,
-        by_catalog: p.by_catalog,
-        step: p.step,
-        dd: p.dd,
-        abend_later: p.abend_later || p.step < n,
-    }
-}
-
-/// An ABEND comes later for what earlier steps passed.
-fn marked_later(alloc: Global, n: usize, passed: &[Passed]) -> Result<Listed<Passed>, AllocError>
-    ensures { IfOk result (λ l. l ≡ marked_later n passed.now) }
-{
-    let mut marked = Listed::empty(alloc);
-    for p in passed {
-        marked.push(later_than(n, p))?;
-    }
-    Ok(marked)
 }
 
 /// What a DD passed and no DD received.
@@ -319,7 +272,7 @@ impl<'a> Runner<'a> {
     ) -> Result<(), AllocError>
         ensures { OnOk result (Does (set_disposed (fixed_by self.old) n dd name.now p.now t.now (state_by self.old) (disposed_by word (store_of self.old.store) t.now self.old.date)) self.old self.new) }
     {
-        let disposed = self.store.disposed_by(self.alloc, word, t, self.date)?;
+        let disposed = disposed_by(self.alloc, &self.store, word, t, self.date)?;
         self.set_disposed(n, dd, name, p, t, disposed)?;
         Ok(())
     }
@@ -335,10 +288,16 @@ impl<'a> Runner<'a> {
     ) -> Result<(), AllocError>
         ensures { OnOk result (Does (set_disposed (fixed_by self.old) n dd name.now p.now t.now (state_by self.old) disposed) self.old self.new) }
     {
-        self.store
-            .change(self.alloc, disposed.change, &t.key, t.serial, self.date)?;
+        change(
+            self.alloc,
+            &mut self.store,
+            disposed.change,
+            &t.key,
+            t.serial,
+            self.date,
+        )?;
         if releases(&p.space) {
-            self.store.cut(self.alloc, &t.key, t.serial)?;
+            cut(self.alloc, &mut self.store, &t.key, t.serial)?;
         }
         if disposed.passes {
             self.own.passed.push(Passed {
@@ -387,11 +346,15 @@ impl<'a> Runner<'a> {
         let temporary = is_temporary(&q.key);
         let conditional = conditional_meaning(temporary, p.conditional);
         let word = left_word(temporary, q.abend_later, conditional, q.made);
-        let disposed = self
-            .store
-            .disposed_by(self.alloc, word, &as_taken(q), self.date)?;
-        self.store
-            .change(self.alloc, disposed.change, &q.key, q.serial, self.date)?;
+        let disposed = disposed_by(self.alloc, &self.store, word, &as_taken(q), self.date)?;
+        change(
+            self.alloc,
+            &mut self.store,
+            disposed.change,
+            &q.key,
+            q.serial,
+            self.date,
+        )?;
         drop_pass(&mut self.own.passed, n, dd);
         self.clean = self.clean && fault_in(disposed.word).is_none();
         self.lines.push(JobLine::Left {

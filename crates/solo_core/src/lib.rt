@@ -5,39 +5,20 @@ mod ends;
 mod requests;
 mod runner;
 mod steps;
-#[cfg(test)]
-mod tests;
 
 ghost use Rattle.std.specs.Prelude.{◌≡◌, IfOk};
-ghost use Rattle.jcl_meaning.specs.Solo.{IsRun, nothing_own, solo_of, solo_path_of};
+ghost use Rattle.jcl_meaning.specs.Solo.{IsRun, solo_of, solo_path_of};
 
 use crate::runner::Runner;
 use jcl_meaning::program::{SoloProgram, endings};
 use jcl_meaning::solo::{SoloAnswers, SoloRun};
-use jcl_meaning::state::{Own, Place};
+use jcl_meaning::state::{Place, nothing_own};
 use jcl_meaning::store::SoloStore;
 use jcl_plan::day::Day;
 use jcl_plan::outcome::Outcome;
 use jcl_plan::plan::JobPlan;
 use plain::listed::Listed;
 use std::alloc::{AllocError, Global};
-
-fn nothing_own(alloc: Global) -> Own
-    ensures { result ≡ nothing_own }
-{
-    Own {
-        passed: Listed::empty(alloc),
-        ended: Listed::empty(alloc),
-        faulted: false,
-        volumes: Listed::empty(alloc),
-        outputs: Listed::empty(alloc),
-        runs: false,
-        over: None,
-        dds: Listed::empty(alloc),
-        due: None,
-        lines: 0,
-    }
-}
 
 /// The solo meaning of a job: the lines that it writes alone, after its admission, in this store, with these places for its sets to be
 /// made, these programs, answers and date.

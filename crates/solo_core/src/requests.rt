@@ -11,7 +11,7 @@ ghost use Rattle.jcl_meaning.specs.Takes.{secondary_of};
 
 use crate::runner::Runner;
 use jcl_meaning::program::Move;
-use jcl_meaning::source::{FoundRecord, dd_of, is_concatenated, located, members_at, sources};
+use jcl_meaning::source::FoundRecord;
 use jcl_meaning::state::{DdState, Due, Own, TakenSet};
 use jcl_meaning::store::{DataSet, RECORDS_A_TRACK, SoloStore};
 use jcl_plan::entry::JobLine;
@@ -20,6 +20,8 @@ use jcl_plan::plan::{DdKind, DdPlan, Record, SetPlan, Space, Status, StepPlan};
 use jname_core::name8::Name8;
 use plain::listed::Listed;
 use std::alloc::{AllocError, Global};
+use store_core::source::{dd_of, is_concatenated, located, members_at, sources};
+use store_core::store::{put_set, set_in};
 
 /// The next number of lines.
 fn one_more(lines: usize) -> Result<usize, AllocError>
@@ -91,7 +93,7 @@ fn set_to_write(
 ) -> Result<DataSet, AllocError>
     ensures { IfOk result (λ x. x ≡ emptied empties (or_nothing (set_in store.now.sets t.now.key t.now.serial))) }
 {
-    let Some(set) = store.set(&t.key, t.serial) else {
+    let Some(set) = set_in(store, &t.key, t.serial) else {
         return Ok(DataSet {
             tracks: 0,
             expires: None,
@@ -227,7 +229,7 @@ impl<'a> Runner<'a> {
     fn put_set(&mut self, t: &TakenSet, set: DataSet) -> Result<(), AllocError>
         ensures { OnOk result (Sets (with_set_at (state_by self.old) t.now set) self.old self.new) }
     {
-        self.store.put_set(self.alloc, &t.key, t.serial, set)?;
+        put_set(self.alloc, &mut self.store, &t.key, t.serial, set)?;
         Ok(())
     }
 
@@ -505,7 +507,7 @@ impl<'a> Runner<'a> {
         };
         let mut set = set_to_write(self.alloc, &self.store, &t, false)?;
         set.records.push(*text)?;
-        self.store.put_set(self.alloc, &t.key, t.serial, set)
+        put_set(self.alloc, &mut self.store, &t.key, t.serial, set)
     }
 }
 

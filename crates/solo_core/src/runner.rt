@@ -8,15 +8,11 @@ ghost use Rattle.jcl_meaning.specs.TakeActs.{decided, decision_at, new_dd, refus
 ghost use Rattle.jcl_meaning.specs.Takes.{primary_of, without_passed};
 ghost use Rattle.jcl_meaning.specs.declared.take.Decision.TheVariants.{Takes};
 
-use jcl_meaning::disposition::{back_word, is_deleted_back};
 use jcl_meaning::history::{abended, fate, is_run, some_satisfied};
 use jcl_meaning::names::{is_temporary, same_key};
 use jcl_meaning::state::{DdState, DdVolume, Own, Passed, Place, Resolution, TakenSet};
 use jcl_meaning::store::{DataSet, SoloStore};
-use jcl_meaning::take::{
-    Decision, How, Target, day_of, decide, first_passed, is_known, looked_at, taken, target_of,
-    where_of,
-};
+use jcl_meaning::take::{Decision, How, Target};
 use jcl_plan::day::Day;
 use jcl_plan::entry::JobLine;
 use jcl_plan::fault::Fault;
@@ -29,6 +25,11 @@ use jname_core::serial::Serial;
 use plain::listed::Listed;
 use std::alloc::{AllocError, Global};
 use std::mem;
+use store_core::disposition::{back_word, is_deleted_back};
+use store_core::store::{catalogued, is_there, put_set, resolution_of, scratch};
+use store_core::take::{
+    day_of, decide, first_passed, is_known, looked_at, taken, target_of, where_of,
+};
 
 /// A job on its way: what is fixed for it, the answers that are left, and what it has done.
 #[derive(Drop)]
@@ -131,7 +132,7 @@ impl<'a> Runner<'a> {
     ) -> Result<(), AllocError>
         ensures { OnOk result (Does (takes_set (fixed_by self.old) n dd name.now p.now (state_by self.old) (resolution_of (store_of self.old.start.now) p.now.key)) self.old self.new) }
     {
-        match self.start.resolution_of(&p.key) {
+        match resolution_of(self.start, &p.key) {
             Resolution::Fails(fault) => self.refuse(n, dd, fault),
             Resolution::Means(key) => self.take_key(n, dd, name, p, &key),
         }
@@ -145,7 +146,7 @@ impl<'a> Runner<'a> {
             p.status,
             where_of(&p.volume, &self.store, passed, self.own.volumes.as_slice()),
             first_passed(passed, key),
-            self.store.catalogued(key),
+            catalogued(&self.store, key),
             place_of(self.places, n, dd),
         )
     }
@@ -155,7 +156,7 @@ impl<'a> Runner<'a> {
     {
         let serial = looked_at(target);
         let known = is_known(self.start.volumes.as_slice(), &serial);
-        let there = self.store.is_there(key, &serial);
+        let there = is_there(&self.store, key, &serial);
         let space = p.space.is_some();
         decide(target, known, there, space, true)
     }
@@ -224,7 +225,7 @@ impl<'a> Runner<'a> {
                     expires: day_of(p.expiry, is_temporary(key), self.date),
                     records: Listed::empty(self.alloc),
                 };
-                self.store.put_set(self.alloc, key, serial, set)
+                put_set(self.alloc, &mut self.store, key, serial, set)
             }
             How::Found => Ok(()),
             How::FoundByCatalog => Ok(()),
@@ -263,7 +264,7 @@ impl<'a> Runner<'a> {
         };
         let deleted = is_deleted_back(&t);
         if deleted {
-            self.store.scratch(self.alloc, &t.key, t.serial);
+            scratch(self.alloc, &mut self.store, &t.key, t.serial);
         }
         self.lines.push(JobLine::Back {
             dd: x.number,

@@ -1,6 +1,7 @@
-use Rattle.std.proofs.Common.{replicate}
+use Rattle.std.proofs.Common.{◌≡◌, replicate}
 use Rattle.session_core.specs.Running.{AreApplied}
 use Rattle.session_core.proofs.run.run_events.Given as goal
 
 abbrev pub invariant-loop-done : goal.invariant-loop-done
-invariant-loop-done l = AreApplied l.fn.system (replicate l.done l.event) l.system l.fn.text.items l.text.items
+invariant-loop-done l =
+    AreApplied l.fn.system (replicate l.done l.event) l.system l.fn.listing.text.items l.listing.text.items × (l.listing.marks.items ≡ l.fn.listing.marks.items)

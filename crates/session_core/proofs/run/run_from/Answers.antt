@@ -1,38 +1,61 @@
-use Rattle.std.proofs.Common.{add-zero}
-use Rattle.session_core.proofs.Progress.{Progress-ends, Progress-fails, Progress-runs, Progress-start}
-use Rattle.session_core.proofs.Standing.{rest_at, rest_done}
+use Rattle.std.proofs.Common.{[], ◌++◌, Err, add-zero}
+use Rattle.session_core.specs.declared.SessionEnd.{SessionEnd}
+use Rattle.session_core.specs.Sessions.{session_behind}
+use Rattle.session_core.proofs.Progress.{Progress-ends, Progress-last, Progress-next, Progress-start, Progress-written, written_behind}
+use Rattle.session_core.proofs.Standing.{rest_done}
+use Rattle.session_core.proofs.Streams.{appended_none, appended_twice}
 use Rattle.session_core.proofs.run.run_from.Goals as goal
 
 pub loop-statement-init : goal.loop-statement-init
-loop-statement-init c = rw add-zero (Progress-start c.args.statements.now c.args.from c.args.config.now c.args.system.now c.args.listing.now.marks.items c.args.listing.now.text.items c.requires.configured c.requires.started c.requires.marks c.requires.text)
-
-pub returns-in-Err-clause-outcome : goal.returns-in-Err-clause-outcome
-returns-in-Err-clause-outcome c =
+loop-statement-init g c =
     let all = c.args.statements.now in
-    let s = c.statement-item.result in
-    let at = rest_at all c.split_at.result.1.now c.args.from c.loop-statement.statement-index s c.split_at.ensures.back c.loop-statement-test.true c.statement-item.is in
-    let p = rw at.0 at c.loop-statement.invariant in
-    (Progress-fails all _ _ s c.loop-statement.config c.loop-statement.system c.loop-statement.listing.marks.items c.loop-statement.listing.text.items p c.in-Err.fault c.run_statement.new.system c.run_statement.new.listing.marks.items c.run_statement.new.listing.text.items c.in-Err.ensures.runs).outcome
+    let none = c.empty-listing.ensures in
+    ([], appended_none _, rw add-zero (Progress-start all c.args.from _ _ _ _ c.requires.configured c.requires.started none.marks none.text))
 
-pub returns-in-Err-clause-marks : goal.returns-in-Err-clause-marks
-returns-in-Err-clause-marks c =
+-- a statement stops the session
+pub returns-in-Err : goal.returns-in-Err
+returns-in-Err g c =
     let all = c.args.statements.now in
-    let s = c.statement-item.result in
-    let at = rest_at all c.split_at.result.1.now c.args.from c.loop-statement.statement-index s c.split_at.ensures.back c.loop-statement-test.true c.statement-item.is in
-    let p = rw at.0 at c.loop-statement.invariant in
-    (Progress-fails all _ _ s c.loop-statement.config c.loop-statement.system c.loop-statement.listing.marks.items c.loop-statement.listing.text.items p c.in-Err.fault c.run_statement.new.system c.run_statement.new.listing.marks.items c.run_statement.new.listing.text.items c.in-Err.ensures.runs).marked
+    let so_far = c.loop-statement.invariant in
+    let new = c.run_statement.new in
+    let last = Progress-last all _ _ _ _ c.split_at.ensures.back c.loop-statement-test.true c.statement-item.is _ _ new.system so_far.0 _
+    new.listing.marks.items _ new.listing.text.items c.in-Err.fault so_far.2 c.in-Err.ensures.runs in
+    written_behind (session_behind [] all) _ _ _ c.end.result so_far.0 so_far.1 (c.end.ensures (session_behind [] all) so_far.0 last.outcome last.marked)
 
+-- its lines are held
+pub loop-statement-preserved-then-len-lt-MOST_HELD : goal.loop-statement-preserved-then-len-lt-MOST_HELD
+loop-statement-preserved-then-len-lt-MOST_HELD g c =
+    let so_far = c.loop-statement.invariant in
+    let new = c.run_statement.new in
+    let next = Progress-next c.args.statements.now _ _ _ _ c.split_at.ensures.back c.loop-statement-test.true c.statement-item.is _ new.config _
+    new.system so_far.0 _ new.listing.marks.items _ new.listing.text.items c.in-Ok.ensures.config so_far.2 c.in-Ok.ensures.runs in
+    (so_far.0, so_far.1, next)
+
+-- the held lines are not written whole
+pub returns-in-Err-write_out : goal.returns-in-Err-write_out
+returns-in-Err-write_out g c =
+    let all = c.args.statements.now in
+    let so_far = c.loop-statement.invariant in
+    let new = c.run_statement.new in
+    let next = Progress-next all _ _ _ _ c.split_at.ensures.back c.loop-statement-test.true c.statement-item.is _ new.config _ new.system so_far.0 _
+    new.listing.marks.items _ new.listing.text.items c.in-Ok.ensures.config so_far.2 c.in-Ok.ensures.runs in
+    written_behind {T = SessionEnd} (session_behind [] all) _ _ _ (Err c.in-Err-write_out.fault) so_far.0 so_far.1
+    (c.in-Err-write_out.ensures.err (session_behind [] all) so_far.0 next.marked)
+
+-- they are
 pub loop-statement-preserved : goal.loop-statement-preserved
-loop-statement-preserved c =
-    let all = c.args.statements.now in
-    let s = c.statement-item.result in
-    let at = rest_at all c.split_at.result.1.now c.args.from c.loop-statement.statement-index s c.split_at.ensures.back c.loop-statement-test.true c.statement-item.is in
-    let p = rw at.0 at c.loop-statement.invariant in
-    rw (at.1, c.in-Ok.ensures.config) (Progress-runs all _ _ s c.loop-statement.config c.loop-statement.system c.loop-statement.listing.marks.items c.loop-statement.listing.text.items p c.run_statement.new.system c.run_statement.new.listing.marks.items c.run_statement.new.listing.text.items c.in-Ok.ensures.runs)
+loop-statement-preserved g c =
+    let so_far = c.loop-statement.invariant in
+    let new = c.run_statement.new in
+    let next = Progress-next c.args.statements.now _ _ _ _ c.split_at.ensures.back c.loop-statement-test.true c.statement-item.is _ new.config _
+    new.system so_far.0 _ new.listing.marks.items _ new.listing.text.items c.in-Ok.ensures.config so_far.2 c.in-Ok.ensures.runs in
+    let out = c.in-Ok-write_out.ensures in
+    (so_far.0 ++ new.listing.text.items, appended_twice _ _ _ _ _ so_far.1 out.ok, Progress-written _ _ _ _ _ _ _ _ _ _ next out.marks out.text)
 
 pub returns : goal.returns
-returns c =
+returns g c =
     let all = c.args.statements.now in
-    let done = rest_done all c.split_at.result.1.now c.args.from c.loop-statement.statement-index c.split_at.ensures.back c.loop-statement-test.false in
-    let p = rw done at c.loop-statement.invariant in
-    record { outcome = Progress-ends all _ _ _ _ c.loop-statement.listing.text.items p; marks = p.marked }
+    let so_far = c.loop-statement.invariant in
+    let done = rest_done all _ _ _ c.split_at.ensures.back c.loop-statement-test.false in
+    let ends = Progress-ends all _ _ _ so_far.0 _ _ (record {}) (rw done at so_far.2) in
+    written_behind (session_behind [] all) _ _ _ c.end-2.result so_far.0 so_far.1 (c.end-2.ensures (session_behind [] all) so_far.0 ends.outcome ends.marked)

@@ -5,7 +5,7 @@ use Rattle.machine_meaning.specs.declared.machine.Waiting.{Waiting}
 use Rattle.machine_meaning.specs.Queues.{IsSelected}
 use Rattle.machine_meaning.specs.Worlds.{of_job}
 use Rattle.sched_core.specs.Selection.{IsSelectedAt}
-use Rattle.sched_core.proofs.Acting.{read_at, same_at}
+use Rattle.sched_core.proofs.Places.{read_at, same_at}
 use Rattle.sched_core.proofs.Selecting.{kept_selected, selects, waiting_at}
 use Rattle.sched_core.proofs.system.System.select.Goals as goal
 

@@ -1,0 +1,4 @@
+pub mod NoSets
+pub mod Todos
+pub mod Initiators
+pub mod Steps

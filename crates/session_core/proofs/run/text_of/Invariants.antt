@@ -1,6 +1,0 @@
-use Rattle.std.proofs.Common.{◌≡◌, flat_map, take}
-use Rattle.jcl_plan.specs.Lines.{text_of}
-use Rattle.session_core.proofs.run.text_of.Given as goal
-
-abbrev pub invariant-loop-entry : goal.invariant-loop-entry
-invariant-loop-entry l = l.text.items ≡ flat_map text_of (take l.entry-index l.entries)

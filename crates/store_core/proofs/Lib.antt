@@ -1,0 +1,3 @@
+mod Groups
+mod Keys
+mod StoreLists

@@ -1,0 +1,8 @@
+//! What a job does to its store alone: a DD's set is looked for and taken, read, and disposed of. (GC28-6704: DISP, VOLUME, the catalog;
+//! the order of faults is this profile's)
+#![tactic(auto)]
+
+pub mod disposition;
+pub mod source;
+pub mod store;
+pub mod take;

@@ -1,0 +1,291 @@
+//! What a store has: its sets, by volume and key, and its catalog.
+ghost use Rattle.std.specs.Prelude.{◌≡◌, ◌<◌, ◌≤◌, Some, None, IfSome, OnOk, OnSome, length};
+ghost use Rattle.std.specs.Option.{option_copied};
+ghost use Rattle.group_core.specs.Entries.{volume_in};
+ghost use Rattle.group_core.specs.Groups.{without};
+ghost use Rattle.jname_core.specs.Generations.{base_of};
+ghost use Rattle.jname_core.specs.declared.key.Key.TheVariants as key;
+ghost use Rattle.jcl_meaning.specs.Lists.{is_at, is_of, member_copied, without_entries, without_sets};
+ghost use Rattle.jcl_meaning.specs.Stores.{catalogued, entry_in, group_of, is_later, is_unexpired, member_of, name_entered, resolution_of, set_in, store_of, uncatalogued, volume_of, with_entry, with_set};
+ghost use Rattle.jcl_meaning.specs.Takes.{is_there};
+
+use group_core::entry::CatEntry;
+use group_core::group::{Group, GroupFault};
+use jcl_meaning::names::same_key;
+use jcl_meaning::state::Resolution;
+use jcl_meaning::store::{DataSet, SoloEntry, SoloSet, SoloStore};
+use jcl_plan::day::Day;
+use jcl_plan::fault::Fault;
+use jname_core::ds_name::{DsName, MOST_OF_A_BASE};
+use jname_core::key::{Key, Sign};
+use jname_core::serial::Serial;
+use plain::listed::Listed;
+use std::alloc::{AllocError, Global};
+use std::mem;
+
+fn is_at(key: &Key, serial: Serial, x: &SoloSet) -> bool
+    ensures { result ≡ is_at key.now serial x.now }
+{
+    same_key(key, &x.key) && serial.as_slice() == x.serial.as_slice()
+}
+
+fn is_of(name: &DsName, x: &SoloEntry) -> bool
+    ensures { result ≡ is_of name.now x.now }
+{
+    name.as_slice() == x.name.as_slice()
+}
+
+fn is_later(set: &DataSet, date: Day) -> bool
+    ensures { result ≡ is_later set.now.expires date }
+{
+    match set.expires {
+        None => false,
+        Some(day) => date.number() < day,
+    }
+}
+
+/// The set of a key on a volume.
+pub fn set_in<'a>(store: &'a SoloStore, key: &Key, serial: Serial) -> Option<&'a DataSet>
+    ensures { option_copied result ≡ set_in store.now.sets key.now serial }
+{
+    for x in store.sets.as_slice() {
+        if is_at(key, serial, x) {
+            return Some(&x.set);
+        }
+    }
+    None
+}
+
+/// Whether the set of a key is on a volume; on no volume there is none.
+pub fn is_there(store: &SoloStore, key: &Key, serial: &Option<Serial>) -> bool
+    ensures { result ≡ is_there (store_of store.now) key.now serial.now }
+{
+    match serial {
+        None => false,
+        Some(serial) => set_in(store, key, *serial).is_some(),
+    }
+}
+
+/// Whether the day of a set, if it has one, is later than today.
+pub(crate) fn is_unexpired(store: &SoloStore, key: &Key, serial: Serial, date: Day) -> bool
+    ensures { result ≡ is_unexpired (set_in store.now.sets key.now serial) date }
+{
+    match set_in(store, key, serial) {
+        None => false,
+        Some(set) => is_later(set, date),
+    }
+}
+
+/// What the catalog has for a name.
+pub fn entry_in<'a>(store: &'a SoloStore, name: &DsName) -> Option<&'a CatEntry>
+    ensures { option_copied result ≡ entry_in store.now.catalog name.now }
+{
+    for x in store.catalog.as_slice() {
+        if is_of(name, x) {
+            return Some(&x.entry);
+        }
+    }
+    None
+}
+
+/// The group of a base.
+pub(crate) fn group_of<'a>(store: &'a SoloStore, base: &DsName) -> Option<&'a Group>
+    ensures { option_copied result ≡ group_of (store_of store.now) base.now }
+{
+    match entry_in(store, base) {
+        Some(CatEntry::Group(group)) => Some(group),
+        Some(CatEntry::Volume(_)) => None,
+        None => None,
+    }
+}
+
+/// The volume of a name's own entry.
+pub(crate) fn own_volume(store: &SoloStore, name: &DsName) -> Option<Serial>
+    ensures { result ≡ volume_in (entry_in store.now.catalog name.now) }
+{
+    match entry_in(store, name) {
+        Some(CatEntry::Volume(serial)) => Some(*serial),
+        Some(CatEntry::Group(_)) => None,
+        None => None,
+    }
+}
+
+/// The number of a name in the group of its base, and that group.
+pub(crate) fn member_of<'a>(store: &'a SoloStore, name: &DsName) -> Option<(u16, &'a Group)>
+    ensures member { member_copied result ≡ member_of (store_of store.now) name.now }
+    ensures range { IfSome result (λ m. (0 < m.0) × (m.0 ≤ 9999)) }
+    ensures short { OnSome result (length (base_of name.now) ≤ 35) }
+{
+    let number = name.generation_of()?;
+    if number == 0 {
+        return None;
+    }
+    let group = group_of(store, &name.base_of())?;
+    Some((number, group))
+}
+
+/// The volume that the catalog has for a name.
+pub(crate) fn volume_of(store: &SoloStore, name: &DsName) -> Option<Serial>
+    ensures { result ≡ volume_of (store_of store.now) name.now }
+{
+    match member_of(store, name) {
+        Some((number, group)) => group.find(number),
+        None => own_volume(store, name),
+    }
+}
+
+/// The volume that the catalog has for a key; temporary sets are in no catalog.
+pub fn catalogued(store: &SoloStore, key: &Key) -> Option<Serial>
+    ensures { result ≡ catalogued (store_of store.now) key.now }
+{
+    match key {
+        Key::Named(name) => volume_of(store, name),
+        Key::Relative { .. } => None,
+        Key::Temporary(_) => None,
+        Key::Unnamed { .. } => None,
+    }
+}
+
+/// What a key means: a relative number by the generations of its group.
+pub fn resolution_of(store: &SoloStore, key: &Key) -> Resolution
+    ensures { result ≡ resolution_of (store_of store.now) key.now }
+{
+    match key {
+        Key::Relative { base, sign, amount } => relative(store, base, *sign, *amount),
+        Key::Named(name) => Resolution::Means(Key::Named(*name)),
+        Key::Temporary(name) => Resolution::Means(Key::Temporary(*name)),
+        Key::Unnamed { step, dd } => Resolution::Means(Key::Unnamed {
+            step: *step,
+            dd: *dd,
+        }),
+    }
+}
+
+fn relative(store: &SoloStore, base: &DsName, sign: Sign, amount: u8) -> Resolution
+    ensures { result ≡ resolution_of (store_of store.now) (key.Relative base.now sign amount) }
+{
+    if base.as_slice().len() > MOST_OF_A_BASE {
+        return Resolution::Fails(Fault::F5);
+    }
+    let Some(group) = group_of(store, base) else {
+        return Resolution::Fails(Fault::F5);
+    };
+    match group.resolve(sign, amount) {
+        Ok(number) => match base.generation(number) {
+            Some(name) => Resolution::Means(Key::Named(name)),
+            None => Resolution::Fails(Fault::F5),
+        },
+        Err(GroupFault::TooHigh) => Resolution::Fails(Fault::F9),
+        Err(_) => Resolution::Fails(Fault::F5),
+    }
+}
+
+/// Takes the sets of a key off a volume.
+fn drop_sets(sets: &mut Vec<SoloSet>, key: &Key, serial: Serial)
+    ensures { sets.new.items ≡ without_sets sets.old.items key.now serial }
+{
+    sets.retain(|x| !is_at(key, serial, x));
+}
+
+fn drop_entries(entries: &mut Vec<SoloEntry>, name: &DsName)
+    ensures { entries.new.items ≡ without_entries entries.old.items name.now }
+{
+    entries.retain(|x| !is_of(name, x));
+}
+
+/// A group without a number.
+fn without_number(mut group: Group, number: u16) -> Group
+    ensures { result ≡ record group { generations = without group.generations number } }
+{
+    match group.remove(number) {
+        Ok(()) => group,
+        Err(_) => group,
+    }
+}
+
+/// Takes the set of a key off a volume.
+pub fn scratch(alloc: Global, store: &mut SoloStore, key: &Key, serial: Serial)
+    ensures sets { store_of store.new ≡ with_set (store_of store.old) key.now serial None }
+    ensures others { store.new ≡ record store.old { sets = without_sets store.old.sets key.now serial } }
+{
+    let mut sets = mem::replace(&mut store.sets, Listed::empty(alloc)).into_vec();
+    drop_sets(&mut sets, key, serial);
+    store.sets = Listed::new(sets);
+}
+
+/// Puts a set of a key on a volume, in place of any there. The error is want of memory.
+pub fn put_set(
+    alloc: Global,
+    store: &mut SoloStore,
+    key: &Key,
+    serial: Serial,
+    set: DataSet,
+) -> Result<(), AllocError>
+    ensures sets { OnOk result (store_of store.new ≡ with_set (store_of store.old) key.now serial (Some set)) }
+    ensures others { OnOk result (store.new.volumes ≡ store.old.volumes) }
+{
+    scratch(alloc, store, key, serial);
+    store.sets.push(SoloSet {
+        serial,
+        key: *key,
+        set,
+    })?;
+    Ok(())
+}
+
+fn remove_entry(alloc: Global, store: &mut SoloStore, name: &DsName)
+    ensures entry { store_of store.new ≡ with_entry (store_of store.old) name.now None }
+    ensures others { store.new ≡ record store.old { catalog = without_entries store.old.catalog name.now } }
+{
+    let mut entries = mem::replace(&mut store.catalog, Listed::empty(alloc)).into_vec();
+    drop_entries(&mut entries, name);
+    store.catalog = Listed::new(entries);
+}
+
+pub(crate) fn put_entry(
+    alloc: Global,
+    store: &mut SoloStore,
+    name: &DsName,
+    entry: CatEntry,
+) -> Result<(), AllocError>
+    ensures entry { OnOk result (store_of store.new ≡ with_entry (store_of store.old) name.now (Some entry)) }
+    ensures others { OnOk result (store.new.volumes ≡ store.old.volumes) }
+{
+    remove_entry(alloc, store, name);
+    store.catalog.push(SoloEntry { name: *name, entry })?;
+    Ok(())
+}
+
+/// Takes the entry of a key out of the catalog.
+pub(crate) fn uncatalog(alloc: Global, store: &mut SoloStore, key: &Key) -> Result<(), AllocError>
+    ensures entry { OnOk result (store_of store.new ≡ uncatalogued (store_of store.old) key.now) }
+    ensures others { OnOk result (store.new.volumes ≡ store.old.volumes) }
+{
+    let Key::Named(name) = key else {
+        return Ok(());
+    };
+    let Some((number, group)) = member_of(store, name) else {
+        remove_entry(alloc, store, name);
+        return Ok(());
+    };
+    let group = without_number(group.copy_of(alloc)?, number);
+    put_entry(alloc, store, &name.base_of(), CatEntry::Group(group))
+}
+
+/// Enters a key for a volume.
+pub(crate) fn catalog(
+    alloc: Global,
+    store: &mut SoloStore,
+    key: &Key,
+    serial: Serial,
+) -> Result<(), AllocError>
+    ensures entry { OnOk result (store_of store.new ≡ name_entered (store_of store.old) key.now serial) }
+    ensures others { OnOk result (store.new.volumes ≡ store.old.volumes) }
+{
+    match key {
+        Key::Named(name) => put_entry(alloc, store, name, CatEntry::Volume(serial)),
+        Key::Relative { .. } => Ok(()),
+        Key::Temporary(_) => Ok(()),
+        Key::Unnamed { .. } => Ok(()),
+    }
+}
