@@ -6,3 +6,4 @@ mod Places
 mod Selecting
 mod Denoted
 mod Driving
+mod Refusing

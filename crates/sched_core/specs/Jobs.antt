@@ -47,7 +47,8 @@ has_later_dd steps = list_any (λ step. list_any is_later_dd step.dds) steps
 abbrev pub is_later : List DeckStep → Bool
 is_later steps = nat_lt 1 (length steps) || has_later_dd steps
 
--- a DD; one for a set is not run
+-- The plan of a deck that is taken: `job_in` refuses the others below, so that what stands here for a set and for a called procedure is
+-- never looked at.
 abbrev pub kind_of : DdCardKind → DdKind
 kind_of (card.Cards cards) = Cards cards
 kind_of card.Dummy = Dummy

@@ -2,6 +2,7 @@
 use Rattle.std.specs.Prelude.{◌≡◌, ◌≢◌, ℕ, ◌≤◌, List, [], ◌∷◌, ◌++◌, length, take, slice_get, Some, None, Result, Ok, Err, All}
 use Rattle.jcl_plan.specs.declared.entry.Entry.{Entry}
 use Rattle.jcl_plan.specs.declared.entry.Entry.TheVariants as entry
+use Rattle.jcl_plan.specs.declared.fault.Cause.{Cause}
 use Rattle.machine_meaning.specs.declared.event.Event.{Event}
 use Rattle.machine_meaning.specs.declared.machine.Initiator.{Initiator}
 use Rattle.machine_meaning.specs.declared.machine.TheConstants.{MOST_EVENTS, MOST_JOBS}
@@ -19,6 +20,10 @@ abbrev pub Answers : Result (List Entry) ApplyFault → World → World → (Lis
 Answers (Ok lines) old new allows = allows lines new
 Answers (Err (Refused cause)) old new allows = allows (entry.Refused cause ∷ []) new
 Answers (Err Memory) old new allows = new ≡ old
+
+-- what the machine refuses is refused, and told as that, whether or not memory is wanting
+abbrev pub RefusesFirst : Result (List Entry) ApplyFault → (List Entry → World → Type 0) → Type 0
+RefusesFirst result allows = (cause : Cause) (new : World) → allows (entry.Refused cause ∷ []) new → result ≡ Err (Refused cause)
 
 -- what holds of a machine between events
 pub record IsKept (waiting : List Waiting) (initiators : List Initiator) (jobs events : ℕ) : Type 0 where

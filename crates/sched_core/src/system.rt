@@ -6,7 +6,7 @@ ghost use Rattle.jcl_plan.specs.declared.entry.JobLine.TheVariants as line;
 ghost use Rattle.machine_meaning.specs.declared.machine.TheConstants.{MOST_JOBS};
 ghost use Rattle.machine_meaning.specs.Transitions.{Does, Reads, Transition, Turns, Writes, waits};
 ghost use Rattle.sched_core.specs.Jobs.{job_of};
-ghost use Rattle.sched_core.specs.Systems.{ActsAt, Answers, IsDriven, IsIdleAt, IsPlaceOf, IsTakenIn, RunsAt};
+ghost use Rattle.sched_core.specs.Systems.{ActsAt, Answers, IsDriven, IsIdleAt, IsPlaceOf, IsTakenIn, RefusesFirst, RunsAt};
 ghost use Rattle.init_core.specs.NoSets.{HasNoSets};
 
 use crate::config::Config;
@@ -149,7 +149,8 @@ impl System {
 
     /// A deck is read.
     fn read(&mut self, deck: &[Text]) -> Result<Listed<Entry>, ApplyFault>
-        ensures { Answers result self.old self.new (Reads job_of self.old deck.now) }
+        ensures answer { Answers result self.old self.new (Reads job_of self.old deck.now) }
+        ensures refusal { RefusesFirst result (Reads job_of self.old deck.now) }
     {
         if MOST_JOBS <= self.jobs {
             return Err(ApplyFault::Refused(Cause::A(5)));
@@ -183,7 +184,8 @@ impl System {
 
     /// An initiator acts once.
     fn turn(&mut self, number: u8) -> Result<Listed<Entry>, ApplyFault>
-        ensures { Answers result self.old self.new (Turns self.old number) }
+        ensures answer { Answers result self.old self.new (Turns self.old number) }
+        ensures refusal { RefusesFirst result (Turns self.old number) }
     {
         let Some(place) = place_of(self.initiators.as_slice(), number) else {
             return Err(ApplyFault::Refused(Cause::A(1)));
@@ -248,7 +250,8 @@ impl System {
 
     /// An event that is not past the last.
     fn does(&mut self, event: &Event) -> Result<Listed<Entry>, ApplyFault>
-        ensures { Answers result self.old self.new (Does job_of self.old event.now) }
+        ensures answer { Answers result self.old self.new (Does job_of self.old event.now) }
+        ensures refusal { RefusesFirst result (Does job_of self.old event.now) }
     {
         match event {
             Event::Read(deck) => self.read(deck.as_slice()),
@@ -257,9 +260,10 @@ impl System {
         }
     }
 
-    /// One event. A refusal changes the count of events alone, want of memory nothing.
+    /// One event. A refusal changes the count of events alone and takes no memory; want of memory changes nothing.
     pub fn apply(&mut self, event: &Event) -> Result<Listed<Entry>, ApplyFault>
-        ensures { Answers result self.old self.new (Transition job_of self.old event.now) }
+        ensures answer { Answers result self.old self.new (Transition job_of self.old event.now) }
+        ensures refusal { RefusesFirst result (Transition job_of self.old event.now) }
     {
         if MOST_EVENTS <= self.events {
             return Err(ApplyFault::Refused(Cause::A(5)));

@@ -14,14 +14,14 @@ use Rattle.sched_core.proofs.system.System.read.Goals as goal
 pub take_in-requires-clause-sets : goal.take_in-requires-clause-sets
 take_in-requires-clause-sets c = denotes_none c.args.deck.now c.in-Ok.plan c.in-Ok.ensures
 
-pub returns-in_ok-lines-in-Err-Refused : goal.returns-in_ok-lines-in-Err-Refused
-returns-in_ok-lines-in-Err-Refused c =
+pub returns-in_ok-lines-in-Err-Refused-clause-answer : goal.returns-in_ok-lines-in-Err-Refused-clause-answer
+returns-in_ok-lines-in-Err-Refused-clause-answer c =
     let few : c.self.inside.jobs < MOST_JOBS = omega arith in
     let denied : Gives (λ (plan : JobPlan). plan) (Err (Refused c.in-Err-Refused.cause)) (job_of c.args.deck.now) = subst (λ e. Gives (λ (plan : JobPlan). plan) (Err e) (job_of c.args.deck.now)) c.in-Err-Refused.field-0-is c.in-Err-Refused.ensures in
     rw (← c.self.view_is) (rejected c.in-Err-Refused.cause few denied c.in_ok-lines-in-Err-Refused.ensures refl)
 
-pub returns-in-Ok : goal.returns-in-Ok
-returns-in-Ok c =
+pub returns-in-Ok-clause-answer : goal.returns-in-Ok-clause-answer
+returns-in-Ok-clause-answer c =
     let few : c.self.inside.jobs < MOST_JOBS = omega arith in
     let old : World = record {
       volumes = c.self.inside.volumes;
