@@ -101,4 +101,4 @@ agenda_setless plan h =
     (All-append IsSetless (steps_from (moves_of []) 1 plan.steps) (Action.Over ∷ []) (steps_setless 1 plan.steps h) (All-cons IsSetless Action.Over [] tt (All-nil IsSetless)))
 
 pub is_safe : (volumes : List (List ℕ)) (plan : JobPlan) → HasNoSets plan → IsSafe volumes plan
-is_safe volumes plan h = λ outcomes. ap (λ faults. length faults == 0) (run_clean (fixed_in volumes plan) (agenda plan []) _ (agenda_setless plan h))
+is_safe volumes plan h = λ outcomes within. ap (λ faults. length faults == 0) (run_clean (fixed_in volumes plan) (agenda plan []) _ (agenda_setless plan h))

@@ -1,5 +1,5 @@
 -- Completion codes of earlier steps, tests on them, and what becomes of a step. (GC28-6704, COND parameter)
-use Rattle.std.specs.Prelude.{ℕ, Bool, true, false, not, ◌&&◌, ◌==◌, nat_lt, nat_le, List, Option, Some, None}
+use Rattle.std.specs.Prelude.{ℕ, ◌≤◌, Bool, true, false, not, ◌&&◌, ◌==◌, nat_lt, nat_le, List, Option, Some, None}
 use Rattle.std.specs.List.{list_any}
 use Rattle.jcl_plan.specs.declared.outcome.Outcome.{Outcome}
 use Rattle.jcl_plan.specs.declared.outcome.Outcome.TheVariants.{Code, Abend, Bypassed, Flushed}
@@ -11,6 +11,13 @@ use Rattle.jcl_plan.specs.declared.plan.Operator.{Operator}
 use Rattle.jcl_plan.specs.declared.plan.Operator.TheVariants.{Gt, Ge, Eq, Lt, Le, Ne}
 use Rattle.jcl_plan.specs.declared.plan.Test.{Test}
 use Rattle.jcl_meaning.specs.declared.state.Ended.{Ended}
+
+-- what a step may come to: a completion code is 0 to 4095
+abbrev pub IsStepOutcome : Outcome → Type 0
+IsStepOutcome (Code completion) = completion ≤ 4095
+IsStepOutcome (Abend a) = Unit {0}
+IsStepOutcome Bypassed = Unit {0}
+IsStepOutcome Flushed = Unit {0}
 
 -- code operator completion-code
 abbrev pub holds : Operator → ℕ → ℕ → Bool

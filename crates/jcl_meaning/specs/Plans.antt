@@ -8,7 +8,7 @@ use Rattle.jcl_plan.specs.declared.plan.Word.{Word}
 use Rattle.jcl_plan.specs.declared.plan.Word.TheVariants as word
 use Rattle.jcl_meaning.specs.Names.{is_temporary}
 
--- a temporary set is not kept or catalogued: it is passed
+-- KEEP and CATLG on a temporary set mean to pass it, as the normal word
 abbrev pub normal_meaning : Bool → Option Word → Option Word
 normal_meaning true (Some word.Keep) = Some word.Pass
 normal_meaning true (Some word.Catlg) = Some word.Pass
@@ -20,7 +20,7 @@ as_word conditional.Keep = word.Keep
 as_word conditional.Catlg = word.Catlg
 as_word conditional.Uncatlg = word.Uncatlg
 
--- after an ABEND it is deleted
+-- and to delete it as the conditional one; other words mean what they say, and where none is coded the normal word is done
 abbrev pub conditional_meaning : Bool → Option ConditionalWord → Option Word
 conditional_meaning true (Some conditional.Keep) = Some word.Delete
 conditional_meaning true (Some conditional.Catlg) = Some word.Delete

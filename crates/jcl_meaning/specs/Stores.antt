@@ -89,7 +89,7 @@ resolution_of s (Named name) = Means (Named name)
 resolution_of s (Temporary name) = Means (Temporary name)
 resolution_of s (Unnamed step dd) = Means (Unnamed step dd)
 
--- a set is not to be deleted on or before its day
+-- a set with a day is not to be deleted before it; on its day it is expired
 abbrev pub is_later : Option ℕ → ℕ → Bool
 is_later None date = false
 is_later (Some day) date = nat_lt date day

@@ -1,10 +1,11 @@
 -- What of a store a job can see, and what a run sees behind each step. (This profile)
-use Rattle.std.specs.Prelude.{◌≡◌, ℕ, Bool, true, false, ◌&&◌, ◌||◌, ◌==◌, List, [], ◌∷◌, map, take, drop, Option, Some, None, if◌then◌else◌}
+use Rattle.std.specs.Prelude.{◌≡◌, ℕ, Bool, true, false, ◌&&◌, ◌==◌, List, [], ◌∷◌, map, take, drop, All, Option, Some, None, if◌then◌else◌}
 use Rattle.std.specs.List.{list_any}
 use Rattle.std.specs.Str.{bytes_eq}
 use Rattle.jname_core.specs.declared.key.Key.{Key}
 use Rattle.jname_core.specs.Generations.{base_of}
 use Rattle.group_core.specs.declared.entry.CatEntry.{CatEntry}
+use Rattle.group_core.specs.declared.entry.CatEntry.TheVariants.{Volume, Group}
 use Rattle.jcl_plan.specs.declared.outcome.Outcome.{Outcome}
 use Rattle.jcl_plan.specs.declared.plan.DdKind.{DdKind}
 use Rattle.jcl_plan.specs.declared.plan.DdKind.TheVariants.{Sysout, Dummy, Cards, Set}
@@ -19,7 +20,7 @@ use Rattle.jcl_meaning.specs.declared.state.Place.{Place}
 use Rattle.jcl_meaning.specs.declared.store.DataSet.{DataSet}
 use Rattle.jcl_meaning.specs.declared.store.SoloStore.{SoloStore}
 use Rattle.jcl_meaning.specs.Agendas.{steps_from}
-use Rattle.jcl_meaning.specs.History.{abended, satisfied}
+use Rattle.jcl_meaning.specs.History.{IsStepOutcome, abended, satisfied}
 use Rattle.jcl_meaning.specs.Names.{held_under, names_of}
 use Rattle.jcl_meaning.specs.Programs.{moves_of}
 use Rattle.jcl_meaning.specs.Solo.{Ran, fixed_of, fresh, given, is_clean, run}
@@ -38,15 +39,23 @@ is_held_by (Some name) names = is_among names name
 abbrev pub sees_key : List HeldName → Key → Bool
 sees_key names key = is_held_by (held_under key) names
 
--- a name whose entry it sees
-abbrev pub sees_name : List HeldName → List ℕ → Bool
-sees_name names name = is_among names (base_of name) || is_among names name
+-- that a name is a group's base, and nothing of its generations
+abbrev pub some_group : CatEntry
+some_group = Group (record { limit = 0; scratch = false; generations = [] })
+
+-- What it sees of a name's entry. A name is held under its base, which is the name itself where it is no generation. A volume is seen
+-- where the base is held; a group is seen whole where its own name is held, and else, where the base is, only that it is one.
+abbrev pub seen_entry : List HeldName → List ℕ → Option CatEntry → Option CatEntry
+seen_entry names name None = None
+seen_entry names name (Some (Volume serial)) = if is_among names (base_of name) then Some (Volume serial) else None
+seen_entry names name (Some (Group g)) =
+    if is_among names name then Some (Group g) else (if is_among names (base_of name) then Some some_group else None)
 
 -- the part of a store under names: the sets of those names on any volume, their entries, and the job's own sets
 abbrev pub part_of : List HeldName → Store → Store
 part_of names s = record {
   set = λ key serial. if sees_key names key then s.set key serial else None;
-  catalog = λ name. if sees_name names name then s.catalog name else None;
+  catalog = λ name. seen_entry names name (s.catalog name);
 }
 
 -- a set that is there, unexpired or not
@@ -108,5 +117,6 @@ view_of plan store places date k outcomes = view_at plan k date (ran_to plan sto
 -- the views behind the k-th step: those of all runs that come so far without a fault
 pub record IsViewAfter (plan : JobPlan) (store : SoloStore) (places : List Place) (date k : ℕ) (view : View) : Type 0 where
   pub outcomes : List Outcome
+  pub within : All IsStepOutcome outcomes
   pub without_fault : is_clean (ran_to plan store places date k outcomes) ≡ true
   pub seen : view ≡ view_of plan store places date k outcomes

@@ -12,7 +12,7 @@ use std::alloc::{AllocError, Global};
 /// How many records a track holds. (This profile)
 pub const RECORDS_A_TRACK: usize = 32;
 
-/// A set on a volume: its tracks, the day (from 1900/001 as 0) up to which it is not to be deleted, and its records.
+/// A set on a volume: its tracks, the day (from 1900/001 as 0) before which it is not to be deleted, and its records.
 #[derive(Debug, Drop)]
 pub struct DataSet {
     pub tracks: u64,

@@ -27,7 +27,7 @@ fn as_word(word: ConditionalWord) -> Word
     }
 }
 
-/// After an ABEND a temporary set is deleted.
+/// KEEP and CATLG coded as the conditional word of a temporary set mean DELETE.
 pub fn conditional_meaning(temporary: bool, conditional: Option<ConditionalWord>) -> Option<Word>
     ensures { result ≡ conditional_meaning temporary conditional }
 {

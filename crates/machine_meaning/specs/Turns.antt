@@ -1,11 +1,12 @@
 -- What a turn does for an admitted job: its actions up to the first that writes.
-use Rattle.std.specs.Prelude.{◌≡◌, ℕ, suc, true, List, [], ◌∷◌, map, drop, None}
+use Rattle.std.specs.Prelude.{◌≡◌, ℕ, suc, true, List, [], ◌∷◌, map, drop, None, All}
 use Rattle.jcl_plan.specs.declared.entry.JobLine.{JobLine}
 use Rattle.jcl_plan.specs.declared.outcome.Outcome.{Outcome}
 use Rattle.jcl_plan.specs.declared.plan.JobPlan.{JobPlan}
 use Rattle.jcl_meaning.specs.declared.program.SoloProgram.{SoloProgram}
 use Rattle.jcl_meaning.specs.Acts.{act}
 use Rattle.jcl_meaning.specs.Agendas.{Action, agenda, path_agenda}
+use Rattle.jcl_meaning.specs.History.{IsStepOutcome}
 use Rattle.jcl_meaning.specs.Programs.{ending_of}
 use Rattle.jcl_meaning.specs.Solo.{given, is_clean, nothing_own, run}
 use Rattle.jcl_meaning.specs.States.{Fixed, State}
@@ -63,7 +64,7 @@ progress_after a = record { done = a.done; outcomes = a.state.answers.outcomes; 
 abbrev pub advanced : List (List ℕ) → List SoloProgram → JobPlan → Progress → Advanced
 advanced volumes programs plan p = advance (fixed_in volumes plan) (drop p.done (agenda plan programs)) (state_in p) p.done
 
--- the job meets no fault, however its steps end
+-- in a store without sets the job meets no fault, whatever its steps come to
 abbrev pub IsSafe : List (List ℕ) → JobPlan → Type 0
-IsSafe volumes plan = (outcomes : List Outcome) →
+IsSafe volumes plan = (outcomes : List Outcome) → All IsStepOutcome outcomes →
     is_clean (run (fixed_in volumes plan) (path_agenda plan) (record { store = no_store; own = nothing_own; answers = given outcomes })) ≡ true

@@ -1,4 +1,4 @@
--- The machine at a moment.
+-- The machine at a moment. It has what jobs without data sets need: no store, no devices, no cancels, no tracks kept, no records of the queue.
 use Rattle.std.specs.Prelude.{◌≡◌, ◌≢◌, ℕ, ◌+◌, List, map, Option, Some, slice_get, slice_set, All}
 use Rattle.enq_core.specs.declared.table.Hold.{Hold}
 use Rattle.jcl_plan.specs.declared.entry.Entry.{Entry}

@@ -1,10 +1,14 @@
 -- Worked examples of views: the jobs, and what is seen behind their steps. (This profile)
 use Rattle.std.specs.Prelude.{◌≡◌, ℕ, true, false, List, [], ◌∷◌, codes, Option, Some, None}
-use Rattle.jname_core.specs.declared.key.Key.TheVariants.{Named, Temporary}
+use Rattle.jname_core.specs.declared.key.Key.{Key}
+use Rattle.jname_core.specs.declared.key.Key.TheVariants.{Named, Relative, Temporary}
+use Rattle.jname_core.specs.declared.key.Sign.TheVariants.{Plus}
+use Rattle.group_core.specs.declared.entry.CatEntry.{CatEntry}
 use Rattle.group_core.specs.declared.entry.CatEntry.TheVariants as entry
 use Rattle.jcl_plan.specs.declared.outcome.Abend.TheVariants as abend
 use Rattle.jcl_plan.specs.declared.outcome.Outcome.{Outcome}
 use Rattle.jcl_plan.specs.declared.outcome.Outcome.TheVariants.{Code, Abend}
+use Rattle.jcl_plan.specs.declared.fault.Fault.TheVariants.{F1}
 use Rattle.jcl_plan.specs.declared.plan.AfterAbend.TheVariants as after
 use Rattle.jcl_plan.specs.declared.plan.DdKind.TheVariants as kind
 use Rattle.jcl_plan.specs.declared.plan.DdPlan.{DdPlan}
@@ -24,7 +28,7 @@ use Rattle.jcl_meaning.specs.declared.store.SoloStore.{SoloStore}
 use Rattle.jcl_meaning.specs.Names.{names_of}
 use Rattle.jcl_meaning.specs.Solo.{is_clean}
 use Rattle.jcl_meaning.specs.Stores.{store_of}
-use Rattle.jcl_meaning.specs.Views.{View, part_of, ran_to, view_of}
+use Rattle.jcl_meaning.specs.Views.{IsViewAfter, View, part_of, ran_to, some_group, view_of}
 
 -- a step of IEFBR14 with one DD, T, for the temporary set &&T
 abbrev pub set_of_t : SetPlan
@@ -99,6 +103,7 @@ pub record BehindTheFirstStep : Type 0 where
   pub met : (seen 1 (Code 5 ∷ [])).step_tests ≡ (true ∷ []) ∷ [] ∷ []
   pub passed_so : (seen 1 (Code 5 ∷ [])).passed ≡ t_passed ∷ []
   pub by_abend : (seen 1 (Abend abend.S806 ∷ [])).abended ≡ true
+  pub is_view : IsViewAfter passing_job no_sets places 25567 1 (seen 1 (Code 5 ∷ []))
 
 pub record BehindTheSecondStep : Type 0 where
   pub deleted : (seen 2 (Code 0 ∷ Code 0 ∷ [])).sets (Temporary (codes "T")) serial ≡ None
@@ -107,8 +112,10 @@ pub record BehindTheSecondStep : Type 0 where
   pub there : (seen 2 (Code 5 ∷ Code 0 ∷ [])).sets (Temporary (codes "T")) serial ≡ Some false
   pub no_test_left : (seen 2 (Code 5 ∷ Code 0 ∷ [])).step_tests ≡ [] ∷ []
 
+-- four actions a step: its start, its take, its end and its disposition; the take of the third is the tenth
 pub record WithoutAWayOn : Type 0 where
   pub missed : is_clean (ran_to passing_job no_sets places 25567 3 (Code 0 ∷ Code 0 ∷ Code 0 ∷ [])) ≡ false
+  pub place : (ran_to passing_job no_sets places 25567 3 (Code 0 ∷ Code 0 ∷ Code 0 ∷ [])).faults ≡ record { place = 9; fault = F1 } ∷ []
   pub found : is_clean (ran_to passing_job no_sets places 25567 3 (Code 5 ∷ Code 0 ∷ Code 0 ∷ [])) ≡ true
 
 -- the second step makes a set on the volume of the first one's
@@ -154,3 +161,21 @@ pub record SeesItsPart : Type 0 where
   pub entered : (its_view 25567).catalog (codes "A.B") ≡ Some (entry.Volume serial)
   pub not_entered : (its_view 25567).catalog (codes "C.D") ≡ None
   pub part : (part_of (names_of naming_job) (store_of two_sets)).catalog (codes "C.D") ≡ None
+
+-- A.G0001V00 may be a generation of A, and the base of a group of its own: what a job that names this key sees of that entry
+abbrev pub base : List ℕ
+base = codes "A.G0001V00"
+
+abbrev pub seen_by : Key → CatEntry → Option CatEntry
+seen_by key e =
+    (part_of (names_of (job_of (step_of [] (dd_of (record set_of_t { key = key }) ∷ []) ∷ [])))
+    (store_of (record { volumes = serial ∷ []; sets = []; catalog = record { name = base; entry = e } ∷ [] }))).catalog base
+
+abbrev pub a_group : CatEntry
+a_group = entry.Group (record { limit = 5; scratch = true; generations = [] })
+
+pub record SeesABase : Type 0 where
+  pub own_group : seen_by (Relative base Plus 1) a_group ≡ Some a_group
+  pub no_volume : seen_by (Relative base Plus 1) (entry.Volume serial) ≡ None
+  pub that_it_is_one : seen_by (Named base) a_group ≡ Some some_group
+  pub own_volume : seen_by (Named base) (entry.Volume serial) ≡ Some (entry.Volume serial)

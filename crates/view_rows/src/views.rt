@@ -1,5 +1,5 @@
 //! A set that is passed, deleted where a test lets the second step run, and wanted by the third.
-ghost use Rattle.view_rows.specs.Examples.{BehindTheFirstStep, BehindTheSecondStep, WithoutAWayOn, Refers, SeesItsPart};
+ghost use Rattle.view_rows.specs.Examples.{BehindTheFirstStep, BehindTheSecondStep, WithoutAWayOn, Refers, SeesABase, SeesItsPart};
 
 /// Behind the first step the set is there and passed. The second step's test is met by a code over 4 alone, so there are two views.
 pub fn behind_the_first_step()
@@ -24,4 +24,9 @@ pub fn seen_while_referred()
 /// Of a store a job sees what is held under its names.
 pub fn sees_its_part()
     ensures { SeesItsPart }
+{}
+
+/// Of a group whose base is a generation's name it sees the numbers where it holds that base, and else that it is a group.
+pub fn sees_a_base()
+    ensures { SeesABase }
 {}

@@ -5,4 +5,4 @@ use Rattle.view_rows.proofs.views.without_a_way_on.Goals as goal
 
 pub returns : goal.returns
 unfolding run act
-returns c = record { missed = refl; found = refl }
+returns c = record { missed = refl; place = refl; found = refl }
