@@ -5,7 +5,7 @@ use Rattle.std.specs.Map.{lookup}
 use Rattle.std.specs.List.{AllByRecursion}
 use Rattle.std.specs.List.Sorted.{IsStrictlySortedBy}
 use Rattle.std.proofs.lemmas.Bool.{and_parts}
-use Rattle.std.specs.FinMap.{entries-from_sorted, find, from_sorted, get-from_sorted, is_sorted, keys, get, insert, remove, same_map, get-from_entries, get-insert, get-remove}
+use Rattle.std.specs.FinMap.{entries, entries-from_sorted, find, from_sorted, get-from_sorted, is_sorted, get, insert, remove, same_map, get-from_entries, get-insert, get-remove}
 use Rattle.std.proofs.lemmas.Cmp.{eq_by_cmp_equiv, nat_list_cmp_total}
 use Rattle.std.proofs.lemmas.Map.Lookups.{exact_bytes}
 use Rattle.group_core.specs.declared.entry.CatEntry.{CatEntry}
@@ -82,10 +82,10 @@ unfolding IsStrictlySortedBy
 sorted [] h = refl
 sorted (e ∷ es) h = sorted_behind e.0 e.1 es h.0 (sorted es h.1)
 
--- the names of the map that entries in order make are theirs
-pub names_of : (es : List (List ℕ × CatEntry)) → IsStrictlySortedBy name_cmp (map (λ e. e.0) es) → keys (contents_of es) ≡ map (λ e. e.0) es
-names_of es h =
+-- the entries of the map that entries in order make are these
+pub entries_of : (es : List (List ℕ × CatEntry)) → IsStrictlySortedBy name_cmp (map (λ e. e.0) es) → entries (contents_of es) ≡ es
+entries_of es h =
     let s : T (is_sorted name_cmp es) = subst T (sym (sorted es h)) tt in
     let same : contents_of es ≡ from_sorted es = same_map nat_list_cmp_total exact_bytes (contents_of es) (from_sorted es)
     (λ q. get-from_entries nat_list_cmp_total es q ∙ sym (get-from_sorted name_cmp es q s)) in
-    ap keys same ∙ ap (map (λ (e : List ℕ × CatEntry). e.0)) (entries-from_sorted name_cmp es s)
+    ap entries same ∙ entries-from_sorted name_cmp es s

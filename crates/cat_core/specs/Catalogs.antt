@@ -1,9 +1,9 @@
 -- What the catalog holds: a finite map from names to a volume or a group, and what each call means over it.
-use Rattle.std.specs.Prelude.{◌≡◌, ℕ, Bool, true, ◌&&◌, List, [], Option, Some, None, Result, Ok, Err, is_some, IsOk, if◌then◌else◌}
+use Rattle.std.specs.Prelude.{◌≡◌, ℕ, Bool, true, false, ◌&&◌, List, [], Option, Some, None, Result, Ok, Err, is_some, IsOk, if◌then◌else◌}
 use Rattle.std.specs.List.{list_any}
 use Rattle.std.specs.Str.{bytes_eq}
 use Rattle.std.specs.Coded.{Coded, coded_list, coded_ℕ}
-use Rattle.std.specs.FinMap.{FinMap, code, from_entries, get, insert, remove, keys}
+use Rattle.std.specs.FinMap.{FinMap, code, entries, from_entries, get, insert, remove}
 use Rattle.std.specs.Ordering.{nat_cmp}
 use Rattle.std.specs.declared.cmp.Ordering.{Ordering}
 use Rattle.std.specs.Cmp.Lexicographic.{slice_cmp}
@@ -140,12 +140,19 @@ without_name_by None c name = remove c name
 abbrev pub without_name : Contents → List ℕ → Contents
 without_name c name = without_name_by (member_of c name) c name
 
--- some plain entry is a generation of the base
+-- a generation of the base is entered as a plain name; a group whose base has that form is none
 abbrev pub is_generation_of : List ℕ → List ℕ → Bool
 is_generation_of base name = is_some (generation_of name) && bytes_eq (base_of name) base
 
+abbrev pub is_volume : CatEntry → Bool
+is_volume (Volume serial) = true
+is_volume (Group g) = false
+
+abbrev pub enters_generation_of : List ℕ → List ℕ × CatEntry → Bool
+enters_generation_of base e = is_volume e.1 && is_generation_of base e.0
+
 abbrev pub has_generation_entered : Contents → List ℕ → Bool
-has_generation_entered c base = list_any (is_generation_of base) (keys c)
+has_generation_entered c base = list_any (enters_generation_of base) (entries c)
 
 -- making a group
 abbrev pub group_made : Contents → List ℕ → Result (Unit {0}) CatFault

@@ -3,7 +3,7 @@ ghost use Rattle.std.specs.Prelude.{◌≡◌, ◌≢◌, ◌≤◌, ◌<◌, So
 ghost use Rattle.std.specs.Option.{option_copied, option_map};
 ghost use Rattle.std.specs.FinMap as map;
 ghost use Rattle.group_core.specs.Entries.{group_in, volume_in};
-ghost use Rattle.cat_core.specs.Catalogs.{Gives, catalog_fault, contents_of, entered_name, entry_with, entry_without, found, generation_entered, generation_entered_by, group_made, group_of, has_generation_entered, is_generation_of, is_entered, member_of, name_removed, number_removed, relative, with_generation, with_group, with_name, without_name, without_number};
+ghost use Rattle.cat_core.specs.Catalogs.{Gives, catalog_fault, contents_of, entered_name, entry_with, entry_without, found, generation_entered, generation_entered_by, group_made, group_of, has_generation_entered, is_entered, is_generation_of, is_volume, member_of, name_removed, number_removed, relative, with_generation, with_group, with_name, without_name, without_number};
 
 use crate::fault::CatFault;
 use group_core::entry::CatEntry;
@@ -62,11 +62,20 @@ fn is_generation_of(base: &DsName, name: &DsName) -> bool
     name.generation_of().is_some() && name.base_of() == *base
 }
 
-/// Whether a generation of the base is entered as a name of its own.
+fn is_volume(entry: &CatEntry) -> bool
+    ensures { result ≡ is_volume entry.now }
+{
+    match entry {
+        CatEntry::Volume(_) => true,
+        CatEntry::Group(_) => false,
+    }
+}
+
+/// Whether a generation of the base is entered as a plain name.
 fn has_generation_entered(entries: &Entries, base: &DsName) -> bool
     ensures { result ≡ has_generation_entered (contents_of entries.now.entries) base.now }
 {
-    entries.keys().any(|name| is_generation_of(base, name))
+    entries.iter().any(|(name, entry)| is_volume(entry) && is_generation_of(base, name))
 }
 
 /// Puts an entry at a name.

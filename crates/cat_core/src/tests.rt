@@ -123,6 +123,7 @@ fn a_generation_without_a_group_is_a_plain_name(rt: HostRuntime) -> Result<(), F
     assert_eq!(rt; group.find(2), Some(second));
     assert_eq!(rt; catalog.find(&inner), None);
     assert_eq!(rt; catalog.enter(inner, first), Err(CatFault::There));
+    assert_eq!(rt; catalog.make_group(rt.alloc(), base, 1, false), Ok(()));
     Ok(())
 }
 

@@ -45,7 +45,7 @@ pub struct Extent {
     pub tracks: u16,
 }
 
-/// A set on a volume: its extents in order, sixteen at most, and the day, counted from 1900/001 as 0, up to which it is not to be deleted.
+/// A set on a volume: its extents in order, sixteen at most, and the day, counted from 1900/001 as 0, before which it is not to be deleted.
 #[derive(Debug, Drop)]
 pub struct SetEntry {
     pub key: SetKey,

@@ -3,7 +3,7 @@ ghost use Rattle.std.specs.Prelude.{◌≡◌, ◌≢◌, ◌≤◌, ◌<◌, �
 ghost use Rattle.std.specs.Option.{option_copied};
 ghost use Rattle.vtoc_core.specs.Entries.{entry_of, with_extents_of, without_key};
 ghost use Rattle.vtoc_core.specs.Extents.{five_largest, free_extents, is_free_track, kept_front, past_front, planned, tracks_in};
-ghost use Rattle.vtoc_core.specs.Volumes.{AnswersGrow, AnswersMake, IsAside, count_of, first_tracks, marked};
+ghost use Rattle.vtoc_core.specs.Volumes.{AnswersGrow, AnswersMake, AreOf, IsAside, count_of, first_tracks, marked};
 ghost use Rattle.vtoc_core.specs.declared.entry.Extent.{Extent};
 ghost use Rattle.vtoc_core.specs.declared.entry.SetEntry.{SetEntry};
 ghost use Rattle.vtoc_core.specs.declared.volume.Track.TheVariants.{Free, Aside, InSet, Unusable};
@@ -114,6 +114,7 @@ impl Volume {
     /// refused exactly where the five largest do not hold them.
     pub fn reserve(&mut self, tracks: u16) -> Result<ExtentList, VolumeFault>
         ensures ok { IfOk result (λ list. planned (free_extents self.old.tracks) tracks ≡ Some list) }
+        ensures free { IfOk result (λ list. AreOf Free self.old.tracks list) }
         ensures aside { IfOk result (λ list. self.new ≡ record self.old { tracks = marked Aside list self.old.tracks }) }
         ensures list { IfOk result (λ list. IsAside self.new list × (tracks_in list ≡ tracks)) }
         ensures exactly { IsOk result ↔ (tracks ≤ five_largest (free_extents self.old.tracks)) }

@@ -19,6 +19,13 @@ invariant_of-self c =
     (omega (arith, length-marked Aside es ts))
     (sound_aside Free Aside v es free≢in_set aside≢in_set plan.free c.self.invariant)
 
+pub returns-in-Some-clause-free : goal.returns-in-Some-clause-free
+returns-in-Some-clause-free c =
+    let ts = c.self.inside.tracks.items in
+    let es = c.in-Some.extents.items in
+    let plan : IsPlan ts c.args.tracks es = planned_is ts c.args.tracks es (sym (ap (λ us. planned (free_extents us) c.args.tracks) c.as_slice.ensures.value) ∙ c.in-Some.ensures) in
+    subst (λ (us : List Track). AreOf Free us es) (ap (λ (w : VolumeState). w.tracks) c.self.view_is) plan.free
+
 pub returns-in-Some-clause-list : goal.returns-in-Some-clause-list
 returns-in-Some-clause-list c =
     let ts = c.self.inside.tracks.items in
