@@ -89,7 +89,14 @@ begins Null called card cards next = Ok []
 begins Jcl called card cards next = with_operand called card cards (operand_behind card cards) next
 begins Data called card cards next = loose called card cards next
 
--- the statements of these cards, behind so many that are used; called says whether an EXEC statement came before
+-- The statements of these cards, behind so many that are used; called says whether an EXEC statement came before. So with these cards
+--     //S1 EXEC PGM=IEFBR14      takes no more cards
+--     //A DD DUMMY,              takes one more, its continuation, which is passed over
+--     //   DCB=BLKSIZE=80
+--     //B DD *                   takes two more, its data and their delimiter, which are passed over
+--     HELLO
+--     /*
+-- there are three statements.
 abbrev pub statements_behind : Bool → ℕ → List Card → Statements
 statements_behind called used [] = Ok []
 statements_behind called (suc used) (card ∷ cards) = statements_behind called used cards

@@ -46,7 +46,7 @@ pub struct DdCard {
     pub kind: DdCardKind,
 }
 
-pub fn later_on_dd(key: &[u8]) -> bool
+pub(crate) fn later_on_dd(key: &[u8]) -> bool
     ensures { result ≡ later_on_dd key.now }
 {
     key == b"DSNAME".as_slice()
@@ -91,7 +91,7 @@ fn sysout_fault(value: Option<&[u8]>) -> Option<Cause>
     }
 }
 
-pub fn dd_keyword_fault(keyword: &Keyword<'_>) -> Option<Cause>
+pub(crate) fn dd_keyword_fault(keyword: &Keyword<'_>) -> Option<Cause>
     ensures { result ≡ told (dd_keyword_faults keyword.now) }
 {
     let key = keyword.key();
@@ -116,7 +116,7 @@ fn behind_period(name: &[u8]) -> &[u8]
 }
 
 #[tactic(auto, using(operand_core::proofs::Told::told_append))]
-pub fn dd_name_fault(name: &[u8]) -> Option<Cause>
+pub(crate) fn dd_name_fault(name: &[u8]) -> Option<Cause>
     ensures { result ≡ told (dd_name_faults name.now) }
 {
     if is_qualified(name) {
@@ -196,7 +196,10 @@ fn dd_operand_fault(operand: &Operand<'_>) -> Option<Cause>
 }
 
 /// The fault of a statement whose operand is read.
-pub fn own_dd_fault(alloc: Global, statement: &Statement) -> Result<Option<Cause>, AllocError>
+pub(crate) fn own_dd_fault(
+    alloc: Global,
+    statement: &Statement,
+) -> Result<Option<Cause>, AllocError>
     ensures { IfOk result (λ fault. fault ≡ told (own_dd_faults statement.now)) }
 {
     let operand = operand_of(alloc, 1, statement.operand.as_slice())?;
@@ -269,7 +272,7 @@ fn dd_name_of(name: &[u8]) -> Option<Name8>
 }
 
 /// The card of a statement without a fault.
-pub fn dd_card(alloc: Global, statement: &Statement) -> Result<DdCard, AllocError>
+pub(crate) fn dd_card(alloc: Global, statement: &Statement) -> Result<DdCard, AllocError>
     requires { told (own_dd_faults statement.now) ≡ None }
     ensures { IfOk result (λ card. card ≡ dd_card statement.now) }
 {

@@ -68,7 +68,7 @@ pub enum ExecKeyword {
     Symbol,
 }
 
-pub fn later_on_exec(key: &[u8]) -> bool
+pub(crate) fn later_on_exec(key: &[u8]) -> bool
     ensures { result ≡ later_on_exec key.now }
 {
     let head = head_of(key);
@@ -87,7 +87,7 @@ fn left_out_on_exec(key: &[u8]) -> bool
 }
 
 /// What a keyword is on a statement that calls a procedure or not.
-pub fn exec_keyword(calls: bool, key: &[u8]) -> ExecKeyword
+pub(crate) fn exec_keyword(calls: bool, key: &[u8]) -> ExecKeyword
     ensures { result ≡ exec_keyword calls key.now }
 {
     if key == b"PGM".as_slice() {
@@ -142,7 +142,7 @@ fn symbol_fault(key: &[u8]) -> Option<Cause>
     }
 }
 
-pub fn exec_keyword_fault(calls: bool, keyword: &Keyword<'_>) -> Option<Cause>
+pub(crate) fn exec_keyword_fault(calls: bool, keyword: &Keyword<'_>) -> Option<Cause>
     ensures { result ≡ told (exec_keyword_faults calls keyword.now) }
 {
     match exec_keyword(calls, keyword.key()) {
@@ -189,7 +189,10 @@ fn exec_operand_fault(operand: &Operand<'_>) -> Option<Cause>
 }
 
 /// The fault of a statement whose operand is read.
-pub fn own_exec_fault(alloc: Global, statement: &Statement) -> Result<Option<Cause>, AllocError>
+pub(crate) fn own_exec_fault(
+    alloc: Global,
+    statement: &Statement,
+) -> Result<Option<Cause>, AllocError>
     ensures { IfOk result (λ fault. fault ≡ told (own_exec_faults statement.now)) }
 {
     let operand = operand_of(alloc, 1, statement.operand.as_slice())?;
@@ -270,7 +273,7 @@ fn runs_of(
 }
 
 /// The card of a statement without a fault.
-pub fn exec_card(alloc: Global, statement: &Statement) -> Result<ExecCard, AllocError>
+pub(crate) fn exec_card(alloc: Global, statement: &Statement) -> Result<ExecCard, AllocError>
     requires { told (own_exec_faults statement.now) ≡ None }
     ensures { IfOk result (λ card. card ≡ exec_card statement.now) }
 {

@@ -33,7 +33,7 @@ pub struct JobCard {
     pub message_class: u8,
 }
 
-pub fn later_on_job(key: &[u8]) -> bool
+pub(crate) fn later_on_job(key: &[u8]) -> bool
     ensures { result ≡ later_on_job key.now }
 {
     key == b"COND".as_slice()
@@ -141,7 +141,7 @@ fn output_class_fault(value: Option<&[u8]>) -> Option<Cause>
     }
 }
 
-pub fn job_keyword_fault(keyword: &Keyword<'_>) -> Option<Cause>
+pub(crate) fn job_keyword_fault(keyword: &Keyword<'_>) -> Option<Cause>
     ensures { result ≡ told (job_keyword_faults keyword.now) }
 {
     let key = keyword.key();
@@ -178,7 +178,10 @@ fn job_operand_fault(operand: &Operand<'_>) -> Option<Cause>
 
 /// The fault of a statement whose operand is read.
 #[tactic(auto, using(operand_core::proofs::Told::told_append))]
-pub fn own_job_fault(alloc: Global, statement: &Statement) -> Result<Option<Cause>, AllocError>
+pub(crate) fn own_job_fault(
+    alloc: Global,
+    statement: &Statement,
+) -> Result<Option<Cause>, AllocError>
     ensures { IfOk result (λ fault. fault ≡ told (own_job_faults statement.now)) }
 {
     let operand = operand_of(alloc, 2, statement.operand.as_slice())?;
@@ -198,7 +201,7 @@ fn job_fault(alloc: Global, statement: &Statement) -> Result<Option<Cause>, Allo
 }
 
 /// The card of a statement without a fault.
-pub fn job_card(alloc: Global, statement: &Statement) -> Result<JobCard, AllocError>
+pub(crate) fn job_card(alloc: Global, statement: &Statement) -> Result<JobCard, AllocError>
     requires { told (own_job_faults statement.now) ≡ None }
     ensures { IfOk result (λ card. card ≡ job_card statement.now) }
 {

@@ -103,7 +103,7 @@ pub struct Space {
     pub release: bool,
 }
 
-/// Up to when a set that is made is not to be deleted. Days count from 1900/001 as 0. (LABEL parameter)
+/// Before which day a set that is made is not to be deleted. Days count from 1900/001 as 0. (LABEL parameter)
 #[derive(Clone, Copy, Debug, PartialEq, Eq)]
 pub enum Expiry {
     NotCoded,

@@ -58,15 +58,15 @@ fn trimmed_len(text: &[u8]) -> usize
     len
 }
 
-fn push_record(out: &mut Vec<u8>, record: &Record) -> Result<(), AllocError>
-    ensures { OnOk result (out.new.items ≡ out.old.items ++ behind_blank (trimmed record.now)) }
+fn push_record(out: &mut Vec<u8>, text: &Record) -> Result<(), AllocError>
+    ensures { OnOk result (out.new.items ≡ out.old.items ++ behind_blank (trimmed text.now)) }
 {
-    let len = trimmed_len(record);
+    let len = trimmed_len(text);
     if len == 0 {
         return Ok(());
     }
     out.push(b' ')?;
-    out.extend_from_slice(&record[..len])
+    out.extend_from_slice(&text[..len])
 }
 
 fn push_shown(out: &mut Vec<u8>, name: &Option<Name8>) -> Result<(), AllocError>

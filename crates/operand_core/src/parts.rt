@@ -39,7 +39,7 @@ impl<'a> Part<'a> {
 }
 
 /// The first of several parts, and what stands behind its comma.
-pub fn first_part(text: &[u8]) -> Option<(&[u8], &[u8])>
+pub(crate) fn first_part(text: &[u8]) -> Option<(&[u8], &[u8])>
     ensures some { IfSome result (λ r. places_of text.now ≡ r.0.now ∷ places_of r.1.now) }
     ensures shorter { IfSome result (λ r. length r.1.now < length text.now) }
     ensures none { IfNone result (places_of text.now ≡ text.now ∷ []) }
@@ -59,7 +59,7 @@ pub fn first_part(text: &[u8]) -> Option<(&[u8], &[u8])>
 }
 
 /// The places between commas, of which an empty text has one.
-pub fn places_of<'a>(alloc: Global, text: &'a [u8]) -> Result<Vec<Part<'a>>, AllocError>
+pub(crate) fn places_of<'a>(alloc: Global, text: &'a [u8]) -> Result<Vec<Part<'a>>, AllocError>
     ensures { IfOk result (λ v. v.items ≡ places_of text.now) }
 {
     let mut parts = Vec::new(alloc);
@@ -73,7 +73,7 @@ pub fn places_of<'a>(alloc: Global, text: &'a [u8]) -> Result<Vec<Part<'a>>, All
 }
 
 /// The parts of an operand, of which an empty one has none.
-pub fn parts_of<'a>(alloc: Global, operand: &'a [u8]) -> Result<Vec<Part<'a>>, AllocError>
+pub(crate) fn parts_of<'a>(alloc: Global, operand: &'a [u8]) -> Result<Vec<Part<'a>>, AllocError>
     ensures { IfOk result (λ v. v.items ≡ parts_of operand.now) }
 {
     if operand.is_empty() {
@@ -96,7 +96,7 @@ fn key_len(part: &[u8]) -> usize
 }
 
 /// A keyword and what stands behind its `=`.
-pub fn keyword_of(part: &[u8]) -> Option<(&[u8], &[u8])>
+pub(crate) fn keyword_of(part: &[u8]) -> Option<(&[u8], &[u8])>
     ensures { MatchOption result (keyword_of part.now ≡ None) (λ r. keyword_of part.now ≡ Some (r.0.now, r.1.now)) }
 {
     let (key, behind) = part.split_at(key_len(part));

@@ -11,7 +11,7 @@ pub fn quoted_after(quoted: bool, c: u8) -> bool
 }
 
 /// How many parentheses are open behind a character, where so many were open before it.
-pub fn depth_after(quoted: bool, depth: usize, c: u8) -> usize
+pub(crate) fn depth_after(quoted: bool, depth: usize, c: u8) -> usize
     requires { depth < 18446744073709551615 }
     ensures value { result ≡ depth_after quoted depth c }
 {
@@ -27,7 +27,7 @@ pub fn depth_after(quoted: bool, depth: usize, c: u8) -> usize
 }
 
 /// Whether a character is a comma outside apostrophes and parentheses.
-pub fn ends_part(quoted: bool, depth: usize, c: u8) -> bool
+pub(crate) fn ends_part(quoted: bool, depth: usize, c: u8) -> bool
     ensures { result ≡ ends_part quoted depth c }
 {
     !quoted && depth == 0 && c == b','
@@ -40,7 +40,7 @@ fn closes_nothing(quoted: bool, depth: usize, c: u8) -> bool
 }
 
 /// Whether each parenthesis outside apostrophes has its other.
-pub fn is_balanced(text: &[u8]) -> bool
+pub(crate) fn is_balanced(text: &[u8]) -> bool
     ensures { result ≡ is_balanced text.now }
 {
     let mut quoted = false;
@@ -56,7 +56,7 @@ pub fn is_balanced(text: &[u8]) -> bool
 }
 
 /// Whether the apostrophes close.
-pub fn is_closed(text: &[u8]) -> bool
+pub(crate) fn is_closed(text: &[u8]) -> bool
     ensures { result ≡ is_closed text.now }
 {
     let mut open = false;
@@ -67,7 +67,7 @@ pub fn is_closed(text: &[u8]) -> bool
 }
 
 /// Whether a part's parentheses balance and its apostrophes close.
-pub fn is_read(part: &[u8]) -> bool
+pub(crate) fn is_read(part: &[u8]) -> bool
     ensures { result ≡ is_read part.now }
 {
     is_balanced(part) && is_closed(part)

@@ -123,7 +123,8 @@ abbrev pub block_to : Option ℕ → Ending → ℕ → Option Fault → List (L
 block_to None ending n own rows behind = statement_at n (says.Refused (open_fault ending own)) ∷ []
 block_to (Some end) ending n own rows behind = statement_at n (read_with own (take end rows)) ∷ behind
 
--- what begins with line n, by what it says: the rows behind it, the statements from there on, and those behind the next END
+-- What begins with line n, by what it says. Of the rows behind it two readings are at hand: next, where they are statements, and behind,
+-- where they are a block, the statements behind its END.
 abbrev pub by_line : LineSays → Ending → ℕ → List (List ℕ) → List Statement → List Statement → List Statement
 by_line line.Blank ending n rows next behind = next
 by_line (line.One s) ending n rows next behind = statement_at n s ∷ next

@@ -102,6 +102,7 @@ const TEXTS: &[(&str, &str)] = &[
     ("./ VOLUME A +1", "1:S2;"),
     ("./ VOLUME A", "1:S2;"),
     ("./ VOLUME A 1 2", "1:S2;"),
+    ("./ VOLUME A 21 USED 5,10-12", "1:S2;"),
     ("./ VOLUME ABCDEFG 1", "1:S2;"),
     ("./ VOLUME a 1", "1:S2;"),
     ("./ UNIT 2400 A", "1:UNIT 2400 A;"),
