@@ -11,6 +11,7 @@ test:
 
 # Runs the program on a session. Nothing is proved.
 run:
+	@echo 'Not proved: the program as it stands is tried.'
 	cd crates/mvt_main && rt try <$(abspath $(SESSION))
 
 # The proved program.

@@ -1,7 +1,8 @@
 #!/bin/sh
 # Refuses the allocations of proved programs one at a time, the first, then the second and so on, until a run asks for no more.
 # - The tests `refused_memory_..` look, where a call answers want of memory, that all values are as before, and make the call again: they must pass.
-# - The program, on a session, must write a beginning of its listing and end with status 3, or write all of it.
+# - The program, on a session, must write a beginning of its listing and end with status 3, or write all of it; of the runs that want
+#   memory none writes less than one in which an earlier allocation is refused.
 # It needs a C compiler, ./mvt (make mvt) and the tests that the gate built.
 # Usage: tests/refused_memory.sh
 
@@ -41,11 +42,26 @@ refusing() {
     FAIL_ALLOC=$number LD_PRELOAD=$work/refuse.so "$@" <"$input" >"$work/out" 2>"$work/err" 9>"$work/told"
 }
 
+if [ ! -x ./mvt ]; then
+    echo "./mvt is not there: make mvt builds it"
+    exit 2
+fi
+
 failed=0
 input=/dev/null
-for crate in cat_core vtoc_core set_core enq_core sched_core; do
+for crate in cat_core vtoc_core set_core enq_core sched_core session_core; do
     tests=crates/$crate/out/${crate}_tests
-    for test in $("$tests" --list | grep -o '[a-z_:]*refused_memory[a-z_]*'); do
+    names=$("$tests" --list | grep -o '[a-z_:]*refused_memory[a-z_]*')
+    if [ -z "$names" ]; then
+        echo "$tests has no such test, or is not there: make test builds it"
+        exit 2
+    fi
+    for test in $names; do
+        if ! refusing 0 "$tests" "$test"; then
+            echo "$test: it fails though nothing is refused"
+            failed=1
+            continue
+        fi
         number=1
         while refusing $number "$tests" "$test" && [ -s "$work/told" ]; do
             number=$((number + 1))
@@ -62,12 +78,20 @@ done
 for input in examples/*.session; do
     listing=${input%.session}.listing
     number=1
+    most=0
     while :; do
         refusing $number ./mvt
         status=$?
+        size=$(wc -c <"$work/out")
         if [ ! -s "$work/told" ]; then break; fi
+        if [ $status -eq 3 ]; then
+            if [ "$size" -lt "$most" ]; then
+                echo "$input: allocation $number: $size bytes, and $most with an earlier one refused"
+                failed=1
+            fi
+            most=$size
+        fi
         if ! cmp -s "$work/out" "$listing"; then
-            size=$(wc -c <"$work/out")
             if [ $status -ne 3 ] || ! head -c "$size" "$listing" | cmp -s "$work/out" -; then
                 echo "$input: allocation $number: status $status and no beginning of its listing"
                 failed=1
@@ -75,6 +99,10 @@ for input in examples/*.session; do
         fi
         number=$((number + 1))
     done
-    echo "$input: $((number - 1)) allocations refused in turn"
+    if ! cmp -s "$work/out" "$listing"; then
+        echo "$input: its listing differs though nothing is refused"
+        failed=1
+    fi
+    echo "$input: $((number - 1)) allocations refused in turn, with up to $most bytes of the listing"
 done
 exit $failed

@@ -17,11 +17,12 @@ pub record WantsMemoryIn (stands : List Statement) (written : List ℕ) : Type 0
   pub stands_so : stands ≡ before ++ statement ∷ after
   pub lists : ListsUpTo before statement written
 
--- nothing was run
+-- memory was wanting before the first statement
 abbrev pub WritesNothing : List ℕ → Type 0
 WritesNothing written = written ≡ []
 
--- The answer, and what is written with it. All was read; or the first fault and its line; or the writer failed; or memory was wanting.
+-- The answer, and what is written with it. All was read; or the first fault and its line; or the line of the statement
+-- in whose lines the writing ended, where a line was still to be written; or memory was wanting.
 abbrev pub IsOutcome : {T : Type 0} → Session → Result T SessionFault → List ℕ → Type 0
 IsOutcome s (Ok end) written = (s.fault ≡ None) × Lists s.stands (events_of s.stands) written
 IsOutcome s (Err (Stopped fault line)) written = (s.fault ≡ Some (fault, line)) × Lists s.stands (events_of s.stands) written

@@ -5,7 +5,8 @@ use Rattle.session_core.specs.declared.TheConstants.{MOST_BYTES}
 use Rattle.session_text.specs.declared.statement.Ending.{Ending}
 use Rattle.session_text.specs.declared.statement.Ending.TheVariants.{Whole, TooLong, ReadFailed}
 
--- this text was read, and the reading ended so: at the end, at the first byte past the limit, or where the reader failed
+-- This text was read, and the reading ended so: at the end, at the first byte past the limit, or before either. What made a reader fail is
+-- not seen here.
 abbrev pub IsRead : Option (List ℕ) → Option (List ℕ) → List ℕ → Ending → Type 0
 IsRead old new text Whole = Consumes old new text × IsAtEnd new × (length text ≤ MOST_BYTES)
 IsRead old new text TooLong = (b : ℕ) × Consumes old new (text ++ b ∷ []) × (length text ≡ MOST_BYTES)
