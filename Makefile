@@ -1,18 +1,28 @@
 # Needs the Rattle toolchain (`rt` on the path).
 
-.PHONY: test run mvt examples
+.PHONY: help test run mvt examples documents
 
-# A session to run.
+# The session that `make run` runs.
 SESSION ?= examples/first.session
 
-# The gate: every proof from nothing, the edits that must fail, the tests and the programs.
-test:
-	rt ci
+# What the program is made from.
+SOURCES = crates.txt $(wildcard crates/*/src/*.rt crates/*/src/*/*.rt)
+
+help:
+	@echo 'make run [SESSION=FILE]   runs a session (examples/first.session) with the program as it stands, not proved:'
+	@echo '                          a minute or two where something changed, else at once'
+	@echo 'make mvt                  proves the program and all that it stands on, and builds it to ./mvt'
+	@echo 'make examples             runs each session of examples/ with ./mvt and compares the listings'
+	@echo 'make documents            runs the examples of README.md and docs/ with ./mvt and compares what they print'
+	@echo 'make test                 the gate: every proof from nothing, the edits that must fail, the tests, the programs'
 
 # Runs the program on a session. Nothing is proved.
-run:
-	@echo 'Not proved: the program as it stands is tried.'
-	cd crates/mvt_main && rt try <$(abspath $(SESSION))
+run: mvt-unproved
+	@./mvt-unproved <$(SESSION)
+
+# The program as it stands, built and not proved.
+mvt-unproved: $(SOURCES)
+	tests/unproved.sh $@
 
 # The proved program.
 mvt:
@@ -22,3 +32,11 @@ mvt:
 # Compares the listings of the examples with those that ./mvt writes.
 examples: mvt
 	tests/examples.sh ./mvt
+
+# Compares what the examples of the documents print with what ./mvt writes.
+documents: mvt
+	python3 tests/documents.py ./mvt
+
+# The gate.
+test:
+	rt ci
