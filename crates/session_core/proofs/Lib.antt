@@ -4,3 +4,6 @@ pub mod Marked
 pub mod Standing
 pub mod Configured
 pub mod Progress
+pub mod FaultKinds
+pub mod Cuts
+pub mod Told

@@ -1,5 +1,5 @@
 -- How far a session has come behind its configuration.
-use Rattle.std.proofs.Common.{◌≡◌, ◌⊎◌, ℕ, ◌+◌, ◌<◌, Bool, true, false, ◌||◌, List, [], ◌∷◌, ◌++◌, length, take, drop, get_or, replicate, Option, Some, None, Result, Ok, Err, refl, sym, ap, ◌∙◌, inl, inr, ⊎_elim, append_assoc, arith, length-append}
+use Rattle.std.proofs.Common.{◌≡◌, ◌⊎◌, ℕ, ◌+◌, ◌<◌, Bool, true, false, ◌||◌, List, [], ◌∷◌, ◌++◌, length, take, drop, get_or, replicate, Some, None, Result, Ok, Err, refl, sym, ap, ◌∙◌, inl, inr, ⊎_elim, append_assoc, arith, length-append}
 use Rattle.std.proofs.lemmas.List.{append-nil, length-replicate, take-replicate, take_all}
 use Rattle.std.specs.Io.KnownBytes.{Appends}
 use Rattle.machine_meaning.specs.declared.event.Event.{Event}
@@ -18,9 +18,10 @@ use Rattle.session_core.specs.declared.listing.Mark.{Mark}
 use Rattle.session_core.specs.Configuring.{IsConfigured, IsLate, begins_with_event, config_fault}
 use Rattle.session_core.specs.Listings.{Lists}
 use Rattle.session_core.specs.Marks.{AreMarks, IsListedLast}
-use Rattle.session_core.specs.Outcomes.{IsOutcome, WantsMemoryIn}
+use Rattle.session_core.specs.Outcomes.{IsOutcome, WantsMemoryIn, WritesOutcome}
 use Rattle.session_core.specs.Running.{AreApplied, AreAppliedInPart, StatementRuns, mark_at}
 use Rattle.session_core.specs.Sessions.{Session, config_of, configured, events_in, events_of, fault_behind, has_begun, has_events, session_behind, unless_late, world_of}
+use Rattle.session_core.specs.Streams.{SinkState}
 use Rattle.session_core.proofs.Applied.{AreApplied-append, AreApplied-behind, AreApplied-none}
 use Rattle.session_core.proofs.Marked.{AreMarks-more}
 use Rattle.session_core.proofs.Streams.{appended_twice}
@@ -50,9 +51,13 @@ pub record ComesTo (all : List Statement) (result : Result SessionEnd SessionFau
   pub marked : AreMarks (session_behind [] all).stands (length out) out marks text
 
 -- more was written, behind what was written out
-pub written_behind : {T : Type 0} (s : Session) (a b c : Option (List ℕ)) (result : Result T SessionFault) (out : List ℕ) → Appends a b out
-    → ((written : List ℕ) × Appends b c written × IsOutcome s result (out ++ written)) → (written : List ℕ) × Appends a c written × IsOutcome s result written
-written_behind s a b c result out first more = (out ++ more.0, appended_twice a b c out more.0 first more.1, more.2)
+pub written_behind : {T : Type 0} (s : Session) (a b c : SinkState) (result : Result T SessionFault) (out : List ℕ) → Appends a.contents b.contents out
+    → WritesOutcome b c out s result → WritesOutcome a c [] s result
+written_behind s a b c result out first more = record {
+  written = out ++ more.written;
+  appended = appended_twice a.contents b.contents c.contents out more.written first more.appended;
+  outcome = more.outcome;
+}
 
 Lists-applied : (before : List Statement) (events : List Event) (world : World) (text : List ℕ) → AreApplied (world_of before) events world [] text
     → Lists before events text

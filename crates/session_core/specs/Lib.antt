@@ -6,3 +6,4 @@ pub mod Numbers
 pub mod Marks
 pub mod Configuring
 pub mod Running
+pub mod Failures

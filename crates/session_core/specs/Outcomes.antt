@@ -1,13 +1,14 @@
 -- A whole session: from the bytes that are read to the bytes that are written.
-use Rattle.std.specs.Prelude.{◌≡◌, ◌⊎◌, ℕ, List, [], ◌∷◌, ◌++◌, Option, Some, None, Result, Ok, Err}
-use Rattle.std.specs.Io.KnownBytes.{Appends, Consumes}
+use Rattle.std.specs.Prelude.{◌≡◌, ◌⊎◌, ℕ, Bool, true, false, List, [], ◌∷◌, ◌++◌, Option, Some, None, Result, Ok, Err}
+use Rattle.std.specs.Io.KnownBytes.{Appends}
 use Rattle.session_text.specs.declared.statement.Ending.{Ending}
 use Rattle.session_text.specs.declared.statement.Statement.{Statement}
 use Rattle.session_core.specs.declared.SessionFault.{SessionFault}
 use Rattle.session_core.specs.declared.SessionFault.TheVariants.{Stopped, WriteFailed, Memory}
+use Rattle.session_core.specs.Failures.{AreTold}
 use Rattle.session_core.specs.Listings.{Lists, ListsUpTo, StopsIn}
 use Rattle.session_core.specs.Sessions.{Session, events_of, session_of}
-use Rattle.session_core.specs.Streams.{IsRead}
+use Rattle.session_core.specs.Streams.{IsRead, IsReadInPart, SinkState, SourceState}
 
 -- memory was wanting within a statement: the events before it are listed
 pub record WantsMemoryIn (stands : List Statement) (written : List ℕ) : Type 0 where
@@ -29,21 +30,39 @@ IsOutcome s (Err (Stopped fault line)) written = (s.fault ≡ Some (fault, line)
 IsOutcome s (Err (WriteFailed line)) written = StopsIn s.stands line written
 IsOutcome s (Err Memory) written = WantsMemoryIn s.stands written ⊎ WritesNothing written
 
+-- what is written with the answer, behind what was written before
+pub record WritesOutcome {T : Type 0} (old new : SinkState) (before : List ℕ) (s : Session) (result : Result T SessionFault) : Type 0 where
+  pub written : List ℕ
+  pub appended : Appends old.contents new.contents written
+  pub outcome : IsOutcome s result (before ++ written)
+
+-- the answer is that the listing cannot be written further
+abbrev pub is_write_fault : {T : Type 0} → Result T SessionFault → Bool
+is_write_fault (Ok end) = false
+is_write_fault (Err (Stopped fault line)) = false
+is_write_fault (Err (WriteFailed line)) = true
+is_write_fault (Err Memory) = false
+
 -- a text was read, and what was written is the listing of its session
-pub record Ran {T : Type 0} (unread rest old new : Option (List ℕ)) (result : Result T SessionFault) : Type 0 where
+pub record Ran {T : Type 0} (source source_after : SourceState) (sink sink_after : SinkState) (result : Result T SessionFault) : Type 0 where
   pub text : List ℕ
   pub ending : Ending
-  pub read : IsRead unread rest text ending
-  pub written : List ℕ
-  pub writes : Appends old new written
-  pub outcome : IsOutcome (session_of ending text) result written
+  pub read : IsRead source source_after text ending
+  pub writes : WritesOutcome sink sink_after [] (session_of ending text) result
 
--- memory was wanting while the text was read
-pub record Starved {T : Type 0} (unread rest old new : Option (List ℕ)) (result : Result T SessionFault) : Type 0 where
+-- memory was wanting while the text was read, before a call of either stream failed
+pub record Starved {T : Type 0} (source source_after : SourceState) (sink sink_after : SinkState) (result : Result T SessionFault) : Type 0 where
   pub memory : result ≡ Err Memory
-  pub seen : List ℕ
-  pub read : Consumes unread rest seen
-  pub writes : Appends old new []
+  pub read : IsReadInPart source source_after
+  pub writes : Appends sink.contents sink_after.contents []
 
-abbrev pub IsSession : {T : Type 0} → Option (List ℕ) → Option (List ℕ) → Option (List ℕ) → Option (List ℕ) → Result T SessionFault → Type 0
-IsSession unread rest old new result = Ran unread rest old new result ⊎ Starved unread rest old new result
+abbrev pub IsRun : {T : Type 0} → SourceState → SourceState → SinkState → SinkState → Result T SessionFault → Type 0
+IsRun source source_after sink sink_after result = Ran source source_after sink sink_after result ⊎ Starved source source_after sink sink_after result
+
+-- a session of a reader and a writer, of which so much is known before and behind it: their calls failed or did not, and that is told
+pub record IsSession {T : Type 0} (unread rest old new : Option (List ℕ)) (result : Result T SessionFault) : Type 0 where
+  pub read_failed : Bool
+  pub write_failed : Bool
+  pub run : IsRun (record { unread = unread; failed = false }) (record { unread = rest; failed = read_failed })
+      (record { contents = old; failed = false }) (record { contents = new; failed = write_failed }) result
+  pub told : AreTold read_failed write_failed result

@@ -1,9 +1,9 @@
 //! The statements of the configuration.
-ghost use Rattle.std.specs.Prelude.{◌≡◌, None, [], Err, IfErr, IfOk, OnErr, OnOk};
+ghost use Rattle.std.specs.Prelude.{◌≡◌, None, [], Err, IfErr, IfOk, OnErr, OnOk, false};
 ghost use Rattle.machine_meaning.specs.Configs.{nothing_configured};
 ghost use Rattle.sched_core.specs.Refusals.{IsRefusal};
 ghost use Rattle.session_core.specs.Configuring.{IsConfigured, IsLate, config_fault, told};
-ghost use Rattle.session_core.specs.Outcomes.{IsOutcome};
+ghost use Rattle.session_core.specs.Outcomes.{IsOutcome, is_write_fault};
 ghost use Rattle.session_core.specs.Sessions.{configured, session_behind};
 ghost use Rattle.session_core.specs.declared.SessionEnd.{SessionEnd};
 
@@ -40,7 +40,8 @@ fn add(config: &mut Config, says: &Says) -> Result<(), ConfigError>
 
 /// The fault of a statement of the configuration that stands behind the first event.
 pub(crate) fn late_fault(config: &mut Config, says: &Says, line: usize) -> SessionFault
-    ensures { IsLate (config_fault config.old says.now) line result }
+    ensures late { IsLate (config_fault config.old says.now) line result }
+    ensures writes_none { is_write_fault {T = SessionEnd} (Err result) ≡ false }
 {
     match add(config, says) {
         Ok(()) => SessionFault::Stopped(Fault::LateConfiguration, line),
@@ -57,6 +58,7 @@ pub(crate) fn configure(
     requires { config.old ≡ nothing_configured }
     ensures ok { IfOk result (λ at. IsConfigured statements.now at config.new) }
     ensures err { IfErr result (λ fault. IsOutcome {T = SessionEnd} (session_behind [] statements.now) (Err fault) []) }
+    ensures writes_none { is_write_fault result ≡ false }
 {
     for (at, statement) in statements.iter().enumerate() {
         let line = statement.line;

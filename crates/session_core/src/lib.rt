@@ -6,14 +6,21 @@ mod listing;
 #[cfg(test)]
 mod refused;
 mod run;
-mod stream;
+pub mod stream;
 #[cfg(test)]
 mod tests;
+mod transfer;
 
-ghost use Rattle.std.specs.Prelude.{◌≡◌};
+ghost use Rattle.std.specs.Prelude.{◌≡◌, ℕ, List, false};
+ghost use Rattle.session_core.specs.Failures.{AreTold, TellsCut};
 ghost use Rattle.session_core.specs.Numbers.{number_and_line};
-ghost use Rattle.session_core.specs.Outcomes.{IsSession};
+ghost use Rattle.session_core.specs.Outcomes.{IsRun, IsSession};
+ghost use Rattle.session_core.specs.Sessions.{session_of};
+ghost use Rattle.session_core.specs.Streams.{sink_state, source_state};
+ghost use Rattle.session_text.specs.declared.statement.Ending.TheVariants.{ReadFailed};
 
+use crate::stream::{Sink, Source};
+use crate::transfer::read_text;
 use session_text::fault::Fault;
 use session_text::parse::statements;
 use std::alloc::Global;
@@ -68,6 +75,31 @@ impl SessionFault {
     }
 }
 
+/// Reads a session of a source, runs it, and writes its listing to a sink while it runs.
+pub fn run_streams<R: Read, W: Write>(
+    alloc: Global,
+    source: &mut Source<'_, R>,
+    sink: &mut Sink<'_, W>,
+    options: Options,
+) -> Result<SessionEnd, SessionFault>
+    requires source_unfailed { source.old.failed ≡ false }
+    requires sink_unfailed { sink.old.failed ≡ false }
+    ensures run { IsRun (source_state R.remaining source.old) (source_state R.remaining source.new)
+        (sink_state W.contents sink.old) (sink_state W.contents sink.new) result }
+    ensures told { AreTold source.new.failed sink.new.failed result }
+    ensures same_reader { source.new.reader.ghost_name ≡ source.old.reader.ghost_name }
+    ensures same_writer { sink.new.writer.ghost_name ≡ sink.old.writer.ghost_name }
+{
+    let _ = options;
+    let Ok(input) = read_text(alloc, source) else {
+        return Err(SessionFault::Memory);
+    };
+    let Ok(statements) = statements(alloc, input.text.as_slice(), input.ending) else {
+        return Err(SessionFault::Memory);
+    };
+    run::run(alloc, statements.as_slice(), sink)
+}
+
 /// Reads a session, runs it, and writes its listing while it runs. After a failed call the reader or the writer is not called again.
 pub fn run_session<R: Read, W: Write>(
     alloc: Global,
@@ -77,12 +109,12 @@ pub fn run_session<R: Read, W: Write>(
 ) -> Result<SessionEnd, SessionFault>
     ensures { IsSession (R.remaining reader.old) (R.remaining reader.new) (W.contents writer.old) (W.contents writer.new) result }
 {
-    let _ = options;
-    let Ok(input) = stream::read_text(alloc, reader) else {
-        return Err(SessionFault::Memory);
-    };
-    let Ok(statements) = statements(alloc, input.text.as_slice(), input.ending) else {
-        return Err(SessionFault::Memory);
-    };
-    run::run(alloc, statements.as_slice(), writer)
+    let mut source = Source::new(reader);
+    let mut sink = Sink::new(writer);
+    run_streams(alloc, &mut source, &mut sink, options)
 }
+
+/// Where a read failed, S6 is told in place of the statement that was cut, unless a statement that was read whole has a fault.
+pub fn failed_reads_are_told()
+    ensures { (text : List ℕ) → TellsCut text (session_of ReadFailed text) }
+{}

@@ -1,16 +1,18 @@
 //! The lines that are not written yet, and which statements wrote them.
-ghost use Rattle.std.specs.Prelude.{◌≡◌, ◌<◌, ◌++◌, ℕ, [], Err, IfErr, List, OnErr, OnOk, length, take};
+ghost use Rattle.std.specs.Prelude.{◌≡◌, ◌<◌, ◌++◌, ℕ, [], Err, IfErr, List, OnErr, OnOk, false, length, take};
 ghost use Rattle.std.specs.Io.KnownBytes.{Appends};
 ghost use Rattle.std.specs.List.{flat_map};
 ghost use Rattle.jcl_plan.specs.Lines.{text_of};
 ghost use Rattle.session_text.specs.declared.statement.Statement.{Statement};
 ghost use Rattle.session_core.specs.Listings.{StopsIn};
 ghost use Rattle.session_core.specs.Marks.{AreMarks};
-ghost use Rattle.session_core.specs.Outcomes.{IsOutcome};
+ghost use Rattle.session_core.specs.Outcomes.{IsOutcome, WritesOutcome, is_write_fault};
 ghost use Rattle.session_core.specs.Sessions.{Session};
+ghost use Rattle.session_core.specs.Streams.{sink_state};
 ghost use Rattle.session_core.specs.declared.SessionEnd.{SessionEnd};
 
-use crate::stream::write_text;
+use crate::stream::Sink;
+use crate::transfer::write_text;
 use crate::{SessionEnd, SessionFault};
 use jcl_plan::entry::Entry;
 use std::alloc::{AllocError, Global};
@@ -58,16 +60,18 @@ impl Listing {
     }
 
     /// Writes what is held, and holds nothing then. An `Err` is what the session comes to where the writer takes a part of it alone.
-    pub(crate) fn write_out<W: Write>(&mut self, writer: &mut W) -> Result<(), SessionFault>
-        ensures ok { OnOk result (Appends (W.contents writer.old) (W.contents writer.new) self.old.text.items) }
+    pub(crate) fn write_out<W: Write>(&mut self, sink: &mut Sink<'_, W>) -> Result<(), SessionFault>
+        requires { sink.old.failed ≡ false }
+        ensures ok { OnOk result (Appends (W.contents sink.old.writer.now) (W.contents sink.new.writer.now) self.old.text.items) }
         ensures text { OnOk result (self.new.text.items ≡ []) }
         ensures marks { OnOk result (self.new.marks.items ≡ []) }
         ensures err { IfErr result (λ fault. (s : Session) (before : List ℕ) →
             AreMarks s.stands (length before) before self.old.marks.items self.old.text.items →
-            (written : List ℕ) × Appends (W.contents writer.old) (W.contents writer.new) written ×
-            IsOutcome {T = SessionEnd} s (Err fault) (before ++ written)) }
+            WritesOutcome {T = SessionEnd} (sink_state W.contents sink.old) (sink_state W.contents sink.new) before s (Err fault)) }
+        ensures failed { sink.new.failed ≡ is_write_fault result }
+        ensures same_writer { sink.new.writer.ghost_name ≡ sink.old.writer.ghost_name }
     {
-        match write_text(writer, self.text.as_slice()) {
+        match write_text(sink, self.text.as_slice()) {
             Ok(()) => {
                 self.text.clear();
                 self.marks.clear();
@@ -83,14 +87,18 @@ impl Listing {
     /// Writes what is held, and then answers with what the session came to.
     pub(crate) fn end<W: Write>(
         &mut self,
-        writer: &mut W,
+        sink: &mut Sink<'_, W>,
         outcome: Result<SessionEnd, SessionFault>,
     ) -> Result<SessionEnd, SessionFault>
-        ensures { (s : Session) (before : List ℕ) → IsOutcome s outcome (before ++ self.old.text.items) →
+        requires unfailed { sink.old.failed ≡ false }
+        requires no_write_fault { is_write_fault outcome ≡ false }
+        ensures outcome { (s : Session) (before : List ℕ) → IsOutcome s outcome (before ++ self.old.text.items) →
             AreMarks s.stands (length before) before self.old.marks.items self.old.text.items →
-            (written : List ℕ) × Appends (W.contents writer.old) (W.contents writer.new) written × IsOutcome s result (before ++ written) }
+            WritesOutcome (sink_state W.contents sink.old) (sink_state W.contents sink.new) before s result }
+        ensures failed { sink.new.failed ≡ is_write_fault result }
+        ensures same_writer { sink.new.writer.ghost_name ≡ sink.old.writer.ghost_name }
     {
-        match self.write_out(writer) {
+        match self.write_out(sink) {
             Ok(()) => outcome,
             Err(fault) => Err(fault),
         }

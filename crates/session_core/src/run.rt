@@ -1,14 +1,15 @@
 //! The events of the statements, and their lines.
-ghost use Rattle.std.specs.Prelude.{◌≡◌, ℕ, [], List, OnErr, OnOk, replicate};
-ghost use Rattle.std.specs.Io.KnownBytes.{Appends};
+ghost use Rattle.std.specs.Prelude.{◌≡◌, [], OnErr, OnOk, false, replicate};
 ghost use Rattle.machine_meaning.specs.Configs.{start_of};
 ghost use Rattle.session_core.specs.Configuring.{IsConfigured};
-ghost use Rattle.session_core.specs.Outcomes.{IsOutcome};
+ghost use Rattle.session_core.specs.Outcomes.{WritesOutcome, is_write_fault};
 ghost use Rattle.session_core.specs.Running.{AreApplied, AreAppliedInPart, IsApplied, StatementRuns};
 ghost use Rattle.session_core.specs.Sessions.{session_behind};
+ghost use Rattle.session_core.specs.Streams.{sink_state};
 
 use crate::configure::{configure, late_fault};
 use crate::listing::{Listing, MOST_HELD, Mark};
+use crate::stream::Sink;
 use crate::{SessionEnd, SessionFault};
 use machine_meaning::event::Event;
 use sched_core::config::Config;
@@ -55,6 +56,7 @@ fn run_statement(
     ensures runs { StatementRuns config.old statement.now.line statement.now.says system.old listing.old.marks.items listing.old.text.items result
         system.new listing.new.marks.items listing.new.text.items }
     ensures config { OnOk result (config.new ≡ config.old) }
+    ensures writes_none { is_write_fault result ≡ false }
 {
     let line = statement.line;
     match &statement.says {
@@ -80,39 +82,43 @@ fn run_from<W: Write>(
     from: usize,
     config: &mut Config,
     system: &mut System,
-    writer: &mut W,
+    sink: &mut Sink<'_, W>,
 ) -> Result<SessionEnd, SessionFault>
     requires configured { IsConfigured statements.now from config.old }
     requires started { system.old ≡ start_of config.old }
-    ensures { (written : List ℕ) × Appends (W.contents writer.old) (W.contents writer.new) written ×
-        IsOutcome (session_behind [] statements.now) result written }
+    requires unfailed { sink.old.failed ≡ false }
+    ensures outcome { WritesOutcome (sink_state W.contents sink.old) (sink_state W.contents sink.new) [] (session_behind [] statements.now) result }
+    ensures failed { sink.new.failed ≡ is_write_fault result }
+    ensures same_writer { sink.new.writer.ghost_name ≡ sink.old.writer.ghost_name }
 {
     let mut listing = Listing::empty(alloc);
     let (_, rest) = statements.split_at(from);
     for statement in rest {
         match run_statement(statement, config, system, &mut listing) {
             Ok(()) => {}
-            Err(fault) => return listing.end(writer, Err(fault)),
+            Err(fault) => return listing.end(sink, Err(fault)),
         }
         if listing.text.len() < MOST_HELD {
             continue;
         }
-        match listing.write_out(writer) {
+        match listing.write_out(sink) {
             Ok(()) => {}
             Err(fault) => return Err(fault),
         }
     }
-    listing.end(writer, Ok(SessionEnd))
+    listing.end(sink, Ok(SessionEnd))
 }
 
 /// Runs the statements up to the first fault, and writes their lines.
 pub(crate) fn run<W: Write>(
     alloc: Global,
     statements: &[Statement],
-    writer: &mut W,
+    sink: &mut Sink<'_, W>,
 ) -> Result<SessionEnd, SessionFault>
-    ensures { (written : List ℕ) × Appends (W.contents writer.old) (W.contents writer.new) written ×
-        IsOutcome (session_behind [] statements.now) result written }
+    requires { sink.old.failed ≡ false }
+    ensures outcome { WritesOutcome (sink_state W.contents sink.old) (sink_state W.contents sink.new) [] (session_behind [] statements.now) result }
+    ensures failed { sink.new.failed ≡ is_write_fault result }
+    ensures same_writer { sink.new.writer.ghost_name ≡ sink.old.writer.ghost_name }
 {
     let mut config = Config::new(alloc);
     let from = match configure(&mut config, statements) {
@@ -122,5 +128,5 @@ pub(crate) fn run<W: Write>(
     let Ok(mut system) = System::new(alloc, &config) else {
         return Err(SessionFault::Memory);
     };
-    run_from(alloc, statements, from, &mut config, &mut system, writer)
+    run_from(alloc, statements, from, &mut config, &mut system, sink)
 }

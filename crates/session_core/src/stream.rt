@@ -1,61 +1,92 @@
-//! Reading a text and writing one.
-ghost use Rattle.std.specs.Prelude.{◌<◌, ℕ, List, IfErr, IfOk, OnErr, OnOk, length, take};
-ghost use Rattle.std.specs.Io.KnownBytes.{Appends, Consumes};
-ghost use Rattle.session_core.specs.Streams.{IsRead};
+//! The two streams of a session. Nothing else calls the reader or the writer, and neither is called again once a call of it has failed.
+ghost use Rattle.std.specs.Prelude.{◌≡◌, ◌<◌, ◌≤◌, [], IfOk, OnErr, false, is_err, length, take};
+ghost use Rattle.std.specs.Io.{ReadsAtMost};
+ghost use Rattle.std.specs.Io.KnownBytes.{Appends, Keeps, ReadConsumes};
 
-use crate::MOST_BYTES;
-use session_text::statement::Ending;
-use std::alloc::{AllocError, Global};
 use std::io::{Read, Write};
 
-/// The most bytes of a call.
-const MOST_OF_A_CALL: usize = 4_096;
+/// A call of the reader failed. What the reader gave as the reason is not kept.
+#[derive(Clone, Copy, Debug, PartialEq, Eq)]
+pub struct ReadFailed;
 
-/// A text, and how it ended.
+/// A call of the writer failed, or took no byte of a text that has one.
+#[derive(Clone, Copy, Debug, PartialEq, Eq)]
+pub struct WriteFailed;
+
+/// A reader, and whether a call of it has failed.
 #[derive(Drop)]
-pub(crate) struct Input {
-    pub(crate) text: Vec<u8>,
-    pub(crate) ending: Ending,
+pub struct Source<'a, R> {
+    reader: &'a mut R,
+    failed: bool,
 }
 
-/// Reads to the end, to a failure, or to the first byte past the limit.
-pub(crate) fn read_text<R: Read>(alloc: Global, reader: &mut R) -> Result<Input, AllocError>
-    ensures ok { IfOk result (λ i. IsRead (R.remaining reader.old) (R.remaining reader.new) i.text.items i.ending) }
-    ensures err { OnErr result ((seen : List ℕ) × Consumes (R.remaining reader.old) (R.remaining reader.new) seen) }
-{
-    let mut text = Vec::new(alloc);
-    let mut buffer = [0u8; MOST_OF_A_CALL];
-    while text.len() <= MOST_BYTES {
-        let room = (MOST_BYTES + 1 - text.len()).min(MOST_OF_A_CALL);
-        match reader.read(&mut buffer[..room]) {
-            Ok(0) => {
-                let ending = Ending::Whole;
-                return Ok(Input { text, ending });
-            }
-            Ok(count) => text.extend_from_slice(&buffer[..count])?,
+impl<'a, R: Read> Source<'a, R> {
+    /// No call has failed yet.
+    pub fn new(reader: &'a mut R) -> Source<'a, R>
+        ensures same_reader { result.reader.ghost_name ≡ reader.entry.ghost_name }
+        ensures reader { result.reader.now ≡ reader.old }
+        ensures failed { result.failed ≡ false }
+    {
+        Source {
+            reader,
+            failed: false,
+        }
+    }
+
+    /// Calls the reader once. `Ok` tells how many bytes it gave, 0 at its end. An error of any kind is a failed call, an interrupted one too.
+    pub fn read(&mut self, buffer: &mut [u8]) -> Result<usize, ReadFailed>
+        requires { self.old.failed ≡ false }
+        ensures bound { ReadsAtMost result buffer.new }
+        ensures bytes { ReadConsumes (R.remaining self.old.reader.now) (R.remaining self.new.reader.now) result buffer.new }
+        ensures failed { self.new.failed ≡ is_err result }
+        ensures same_reader { self.new.reader.ghost_name ≡ self.old.reader.ghost_name }
+    {
+        match self.reader.read(buffer) {
+            Ok(count) => Ok(count),
             Err(_) => {
-                let ending = Ending::ReadFailed;
-                return Ok(Input { text, ending });
+                self.failed = true;
+                Err(ReadFailed)
             }
         }
     }
-    text.truncate(MOST_BYTES);
-    let ending = Ending::TooLong;
-    Ok(Input { text, ending })
 }
 
-/// Writes the text. An `Err` tells how many of its bytes were taken before a call failed or took none.
-pub(crate) fn write_text<W: Write>(writer: &mut W, text: &[u8]) -> Result<(), usize>
-    ensures ok { OnOk result (Appends (W.contents writer.old) (W.contents writer.new) text.now) }
-    ensures err { IfErr result (λ taken. (taken < length text.now) × Appends (W.contents writer.old) (W.contents writer.new) (take taken text.now)) }
-{
-    let mut at = 0;
-    while at < text.len() {
-        match writer.write(&text[at..]) {
-            Ok(0) => return Err(at),
-            Ok(count) => at += count,
-            Err(_) => return Err(at),
+/// A writer, and whether a call of it has failed.
+#[derive(Drop)]
+pub struct Sink<'a, W> {
+    writer: &'a mut W,
+    failed: bool,
+}
+
+impl<'a, W: Write> Sink<'a, W> {
+    /// No call has failed yet.
+    pub fn new(writer: &'a mut W) -> Sink<'a, W>
+        ensures same_writer { result.writer.ghost_name ≡ writer.entry.ghost_name }
+        ensures writer { result.writer.now ≡ writer.old }
+        ensures failed { result.failed ≡ false }
+    {
+        Sink {
+            writer,
+            failed: false,
         }
     }
-    Ok(())
+
+    /// Calls the writer once. `Ok` tells how many bytes it took, at least one. An error of any kind is a failed call, an interrupted one too.
+    pub fn write(&mut self, text: &[u8]) -> Result<usize, WriteFailed>
+        requires unfailed { self.old.failed ≡ false }
+        requires some { 0 < length text.now }
+        ensures bound { IfOk result (λ n. (0 < n) × (n ≤ length text.now)) }
+        ensures bytes { IfOk result (λ n. Appends (W.contents self.old.writer.now) (W.contents self.new.writer.now) (take n text.now)) }
+        ensures err { OnErr result (Appends (W.contents self.old.writer.now) (W.contents self.new.writer.now) []) }
+        ensures failed { self.new.failed ≡ is_err result }
+        ensures same_writer { self.new.writer.ghost_name ≡ self.old.writer.ghost_name }
+    {
+        match self.writer.write(text) {
+            Ok(count) if count > 0 => Ok(count),
+            _ => {
+                self.failed = true;
+                Err(WriteFailed)
+            }
+        }
+    }
 }

@@ -7,12 +7,23 @@ use std::io;
 use std::io::{ErrorKind, Read, Write};
 use std::test::Fail;
 
-/// Gives a byte at a time, and fails at one of its calls.
+/// The errors with which a call fails. None is tried again.
+const KINDS: &[ErrorKind] = &[ErrorKind::Other, ErrorKind::Interrupted];
+
+/// The ways in which a write fails: an error, or no byte taken.
+const ENDS_OF_WRITES: &[Option<ErrorKind>] = &[
+    None,
+    Some(ErrorKind::Other),
+    Some(ErrorKind::Interrupted),
+];
+
+/// Gives a byte at a time, and fails at one of its calls, and at no other.
 #[derive(Drop)]
 pub(crate) struct Drip<'a> {
     bytes: &'a [u8],
     calls: usize,
     fails_at: usize,
+    kind: ErrorKind,
 }
 
 impl Read for Drip<'_> {
@@ -21,33 +32,32 @@ impl Read for Drip<'_> {
     fn read(&mut self, buf: &mut [u8]) -> io::Result<usize> {
         self.calls = self.calls.saturating_add(1);
         if self.calls == self.fails_at {
-            return Err(io::Error::from(ErrorKind::Other));
+            return Err(io::Error::from(self.kind));
         }
         let one = buf.len().min(1);
         Read::read(&mut self.bytes, &mut buf[..one])
     }
 }
 
-/// Takes some bytes at a time, and at one of its calls none, or it fails there.
+/// Takes some bytes at a time, and fails at one of its calls, and at no other. With no kind of error it takes no byte there.
 #[derive(Drop)]
-struct Sink {
+struct Page {
     held: Vec<u8>,
     most: usize,
     calls: usize,
-    stops_at: usize,
-    fails: bool,
+    fails_at: usize,
+    kind: Option<ErrorKind>,
 }
 
-impl Write for Sink {
-    ghost contents = { λ s. Some s.held.items };
+impl Write for Page {
+    ghost contents = { λ p. Some p.held.items };
 
     fn write(&mut self, buf: &[u8]) -> io::Result<usize> {
         self.calls = self.calls.saturating_add(1);
-        if self.calls == self.stops_at {
-            return if self.fails {
-                Err(io::Error::from(ErrorKind::Other))
-            } else {
-                Ok(0)
+        if self.calls == self.fails_at {
+            return match self.kind {
+                Some(kind) => Err(io::Error::from(kind)),
+                None => Ok(0),
             };
         }
         let count = self.most.min(buf.len());
@@ -65,13 +75,13 @@ pub(crate) const OPTIONS: Options = Options {
     views: 1024,
 };
 
-fn empty_sink(alloc: Global) -> Sink {
-    Sink {
+fn empty_page(alloc: Global) -> Page {
+    Page {
         held: Vec::new(alloc),
         most: usize::MAX,
         calls: 0,
-        stops_at: 0,
-        fails: false,
+        fails_at: 0,
+        kind: None,
     }
 }
 
@@ -80,6 +90,7 @@ pub(crate) fn drip_of(bytes: &[u8]) -> Drip<'_> {
         bytes,
         calls: 0,
         fails_at: 0,
+        kind: ErrorKind::Other,
     }
 }
 
@@ -176,7 +187,7 @@ const SESSIONS: &[(&str, &str, u8, usize)] = &[
 fn lists_sessions(rt: HostRuntime) -> Result<(), Fail> {
     for (text, listing, number, line) in SESSIONS {
         let mut reader = drip_of(text.as_bytes());
-        let mut writer = empty_sink(rt.alloc());
+        let mut writer = empty_page(rt.alloc());
         let result = run_session(rt.alloc(), &mut reader, &mut writer, OPTIONS);
         let told = match result {
             Ok(SessionEnd) => Some((0, 0)),
@@ -203,27 +214,38 @@ fn line_read(bytes: usize) -> usize {
     }
 }
 
+/// What the statements list that were read whole, when so many bytes were read.
+fn listing_read(bytes: usize) -> &'static str {
+    if bytes < 10 {
+        ""
+    } else if bytes < 33 {
+        "-- REFUSED A1\n"
+    } else {
+        "-- REFUSED A1\n-- REFUSED A1\n-- REFUSED A1\n"
+    }
+}
+
 #[test]
 fn fails_at_each_read(rt: HostRuntime) -> Result<(), Fail> {
     for bytes in 0..34 {
-        let mut reader = drip_of(TURNS);
-        reader.fails_at = bytes + 1;
-        let mut writer = empty_sink(rt.alloc());
-        let result = run_session(rt.alloc(), &mut reader, &mut writer, OPTIONS);
-        let told = match result {
-            Ok(SessionEnd) => None,
-            Err(fault) => fault.number_and_line(),
-        };
-        assert_eq!(rt; told, Some((6, line_read(bytes))), "at {bytes}");
-        assert_eq!(rt; reader.calls, bytes + 1);
-        let listed = if bytes < 10 {
-            0
-        } else if bytes < 33 {
-            14
-        } else {
-            42
-        };
-        assert_eq!(rt; writer.held.len(), listed, "at {bytes}");
+        for kind in KINDS {
+            let mut reader = drip_of(TURNS);
+            reader.fails_at = bytes + 1;
+            reader.kind = *kind;
+            let mut writer = empty_page(rt.alloc());
+            let result = run_session(rt.alloc(), &mut reader, &mut writer, OPTIONS);
+            let told = match result {
+                Ok(SessionEnd) => None,
+                Err(fault) => fault.number_and_line(),
+            };
+            assert_eq!(rt; told, Some((6, line_read(bytes))), "at {bytes}");
+            assert_eq!(rt; reader.calls, bytes + 1);
+            assert_eq!(rt;
+                writer.held.as_slice(),
+                listing_read(bytes).as_bytes(),
+                "at {bytes}"
+            );
+        }
     }
     Ok(())
 }
@@ -231,17 +253,23 @@ fn fails_at_each_read(rt: HostRuntime) -> Result<(), Fail> {
 #[test]
 fn fails_at_each_write(rt: HostRuntime) -> Result<(), Fail> {
     for call in 1..7 {
-        for fails in [false, true] {
+        for kind in ENDS_OF_WRITES {
             let mut reader = drip_of(TURNS);
-            let mut writer = empty_sink(rt.alloc());
+            let mut writer = empty_page(rt.alloc());
             writer.most = 7;
-            writer.stops_at = call;
-            writer.fails = fails;
+            writer.fails_at = call;
+            writer.kind = *kind;
             let result = run_session(rt.alloc(), &mut reader, &mut writer, OPTIONS);
             let line = if call <= 2 { 1 } else { 3 };
             assert_eq!(rt; result, Err(SessionFault::WriteFailed(line)), "at {call}");
             assert_eq!(rt; writer.calls, call);
-            assert_eq!(rt; writer.held.len(), 7 * (call - 1));
+            let taken = 7 * (call - 1);
+            assert!(rt;
+                listing_read(TURNS.len())
+                    .as_bytes()
+                    .starts_with(writer.held.as_slice())
+            );
+            assert_eq!(rt; writer.held.len(), taken);
         }
     }
     Ok(())
@@ -261,7 +289,7 @@ fn long_session(alloc: Global, statements: usize) -> Result<Vec<u8>, AllocError>
 fn writes_while_it_runs(rt: HostRuntime) -> Result<(), Fail> {
     let text = long_session(rt.alloc(), 66)?;
     let mut reader = drip_of(text.as_slice());
-    let mut writer = empty_sink(rt.alloc());
+    let mut writer = empty_page(rt.alloc());
     let result = run_session(rt.alloc(), &mut reader, &mut writer, OPTIONS);
     assert_eq!(rt; result, Ok(SessionEnd));
     let listing = writer.held.as_slice();
@@ -298,12 +326,12 @@ const CUTS: &[(usize, usize, usize, usize)] = &[
 fn fails_while_it_runs(rt: HostRuntime) -> Result<(), Fail> {
     let text = long_session(rt.alloc(), 22)?;
     for (most, call, taken, line) in CUTS {
-        for fails in [false, true] {
+        for kind in ENDS_OF_WRITES {
             let mut reader = drip_of(text.as_slice());
-            let mut writer = empty_sink(rt.alloc());
+            let mut writer = empty_page(rt.alloc());
             writer.most = *most;
-            writer.stops_at = *call;
-            writer.fails = fails;
+            writer.fails_at = *call;
+            writer.kind = *kind;
             let result = run_session(rt.alloc(), &mut reader, &mut writer, OPTIONS);
             assert_eq!(rt; result, Err(SessionFault::WriteFailed(*line)), "at {call}");
             assert_eq!(rt; writer.calls, *call);
@@ -320,7 +348,7 @@ fn fails_while_it_runs(rt: HostRuntime) -> Result<(), Fail> {
 fn stops_at_the_first_byte_past_the_limit(rt: HostRuntime) -> Result<(), Fail> {
     let longest = vec![in rt.alloc(); b'\n'; MOST_BYTES]?;
     let mut reader = drip_of(longest.as_slice());
-    let mut writer = empty_sink(rt.alloc());
+    let mut writer = empty_page(rt.alloc());
     let result = run_session(rt.alloc(), &mut reader, &mut writer, OPTIONS);
     assert_eq!(rt; result, Ok(SessionEnd));
     let long = vec![in rt.alloc(); b'\n'; MOST_BYTES + 2]?;

@@ -12,15 +12,15 @@ returns-in-Refused-clause-err c =
     let p = rw (drop_at all c.loop-at.at s c.loop-at-test.true c.index-statements-at.is) at c.loop-at.invariant in
     Configured-stops all (take c.loop-at.at all) (drop (c.loop-at.at + 1) all) s c.loop-at.config c.in-Refused.fault p (ap (fault_behind (take c.loop-at.at all)) c.in-Refused.is)
 
-pub returns-in-Err-Refused : goal.returns-in-Err-Refused
-returns-in-Err-Refused c =
+pub returns-in-Err-Refused-clause-err : goal.returns-in-Err-Refused-clause-err
+returns-in-Err-Refused-clause-err c =
     let all = c.args.statements.now in
     let s = c.index-statements-at.result in
     let p = rw (drop_at all c.loop-at.at s c.loop-at-test.true c.index-statements-at.is) at c.loop-at.invariant in
     let own : config_fault c.loop-at.config s.says ≡ Some c.in-Err-Refused.fault = rw c.in-Err-Refused.field-0-is at c.in-Err-Refused.ensures.refused in
     let is : c.told.result ≡ told c.in-Err-Refused.fault = c.told.ensures ∙ ap told c.in-Err-Refused.fault-is in
     let fault = refused_config all (take c.loop-at.at all) (drop (c.loop-at.at + 1) all) s c.loop-at.config c.in-Err-Refused.fault p c.in_default.not-Refused c.in_default.not-Events own in
-    record { ok = tt; err = rw is (Configured-stops all (take c.loop-at.at all) (drop (c.loop-at.at + 1) all) s c.loop-at.config (told c.in-Err-Refused.fault) p fault) }
+    rw is (Configured-stops all (take c.loop-at.at all) (drop (c.loop-at.at + 1) all) s c.loop-at.config (told c.in-Err-Refused.fault) p fault)
 
 pub loop-at-preserved : goal.loop-at-preserved
 loop-at-preserved c =

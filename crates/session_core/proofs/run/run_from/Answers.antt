@@ -1,4 +1,4 @@
-use Rattle.std.proofs.Common.{[], ◌++◌, Err, add-zero}
+use Rattle.std.proofs.Common.{[], ◌++◌, Err, add-zero, rules}
 use Rattle.session_core.specs.declared.SessionEnd.{SessionEnd}
 use Rattle.session_core.specs.Sessions.{session_behind}
 use Rattle.session_core.proofs.Progress.{Progress-ends, Progress-last, Progress-next, Progress-start, Progress-written, written_behind}
@@ -10,32 +10,36 @@ pub loop-statement-init : goal.loop-statement-init
 loop-statement-init g c =
     let all = c.args.statements.now in
     let none = c.empty-listing.ensures in
-    ([], appended_none _, rw add-zero (Progress-start all c.args.from _ _ _ _ c.requires.configured c.requires.started none.marks none.text))
+    record {
+      so_far = ([], appended_none _, rw add-zero (Progress-start all c.args.from _ _ _ _ c.requires.configured c.requires.started none.marks none.text));
+      unfailed = search rules;
+      same = search rules;
+    }
 
 -- a statement stops the session
-pub returns-in-Err : goal.returns-in-Err
-returns-in-Err g c =
+pub returns-in-Err-clause-outcome : goal.returns-in-Err-clause-outcome
+returns-in-Err-clause-outcome g c =
     let all = c.args.statements.now in
-    let so_far = c.loop-statement.invariant in
+    let so_far = c.loop-statement.invariant.so_far in
     let new = c.run_statement.new in
     let last = Progress-last all _ _ _ _ c.split_at.ensures.back c.loop-statement-test.true c.statement-item.is _ _ new.system so_far.0 _
     new.listing.marks.items _ new.listing.text.items c.in-Err.fault so_far.2 c.in-Err.ensures.runs in
-    written_behind (session_behind [] all) _ _ _ c.end.result so_far.0 so_far.1 (c.end.ensures (session_behind [] all) so_far.0 last.outcome last.marked)
+    written_behind (session_behind [] all) _ _ _ c.end.result so_far.0 so_far.1 (c.end.ensures.outcome (session_behind [] all) so_far.0 last.outcome last.marked)
 
 -- its lines are held
 pub loop-statement-preserved-then-len-lt-MOST_HELD : goal.loop-statement-preserved-then-len-lt-MOST_HELD
 loop-statement-preserved-then-len-lt-MOST_HELD g c =
-    let so_far = c.loop-statement.invariant in
+    let so_far = c.loop-statement.invariant.so_far in
     let new = c.run_statement.new in
     let next = Progress-next c.args.statements.now _ _ _ _ c.split_at.ensures.back c.loop-statement-test.true c.statement-item.is _ new.config _
     new.system so_far.0 _ new.listing.marks.items _ new.listing.text.items c.in-Ok.ensures.config so_far.2 c.in-Ok.ensures.runs in
-    (so_far.0, so_far.1, next)
+    record { so_far = (so_far.0, so_far.1, next); unfailed = search rules; same = search rules }
 
 -- the held lines are not written whole
-pub returns-in-Err-write_out : goal.returns-in-Err-write_out
-returns-in-Err-write_out g c =
+pub returns-in-Err-write_out-clause-outcome : goal.returns-in-Err-write_out-clause-outcome
+returns-in-Err-write_out-clause-outcome g c =
     let all = c.args.statements.now in
-    let so_far = c.loop-statement.invariant in
+    let so_far = c.loop-statement.invariant.so_far in
     let new = c.run_statement.new in
     let next = Progress-next all _ _ _ _ c.split_at.ensures.back c.loop-statement-test.true c.statement-item.is _ new.config _ new.system so_far.0 _
     new.listing.marks.items _ new.listing.text.items c.in-Ok.ensures.config so_far.2 c.in-Ok.ensures.runs in
@@ -45,17 +49,21 @@ returns-in-Err-write_out g c =
 -- they are
 pub loop-statement-preserved : goal.loop-statement-preserved
 loop-statement-preserved g c =
-    let so_far = c.loop-statement.invariant in
+    let so_far = c.loop-statement.invariant.so_far in
     let new = c.run_statement.new in
     let next = Progress-next c.args.statements.now _ _ _ _ c.split_at.ensures.back c.loop-statement-test.true c.statement-item.is _ new.config _
     new.system so_far.0 _ new.listing.marks.items _ new.listing.text.items c.in-Ok.ensures.config so_far.2 c.in-Ok.ensures.runs in
     let out = c.in-Ok-write_out.ensures in
-    (so_far.0 ++ new.listing.text.items, appended_twice _ _ _ _ _ so_far.1 out.ok, Progress-written _ _ _ _ _ _ _ _ _ _ next out.marks out.text)
+    record {
+      so_far = (so_far.0 ++ new.listing.text.items, appended_twice _ _ _ _ _ so_far.1 out.ok, Progress-written _ _ _ _ _ _ _ _ _ _ next out.marks out.text);
+      unfailed = search rules;
+      same = search rules;
+    }
 
-pub returns : goal.returns
-returns g c =
+pub returns-clause-outcome : goal.returns-clause-outcome
+returns-clause-outcome g c =
     let all = c.args.statements.now in
-    let so_far = c.loop-statement.invariant in
+    let so_far = c.loop-statement.invariant.so_far in
     let done = rest_done all _ _ _ c.split_at.ensures.back c.loop-statement-test.false in
     let ends = Progress-ends all _ _ _ so_far.0 _ _ (record {}) (rw done at so_far.2) in
-    written_behind (session_behind [] all) _ _ _ c.end-2.result so_far.0 so_far.1 (c.end-2.ensures (session_behind [] all) so_far.0 ends.outcome ends.marked)
+    written_behind (session_behind [] all) _ _ _ c.end-2.result so_far.0 so_far.1 (c.end-2.ensures.outcome (session_behind [] all) so_far.0 ends.outcome ends.marked)

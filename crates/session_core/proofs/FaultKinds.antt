@@ -1,0 +1,192 @@
+-- Kinds of faults that no statement of a text has itself, and that its session does not tell.
+use Rattle.std.proofs.Common.{◌≡◌, ℕ, ◌+◌, Bool, true, false, cond, ◌&&◌, not, List, [], ◌∷◌, ◌++◌, Option, Some, None, position, is_none, codes, refl}
+use Rattle.std.specs.List.{list_any}
+use Rattle.std.specs.Str.{bytes_eq}
+use Rattle.jname_core.specs.Faults.{is_no_serial, unit_name_fault}
+use Rattle.machine_meaning.specs.declared.config.ConfigFault.{ConfigFault}
+use Rattle.machine_meaning.specs.declared.config.ConfigFault.TheVariants as config
+use Rattle.machine_meaning.specs.Configs.{initiator_fault, unit_fault, volume_fault}
+use Rattle.session_text.specs.declared.fault.Fault.{Fault}
+use Rattle.session_text.specs.declared.fault.Fault.TheVariants as fault
+use Rattle.session_text.specs.declared.statement.Ending.{Ending}
+use Rattle.session_text.specs.declared.statement.Ending.TheVariants.{Whole, TooLong, ReadFailed}
+use Rattle.session_text.specs.declared.statement.LineSays.{LineSays}
+use Rattle.session_text.specs.declared.statement.LineSays.TheVariants as line
+use Rattle.session_text.specs.declared.statement.Says.{Says}
+use Rattle.session_text.specs.declared.statement.Says.TheVariants as says
+use Rattle.session_text.specs.declared.statement.Says.TheVariants.{Volume, Initiator, Events, Refused}
+use Rattle.session_text.specs.declared.statement.Statement.{Statement}
+use Rattle.session_text.specs.Fields.{before_star, class_of, fields_of, is_marked, listed_in, number_within, times_in}
+use Rattle.session_text.specs.Lines.{lines_of}
+use Rattle.session_text.specs.Statements.{at_end, behind_end, block_to, by_line, initiator_of, initiator_with, is_end, open_fault, opens, read_with, says_by, says_in, says_of, statements_from, statements_of, turns_of, turns_with, unit_of, volume_of, volume_with, writes_of, writes_with}
+use Rattle.session_core.specs.Sessions.{Session, config_of, fault_behind, has_begun, session_behind, session_by, session_of, unless_late}
+
+abbrev option_kind : (Fault → Bool) → Option Fault → Bool
+option_kind kind None = false
+option_kind kind (Some f) = kind f
+
+abbrev says_kind : (Fault → Bool) → Says → Bool
+says_kind kind (Refused f) = kind f
+says_kind kind (Volume serial tracks) = false
+says_kind kind (says.Unit name serials) = false
+says_kind kind (Initiator number classes) = false
+says_kind kind (Events e times) = false
+
+abbrev line_kind : (Fault → Bool) → LineSays → Bool
+line_kind kind line.Blank = false
+line_kind kind (line.One s) = says_kind kind s
+line_kind kind (line.Opens own) = option_kind kind own
+
+-- none of these statements has a fault of this kind itself
+abbrev AreFree : (Fault → Bool) → List Statement → Type 0
+AreFree kind [] = Unit {0}
+AreFree kind (s ∷ statements) = (says_kind kind s.says ≡ false) × AreFree kind statements
+
+-- what is told is of this kind
+abbrev pub told_kind : (Fault → Bool) → Option (Fault × ℕ) → Bool
+told_kind kind None = false
+told_kind kind (Some told) = kind told.0
+
+either : {A : Type 0} (p : A → Bool) (b : Bool) (x y : A) → p x ≡ false → p y ≡ false → p (cond b x y) ≡ false
+either p true x y first second = first
+either p false x y first second = second
+
+module _ (kind : Fault → Bool) (bad : kind fault.BadValue ≡ false) (unknown : kind fault.UnknownStatement ≡ false) where
+  volume_free : (operands : List (List ℕ)) → says_kind kind (volume_of operands) ≡ false
+  volume_free [] = bad
+  volume_free (a ∷ []) = bad
+  volume_free (a ∷ b ∷ []) =
+      elim (number_within 0 65535 b) as (λ n. says_kind kind (volume_with a n) ≡ false) [
+        | None ↦ bad
+        | Some n ↦ either (says_kind kind) (is_no_serial a) _ _ bad refl
+      ]
+  volume_free (a ∷ b ∷ c ∷ rest) = bad
+
+  unit_free : (operands : List (List ℕ)) → says_kind kind (unit_of operands) ≡ false
+  unit_free [] = bad
+  unit_free (a ∷ []) = bad
+  unit_free (a ∷ b ∷ []) =
+      either (says_kind kind) (is_none (unit_name_fault a) && not (list_any is_no_serial (listed_in b))) (says.Unit a (listed_in b)) (Refused fault.BadValue)
+      refl bad
+  unit_free (a ∷ b ∷ c ∷ rest) = bad
+
+  initiator_free : (operands : List (List ℕ)) → says_kind kind (initiator_of operands) ≡ false
+  initiator_free [] = bad
+  initiator_free (a ∷ []) = bad
+  initiator_free (a ∷ b ∷ []) = elim (number_within 0 65535 a) as (λ n. says_kind kind (initiator_with n b) ≡ false) [ None ↦ bad | Some n ↦ refl ]
+  initiator_free (a ∷ b ∷ c ∷ rest) = bad
+
+  turns_with_free : (i times : Option ℕ) → says_kind kind (turns_with i times) ≡ false
+  turns_with_free None times = bad
+  turns_with_free (Some i) None = bad
+  turns_with_free (Some i) (Some times) = refl
+
+  turns_free : (operands : List (List ℕ)) → says_kind kind (turns_of operands) ≡ false
+  turns_free [] = bad
+  turns_free (a ∷ []) = turns_with_free (number_within 1 15 (before_star a)) (times_in a)
+  turns_free (a ∷ b ∷ rest) = bad
+
+  writes_with_free : (class times : Option ℕ) → says_kind kind (writes_with class times) ≡ false
+  writes_with_free None times = bad
+  writes_with_free (Some class) None = bad
+  writes_with_free (Some class) (Some times) = refl
+
+  writes_free : (operands : List (List ℕ)) → says_kind kind (writes_of operands) ≡ false
+  writes_free [] = bad
+  writes_free (a ∷ []) = writes_with_free (class_of (before_star a)) (times_in a)
+  writes_free (a ∷ b ∷ rest) = bad
+
+  opens_free : (operands : List (List ℕ)) → line_kind kind (opens operands) ≡ false
+  opens_free [] = refl
+  opens_free (a ∷ rest) = bad
+
+  says_by_free : (word : List ℕ) (operands : List (List ℕ)) → line_kind kind (says_by word operands) ≡ false
+  says_by_free word operands =
+      let write = cond (bytes_eq word (codes "WRITE")) (line.One (writes_of operands)) (line.One (Refused fault.UnknownStatement)) in
+      let turn = cond (bytes_eq word (codes "TURN")) (line.One (turns_of operands)) write in
+      let read = cond (bytes_eq word (codes "READ")) (opens operands) turn in
+      let initiator = cond (bytes_eq word (codes "INIT")) (line.One (initiator_of operands)) read in
+      let unit = cond (bytes_eq word (codes "UNIT")) (line.One (unit_of operands)) initiator in
+      let p = line_kind kind in
+      either p (bytes_eq word (codes "VOLUME")) (line.One (volume_of operands)) unit (volume_free operands)
+      (either p (bytes_eq word (codes "UNIT")) (line.One (unit_of operands)) initiator (unit_free operands)
+      (either p (bytes_eq word (codes "INIT")) (line.One (initiator_of operands)) read (initiator_free operands)
+      (either p (bytes_eq word (codes "READ")) (opens operands) turn (opens_free operands)
+      (either p (bytes_eq word (codes "TURN")) (line.One (turns_of operands)) write (turns_free operands)
+      (either p (bytes_eq word (codes "WRITE")) (line.One (writes_of operands)) (line.One (Refused fault.UnknownStatement)) (writes_free operands)
+      unknown)))))
+
+  says_in_free : (marked : Bool) (fields : List (List ℕ)) → line_kind kind (says_in marked fields) ≡ false
+  says_in_free marked [] = refl
+  says_in_free marked (mark ∷ []) = unknown
+  says_in_free true (mark ∷ word ∷ operands) = says_by_free word operands
+  says_in_free false (mark ∷ word ∷ operands) = unknown
+
+  module _ (ending : Ending) (no_end : kind fault.NoEnd ≡ false) (long : kind fault.TooLong ≡ false)
+      (cut : ending ≡ ReadFailed → kind fault.ReadFailed ≡ false) where
+    at_end_by : (e : Ending) (n : ℕ) → ending ≡ e → AreFree kind (at_end e n)
+    at_end_by Whole n is = tt
+    at_end_by TooLong n is = (long, tt)
+    at_end_by ReadFailed n is = (cut is, tt)
+
+    open_free : (e : Ending) (own : Option Fault) → ending ≡ e → option_kind kind own ≡ false → kind (open_fault e own) ≡ false
+    open_free TooLong own is free = long
+    open_free ReadFailed own is free = cut is
+    open_free Whole (Some own) is free = free
+    open_free Whole None is free = no_end
+
+    read_free : (own : Option Fault) (cards : List (List ℕ)) → option_kind kind own ≡ false → says_kind kind (read_with own cards) ≡ false
+    read_free None cards free = refl
+    read_free (Some own) cards free = free
+
+    block_free : (at : Option ℕ) (n : ℕ) (own : Option Fault) (rows : List (List ℕ)) (behind : List Statement) → option_kind kind own ≡ false
+        → AreFree kind behind → AreFree kind (block_to at ending n own rows behind)
+    block_free None n own rows behind free more = (open_free ending own refl free, tt)
+    block_free (Some end) n own rows behind free more = (read_free own _ free, more)
+
+    line_free : (l : LineSays) (n : ℕ) (rows : List (List ℕ)) (next behind : List Statement) → line_kind kind l ≡ false
+        → AreFree kind next → AreFree kind behind → AreFree kind (by_line l ending n rows next behind)
+    line_free line.Blank n rows next behind free first second = first
+    line_free (line.One s) n rows next behind free first second = (free, first)
+    line_free (line.Opens own) n rows next behind free first second = block_free (position is_end rows) n own rows behind free second
+
+    -- the statements of rows, and those behind the first END of them
+    rows_free : (n : ℕ) (rows : List (List ℕ)) → AreFree kind (statements_from ending n rows) × AreFree kind (behind_end ending n rows)
+    rows_free n [] = (at_end_by ending n refl, tt)
+    rows_free n (row ∷ rows) =
+        let more = rows_free (n + 1) rows in (
+          line_free (says_of row) n rows _ _ (says_in_free (is_marked row) (fields_of row)) more.0 more.1,
+          elim (is_end row) as (λ b. AreFree kind (cond b (statements_from ending (n + 1) rows) (behind_end ending (n + 1) rows))) [
+            | true ↦ more.0
+            | false ↦ more.1
+          ],
+        )
+
+    module _ (twice : kind fault.DefinedTwice ≡ false) (late : kind fault.LateConfiguration ≡ false) where
+      unless_free : (own : Option ConfigFault) (begun : Bool) → option_kind kind (unless_late own begun) ≡ false
+      unless_free (Some config.BadValue) begun = bad
+      unless_free (Some config.DefinedTwice) begun = twice
+      unless_free None true = late
+      unless_free None false = refl
+
+      fault_free : (before : List Statement) (s : Says) → says_kind kind s ≡ false → option_kind kind (fault_behind before s) ≡ false
+      fault_free before (Volume serial tracks) free = unless_free (volume_fault (config_of before) serial tracks) (has_begun before)
+      fault_free before (says.Unit name serials) free = unless_free (unit_fault (config_of before) name serials) (has_begun before)
+      fault_free before (Initiator number classes) free = unless_free (initiator_fault (config_of before) number classes) (has_begun before)
+      fault_free before (Events e times) free = refl
+      fault_free before (Refused f) free = free
+
+      by_free : (own : Option Fault) (before : List Statement) (s : Statement) (more : Session) → option_kind kind own ≡ false
+          → told_kind kind more.fault ≡ false → told_kind kind (session_by own before s more).fault ≡ false
+      by_free None before s more free rest = rest
+      by_free (Some f) before s more free rest = free
+
+      session_free : (before statements : List Statement) → AreFree kind statements → told_kind kind (session_behind before statements).fault ≡ false
+      session_free before [] free = refl
+      session_free before (s ∷ statements) free =
+          by_free (fault_behind before s.says) before s (session_behind (before ++ s ∷ []) statements) (fault_free before s.says free.0)
+          (session_free (before ++ s ∷ []) statements free.1)
+
+      -- what the session of a text tells is not of this kind
+      pub told_free : (text : List ℕ) → told_kind kind (session_of ending text).fault ≡ false
+      told_free text = session_free [] (statements_of ending text) (rows_free 1 (lines_of ending text)).0
