@@ -7,9 +7,10 @@ mod report;
 mod tests;
 
 use crate::options::read_options;
-use crate::report::{MISUSE, Message, WANT_OF_MEMORY, report};
+use crate::report::{MISUSE, Message, WANT_OF_MEMORY, session_report};
 use clap::error::ErrorKind;
-use session_core::{Options, run_session};
+use session_core::Options;
+use session_core::stream::{Sink, Source};
 use std::io;
 use std::process::ExitCode;
 
@@ -27,8 +28,11 @@ fn want_of_memory(rt: &HostRuntime) -> u8 {
 
 /// Runs the session of standard input.
 fn run(rt: &HostRuntime, options: Options) -> u8 {
-    let result = run_session(rt.alloc(), &mut rt.stdin(), &mut rt.stdout(), options);
-    let (status, message) = report(result);
+    let mut reader = rt.stdin();
+    let mut writer = rt.stdout();
+    let mut source = Source::new(&mut reader);
+    let mut sink = Sink::new(&mut writer);
+    let (status, message) = session_report(rt.alloc(), &mut source, &mut sink, options);
     say(rt, message);
     status
 }

@@ -1,10 +1,12 @@
 //! The command line.
-ghost use Rattle.std.specs.Prelude.{◌≡◌, ◌≤◌, IfOk, Some, codes};
+ghost use Rattle.std.specs.Prelude.{◌≡◌, ◌≤◌, IfOk, IfSome, codes};
 ghost use Rattle.clap.specs.Words.{first_value, found_of};
-ghost use Rattle.mvt_main.specs.Programs.{IsChosen};
+ghost use Rattle.mvt_main.specs.Programs.{IsChosen, views_in};
 
-use clap::{Arg, ArgMatches, Command, Error, value_parser};
+use clap::error::ErrorKind;
+use clap::{Arg, ArgMatches, Command, Error};
 use session_core::{Options, RiskChoice};
+use session_text::values::number_within;
 use std::alloc::Global;
 use std::convert::AsStr;
 
@@ -23,11 +25,11 @@ fn command<'a>(alloc: Global) -> Result<Command<'a>, Error> {
     let views = Arg::new(alloc, "views")
         .long("views")
         .value_name("N")
-        .value_parser(value_parser!(u16).range(1..=1024))
         .default_value("1024")
         .help("The most views of the verifier, 1 to 1024");
     let command = Command::new(alloc, "mvt")
         .about("Reads a session on standard input and writes its listing on standard output")
+        .override_usage("mvt [OPTIONS] <SESSION")
         .arg(risk)?
         .arg(views)?;
     Ok(command)
@@ -42,12 +44,15 @@ fn risk_of(matches: &ArgMatches) -> RiskChoice
     }
 }
 
-/// How many views are asked for. The parser has refused what is out of range.
-fn views_of(matches: &ArgMatches) -> u16
-    ensures { (1 ≤ result) × (result ≤ 1024) }
+/// How many views are asked for, or `None` where the word is no number of them.
+fn views_of(matches: &ArgMatches) -> Option<u16>
+    ensures value { result ≡ views_in (first_value (found_of matches.now) (codes "views")) }
+    ensures bound { IfSome result (λ n. (1 ≤ n) × (n ≤ 1024)) }
 {
-    let views = matches.get_one::<u16>("views").unwrap_or(MOST_VIEWS);
-    views.clamp(1, MOST_VIEWS)
+    match matches.get_str("views") {
+        None => Some(MOST_VIEWS),
+        Some(text) => number_within(1, MOST_VIEWS, text.as_bytes()),
+    }
 }
 
 /// The options that the words of a command line ask for, the program's own name first. An `Err` has a text that says what is wrong,
@@ -55,9 +60,17 @@ fn views_of(matches: &ArgMatches) -> u16
 pub(crate) fn read_options<'a, S: AsStr>(alloc: Global, words: &'a [S]) -> Result<Options, Error>
     ensures { IfOk result (λ o. (1 ≤ o.views) × (o.views ≤ 1024)) }
 {
-    let matches = command(alloc)?.try_get_matches_from(words)?;
-    Ok(Options {
-        risk: risk_of(&matches),
-        views: views_of(&matches),
-    })
+    let mut command = command(alloc)?;
+    let matches = command.try_get_matches_from_mut(words)?;
+    match views_of(&matches) {
+        Some(views) => Ok(Options {
+            risk: risk_of(&matches),
+            views,
+        }),
+        None => {
+            let message =
+                "invalid value for '--views <N>': it is a number from 1 to 1024, in digits alone";
+            Err(command.error(ErrorKind::ValueValidation, message)?)
+        }
+    }
 }

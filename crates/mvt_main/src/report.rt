@@ -1,9 +1,13 @@
 //! What the program ends with: a status, and what it says on standard error.
-ghost use Rattle.std.specs.Prelude.{◌≡◌, Some};
-ghost use Rattle.mvt_main.specs.Programs.{reported, text_of};
+ghost use Rattle.std.specs.Prelude.{◌≡◌, Some, false};
+ghost use Rattle.session_core.specs.Streams.{sink_state, source_state};
+ghost use Rattle.mvt_main.specs.Programs.{IsReported, reported, text_of};
 
-use session_core::{SessionEnd, SessionFault};
+use session_core::stream::{Sink, Source};
+use session_core::{Options, SessionEnd, SessionFault, run_streams};
+use std::alloc::Global;
 use std::fmt;
+use std::io::{Read, Write};
 
 /// The status of a session of which all was read.
 pub const ALL_READ: u8 = 0;
@@ -49,4 +53,20 @@ pub fn report(outcome: Result<SessionEnd, SessionFault>) -> (u8, Message)
             None => (WANT_OF_MEMORY, Message::OutOfMemory),
         },
     }
+}
+
+/// Runs the session that the source gives, writes its listing to the sink, and tells the status and the message of its end.
+pub fn session_report<R: Read, W: Write>(
+    alloc: Global,
+    source: &mut Source<'_, R>,
+    sink: &mut Sink<'_, W>,
+    options: Options,
+) -> (u8, Message)
+    requires source_unfailed { source.old.failed ≡ false }
+    requires sink_unfailed { sink.old.failed ≡ false }
+    ensures { IsReported (source_state R.remaining source.old) (source_state R.remaining source.new)
+        (sink_state W.contents sink.old) (sink_state W.contents sink.new) result }
+{
+    let outcome = run_streams(alloc, source, sink, options);
+    report(outcome)
 }

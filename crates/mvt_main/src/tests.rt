@@ -1,7 +1,8 @@
 //! Statuses, what is said on standard error, and command lines.
 use crate::options::read_options;
-use crate::report::{Message, report};
+use crate::report::{Message, report, session_report};
 use clap::error::ErrorKind;
+use session_core::stream::{Sink, Source};
 use session_core::{Options, RiskChoice, SessionEnd, SessionFault};
 use session_text::fault::Fault;
 use std::test::Fail;
@@ -55,6 +56,7 @@ const TAKEN: &[(&[&str], RiskChoice, u16)] = &[
         1,
     ),
     (&["mvt", "--views", "1024"], RiskChoice::Run, 1024),
+    (&["mvt", "--views", "01"], RiskChoice::Run, 1),
     (
         &["mvt", "--views", "17", "--risk", "run"],
         RiskChoice::Run,
@@ -83,6 +85,11 @@ const NOT_TAKEN: &[(&[&str], ErrorKind)] = &[
     (&["mvt", "--views", "0"], ErrorKind::ValueValidation),
     (&["mvt", "--views", "1025"], ErrorKind::ValueValidation),
     (&["mvt", "--views", "70000"], ErrorKind::ValueValidation),
+    (&["mvt", "--views", "+1"], ErrorKind::ValueValidation),
+    (&["mvt", "--views=-1"], ErrorKind::ValueValidation),
+    (&["mvt", "--views", "-1"], ErrorKind::UnknownArgument),
+    (&["mvt", "--views", "1 "], ErrorKind::ValueValidation),
+    (&["mvt", "--views="], ErrorKind::ValueValidation),
     (&["mvt", "--views", "ten"], ErrorKind::ValueValidation),
     (&["mvt", "--views"], ErrorKind::InvalidValue),
     (&["mvt", "--risk", "stop"], ErrorKind::InvalidValue),
@@ -102,6 +109,59 @@ fn other_command_lines_are_not_taken(rt: HostRuntime) -> Result<(), Fail> {
             Ok(options) => assert!(rt; false, "{words:?} is taken as {options:?}"),
             Err(error) => assert_eq!(rt; error.kind(), *kind, "at {words:?}"),
         }
+    }
+    Ok(())
+}
+
+/// What every text about the command line has.
+const USAGE: &str = "Usage: mvt [OPTIONS] <SESSION\n";
+
+#[test]
+fn each_text_has_the_usage(rt: HostRuntime) -> Result<(), Fail> {
+    for words in [
+        ["mvt", "--help"],
+        ["mvt", "first.session"],
+        ["mvt", "--views=+1"],
+    ] {
+        match read_options(rt.alloc(), words.as_slice()) {
+            Ok(options) => assert!(rt; false, "{words:?} is taken as {options:?}"),
+            Err(error) => {
+                let text = format!(in rt.alloc(); "{error}")?;
+                assert!(rt; text.as_str().contains(USAGE), "{text}");
+            }
+        }
+    }
+    Ok(())
+}
+
+/// Sessions, what is listed and said, and the status.
+const SESSIONS: &[(&str, &str, &str, u8)] = &[
+    ("./ TURN 1\n./ WRITE A\n", "-- REFUSED A1\n", "", 0),
+    (
+        "./ TURN 1\n./ TRUN 1\n",
+        "-- REFUSED A1\n",
+        "session fault S1 at line 2",
+        1,
+    ),
+];
+
+#[test]
+fn sessions_are_run_and_reported(rt: HostRuntime) -> Result<(), Fail> {
+    let options = Options {
+        risk: RiskChoice::Run,
+        views: 1024,
+    };
+    for (text, listing, said, status) in SESSIONS {
+        let mut reader = text.as_bytes();
+        let mut writer = Vec::new(rt.alloc());
+        let mut source = Source::new(&mut reader);
+        let mut sink = Sink::new(&mut writer);
+        let (told, message) = session_report(rt.alloc(), &mut source, &mut sink, options);
+        assert_eq!(rt; told, *status);
+        let message = format!(in rt.alloc(); "{message}")?;
+        assert_eq!(rt; message.as_str(), *said);
+        assert_eq!(rt; writer.as_slice(), listing.as_bytes());
+        assert!(rt; reader.is_empty());
     }
     Ok(())
 }

@@ -9,4 +9,4 @@ mod says;
 pub mod statement;
 #[cfg(test)]
 mod tests;
-mod values;
+pub mod values;

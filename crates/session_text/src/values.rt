@@ -39,8 +39,8 @@ fn is_number(text: &[u8]) -> bool
     !text.is_empty() && are_digits(text)
 }
 
-/// The number that the text is, where it lies within these.
-pub(crate) fn number_within(low: u16, high: u16, text: &[u8]) -> Option<u16>
+/// The number that the text is, where it lies within these. It has digits alone, no sign; zeros may stand before it.
+pub fn number_within(low: u16, high: u16, text: &[u8]) -> Option<u16>
     ensures value { result ≡ number_within low high text.now }
     ensures bound { ForSome result (λ n. n ≤ high) }
 {
