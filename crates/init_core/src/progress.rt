@@ -129,6 +129,7 @@ fn end_with(alloc: Global, p: &mut Progress, n: usize, outcome: &Outcome) -> Res
     })?;
     p.own.over = Some(*outcome);
     p.own.due = None;
+    p.own.lines = 0;
     use_outcome(p);
     Ok(())
 }

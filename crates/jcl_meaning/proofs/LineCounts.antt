@@ -32,6 +32,7 @@ use Rattle.jcl_meaning.specs.LineCounts.{beside_faults, is_of_fault}
 use Rattle.jcl_meaning.specs.Programs.{dd_of, emptied, empties, is_concatenated, is_read_only, or_nothing}
 use Rattle.jcl_meaning.specs.RequestActs.{asks_at, asks_dd, asks_of, dd_name, gets_by, head_or, put_grows, put_to_set, puts, puts_in, puts_unless, reads, received_due, received_now}
 use Rattle.jcl_meaning.specs.Solo.{Met, is_clean, later, met_first, run}
+use Rattle.jcl_meaning.specs.Resolutions.{meaning_at}
 use Rattle.jcl_meaning.specs.States.{Done, Fixed, State, goes, if_runs, no_fault, unless_cancelled}
 use Rattle.jcl_meaning.specs.Takes.{secondary_of}
 use Rattle.jcl_meaning.specs.TakeActs.{back_line, back_lines, decided, refused, takes, takes_set}
@@ -88,7 +89,7 @@ short_take : (fixed : Fixed) (n dd : ℕ) (name : Option (List ℕ)) (kind : DdK
 short_take fixed n dd name (Sysout class) s = one _ _
 short_take fixed n dd name Dummy s = one _ _
 short_take fixed n dd name (Cards cards) s = one _ _
-short_take fixed n dd name (Set p) s = short_take_set fixed n dd name p s (fixed.resolve p.key)
+short_take fixed n dd name (Set p) s = short_take_set fixed n dd name p s (meaning_at fixed.meanings n dd)
 
 short_get : (name : List ℕ) (d : ℕ) (x : DdState) (s : State) (m p : ℕ) (text serial : Option (List ℕ)) → IsShort (gets_by name d x s m p text serial)
 short_get name d x s m p None serial = one _ _

@@ -50,7 +50,7 @@ passed_after o n passed = if is_abend o then marked_later n passed else passed
 abbrev pub ended_with : ℕ → Outcome → State → State
 ended_with n o s = record {
   store = s.store;
-  own = record s.own { passed = passed_after o n s.own.passed; ended = record { step = n; outcome = o } ∷ s.own.ended; over = Some o; due = None };
+  own = record s.own { passed = passed_after o n s.own.passed; ended = record { step = n; outcome = o } ∷ s.own.ended; over = Some o; due = None; lines = 0 };
   answers = with_answers_used s.answers;
 }
 

@@ -6,12 +6,16 @@ pub mod History
 pub mod LineCounts
 pub mod Lists
 pub mod Names
+pub mod NoSets
+pub mod Parts
 pub mod Plans
 pub mod Programs
 pub mod RequestActs
+pub mod Resolutions
 pub mod Solo
 pub mod States
 pub mod Stores
 pub mod TakeActs
 pub mod Takes
 pub mod Views
+pub mod WellFormed

@@ -20,6 +20,7 @@ use Rattle.jcl_meaning.specs.declared.source.Source.{Source}
 use Rattle.jcl_meaning.specs.declared.state.DdState.{DdState}
 use Rattle.jcl_meaning.specs.declared.state.TakenSet.{TakenSet}
 use Rattle.jcl_meaning.specs.declared.store.DataSet.{DataSet}
+use Rattle.jcl_meaning.specs.Names.{is_shr}
 use Rattle.jcl_meaning.specs.Stores.{Store}
 
 -- the Gets and Puts before a program's end
@@ -131,17 +132,11 @@ located (x ∷ y ∷ rest) member position =
     else (if x.read_past then located (y ∷ rest) (member + 1) 0 else at_source x member position)
 
 -- a record may not be put to SHR, to cards or to a concatenation of several
-abbrev pub is_shared : Status → Bool
-is_shared New = false
-is_shared Old = false
-is_shared Shr = true
-is_shared Mod = false
-
 abbrev pub is_read_only : DdKind → Bool
 is_read_only (Sysout class) = false
 is_read_only Dummy = false
 is_read_only (Cards cards) = true
-is_read_only (Set p) = is_shared p.status
+is_read_only (Set p) = is_shr p.status
 
 -- the first PUT by a DD with NEW or OLD empties its set
 abbrev pub empties : Status → Bool → Bool

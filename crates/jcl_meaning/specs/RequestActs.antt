@@ -15,10 +15,10 @@ use Rattle.jcl_meaning.specs.declared.state.Due.TheVariants as due
 use Rattle.jcl_meaning.specs.declared.state.Own.{Own}
 use Rattle.jcl_meaning.specs.declared.state.TakenSet.{TakenSet}
 use Rattle.jcl_meaning.specs.declared.store.DataSet.{DataSet}
-use Rattle.jcl_meaning.specs.States.{Done, State, abended_by, asks_open, goes, if_runs, silent, unless_cancelled, with_own, wrote}
+use Rattle.jcl_meaning.specs.States.{Done, State, abended_by, asks_open, goes, if_runs, silent, others, unless_cancelled, with_own, wrote}
 use Rattle.jcl_meaning.specs.declared.source.FoundRecord.{FoundRecord}
 use Rattle.jcl_meaning.specs.Programs.{members_at, is_concatenated, appended, dd_of, emptied, empties, grown_by, is_full, is_read_only, located, or_nothing, sources_from}
-use Rattle.jcl_meaning.specs.Stores.{Store, with_set}
+use Rattle.jcl_meaning.specs.Stores.{Store, with_set_there}
 use Rattle.jcl_meaning.specs.Takes.{secondary_of}
 
 -- GET: from cards the record comes at once, from a set at the device's end; behind the last record END
@@ -49,15 +49,12 @@ abbrev pub head_or : {X : Type 0} → X → List X → X
 head_or x [] = x
 head_or x (y ∷ ys) = y
 
-abbrev pub others_of : {X : Type 0} → List X → List X
-others_of [] = []
-others_of (x ∷ xs) = xs
-
+-- a set that its DD took, changed
 abbrev pub with_set_at : State → TakenSet → DataSet → State
-with_set_at s t set = record { store = with_set s.store t.key t.serial (Some set); own = s.own; answers = s.answers }
+with_set_at s t set = record { store = with_set_there (s.store.set t.key t.serial) set s.store t.key t.serial; own = s.own; answers = s.answers }
 
 abbrev pub grant_used : State → State
-grant_used s = record { store = s.store; own = s.own; answers = record { outcomes = s.answers.outcomes; cancels = s.answers.cancels; grants = others_of s.answers.grants; primary = s.answers.primary } }
+grant_used s = record { store = s.store; own = s.own; answers = record { outcomes = s.answers.outcomes; cancels = s.answers.cancels; grants = others s.answers.grants; primary = s.answers.primary } }
 
 abbrev pub put_starts : List ℕ → List ℕ → ℕ → DdState → TakenSet → Option ℕ → State → Done
 put_starts name text d x t grown s = goes (line.PutStart name t.serial grown ∷ []) (with_own s (record s.own {
@@ -120,7 +117,7 @@ asked step move s = if_runs (asks_open s.own) s (unless_cancelled s (asks_at (dd
 -- what is due at the device's end
 abbrev pub appended_at : Option TakenSet → List ℕ → Store → Store
 appended_at None text s = s
-appended_at (Some t) text s = with_set s t.key t.serial (Some (appended text (or_nothing (s.set t.key t.serial))))
+appended_at (Some t) text s = with_set_there (s.set t.key t.serial) (appended text (or_nothing (s.set t.key t.serial))) s t.key t.serial
 
 abbrev pub store_appended : Option DdState → List ℕ → Store → Store
 store_appended None text s = s

@@ -14,7 +14,8 @@ use Rattle.jcl_meaning.specs.Acts.{act}
 use Rattle.jcl_meaning.specs.Agendas.{Action, agenda, path_agenda}
 use Rattle.jcl_meaning.specs.Programs.{ending_of}
 use Rattle.jcl_meaning.specs.States.{Answers, Done, Fixed, State}
-use Rattle.jcl_meaning.specs.Stores.{resolution_of, store_of}
+use Rattle.jcl_meaning.specs.Resolutions.{meanings_of}
+use Rattle.jcl_meaning.specs.Stores.{store_of}
 
 -- a fault that was met, and how many actions came before it
 pub record Met : Type 0 where
@@ -52,18 +53,13 @@ run fixed (a ∷ actions) s = then_ran (act fixed a s) (λ t. run fixed actions 
 abbrev pub is_clean : Ran → Bool
 is_clean ran = length ran.faults == 0
 
--- the place of a DD; of two the first counts
-abbrev pub place_of : List Place → ℕ → ℕ → Option (List ℕ)
-place_of [] step dd = None
-place_of (p ∷ ps) step dd = if p.step == step && p.dd == dd then Some p.serial else place_of ps step dd
-
 -- relative numbers are resolved in the store at the start
 abbrev pub fixed_of : JobPlan → SoloStore → List Place → ℕ → Fixed
 fixed_of plan store places date = record {
   job_tests = plan.tests.items;
   volumes = store.volumes;
-  place = λ step dd. place_of places step dd;
-  resolve = λ key. resolution_of (store_of store) key;
+  places = places;
+  meanings = meanings_of (store_of store) plan;
   date = date;
 }
 

@@ -1,6 +1,5 @@
 -- The state of a job while it runs, and what an action did.
 use Rattle.std.specs.Prelude.{ℕ, ◌+◌, Bool, true, false, ◌&&◌, ◌==◌, List, [], ◌∷◌, Option, Some, None, is_none, if◌then◌else◌}
-use Rattle.jname_core.specs.declared.key.Key.{Key}
 use Rattle.jcl_plan.specs.declared.entry.JobLine.{JobLine}
 use Rattle.jcl_plan.specs.declared.entry.JobLine.TheVariants as line
 use Rattle.jcl_plan.specs.declared.fault.Fault.{Fault}
@@ -9,9 +8,9 @@ use Rattle.jcl_plan.specs.declared.outcome.Abend.TheVariants as abend
 use Rattle.jcl_plan.specs.declared.outcome.Outcome.{Outcome}
 use Rattle.jcl_plan.specs.declared.outcome.Outcome.TheVariants as outcome
 use Rattle.jcl_plan.specs.declared.plan.Test.{Test}
+use Rattle.jcl_meaning.specs.declared.state.KeyMeaning.{KeyMeaning}
 use Rattle.jcl_meaning.specs.declared.state.Own.{Own}
 use Rattle.jcl_meaning.specs.declared.state.Place.{Place}
-use Rattle.jcl_meaning.specs.declared.state.Resolution.{Resolution}
 use Rattle.jcl_meaning.specs.Stores.{Store}
 
 -- What a job does not decide itself, each list used up in order: how its steps end and, for each, after how many program lines a cancel
@@ -27,12 +26,12 @@ pub record State : Type 0 where
   pub own : Own
   pub answers : Answers
 
--- what is fixed for a job: its JOB tests, the volumes as configured, where a DD's set is placed, what its keys mean, and its date
+-- What is fixed for a job: its JOB tests, the volumes as configured, where its DDs' sets are placed, what their keys mean, and its date.
 pub record Fixed : Type 0 where
   pub job_tests : List Test
   pub volumes : List (List ℕ)
-  pub place : ℕ → ℕ → Option (List ℕ)
-  pub resolve : Key → Resolution
+  pub places : List Place
+  pub meanings : List KeyMeaning
   pub date : ℕ
 
 -- what an action did: the lines that it wrote, the state after it, the fault that it met, and the set that it made

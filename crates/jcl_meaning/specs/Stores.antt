@@ -34,6 +34,11 @@ with_set s key serial there = record {
   catalog = s.catalog;
 }
 
+-- the store with a set that is there changed to this; where there is none nothing is written
+abbrev pub with_set_there : Option DataSet → DataSet → Store → Key → List ℕ → Store
+with_set_there None set s key serial = s
+with_set_there (Some there) set s key serial = with_set s key serial (Some set)
+
 abbrev pub with_entry : Store → List ℕ → Option CatEntry → Store
 with_entry s name entry = record {
   set = s.set;

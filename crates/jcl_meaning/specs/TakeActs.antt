@@ -28,6 +28,7 @@ use Rattle.jcl_meaning.specs.States.{Done, Fixed, State, at_step, goes, with_own
 use Rattle.jcl_meaning.specs.Dispositions.{back_word, is_deleted_back}
 use Rattle.jcl_meaning.specs.History.{abended, fate_of, is_run, some_satisfied}
 use Rattle.jcl_meaning.specs.Names.{is_temporary}
+use Rattle.jcl_meaning.specs.Resolutions.{meaning_at, place_of}
 use Rattle.jcl_meaning.specs.Stores.{Store, catalogued, with_set}
 use Rattle.jcl_meaning.specs.Takes.{day_of, decide, first_passed, is_known, is_there, looked_at, primary_of, taken, target_of, where_of, without_passed}
 
@@ -128,7 +129,7 @@ decided fixed n dd name p key s (Takes serial h) = record {
 -- what a DD goes for, and what stands there
 abbrev pub target_at : Fixed → ℕ → ℕ → SetPlan → Key → State → Target
 target_at fixed n dd p key s = target_of p.status (where_of p.volume s.store s.own.passed s.own.volumes)
-    (first_passed s.own.passed key) (catalogued s.store key) (fixed.place n dd)
+    (first_passed s.own.passed key) (catalogued s.store key) (place_of fixed.places n dd)
 
 abbrev pub decision_at : Fixed → SetPlan → Key → State → Target → Decision
 decision_at fixed p key s t = decide t (is_known fixed.volumes (looked_at t)) (is_there s.store key (looked_at t)) (is_some p.space) s.answers.primary
@@ -141,4 +142,4 @@ abbrev pub takes : Fixed → ℕ → ℕ → Option (List ℕ) → DdKind → St
 takes fixed n dd name (Sysout class) s = takes_no_set dd name (word.Sysout class) s
 takes fixed n dd name Dummy s = takes_no_set dd name word.Dummy s
 takes fixed n dd name (Cards cards) s = takes_no_set dd name (word.Cards (length cards)) s
-takes fixed n dd name (Set p) s = takes_set fixed n dd name p s (fixed.resolve p.key)
+takes fixed n dd name (Set p) s = takes_set fixed n dd name p s (meaning_at fixed.meanings n dd)

@@ -1,11 +1,8 @@
--- What of a store a job can see, and what a run sees behind each step. (This profile)
+-- What a run sees behind each step. (This profile)
 use Rattle.std.specs.Prelude.{◌≡◌, ℕ, Bool, true, false, ◌&&◌, ◌==◌, List, [], ◌∷◌, map, take, drop, All, Option, Some, None, if◌then◌else◌}
 use Rattle.std.specs.List.{list_any}
-use Rattle.std.specs.Str.{bytes_eq}
 use Rattle.jname_core.specs.declared.key.Key.{Key}
-use Rattle.jname_core.specs.Generations.{base_of}
 use Rattle.group_core.specs.declared.entry.CatEntry.{CatEntry}
-use Rattle.group_core.specs.declared.entry.CatEntry.TheVariants.{Volume, Group}
 use Rattle.jcl_plan.specs.declared.outcome.Outcome.{Outcome}
 use Rattle.jcl_plan.specs.declared.plan.DdKind.{DdKind}
 use Rattle.jcl_plan.specs.declared.plan.DdKind.TheVariants.{Sysout, Dummy, Cards, Set}
@@ -13,50 +10,19 @@ use Rattle.jcl_plan.specs.declared.plan.JobPlan.{JobPlan}
 use Rattle.jcl_plan.specs.declared.plan.StepPlan.{StepPlan}
 use Rattle.jcl_plan.specs.declared.plan.VolumePlan.{VolumePlan}
 use Rattle.jcl_plan.specs.declared.plan.VolumePlan.TheVariants.{NotCoded, Serial, OfName, OfDd}
-use Rattle.jcl_meaning.specs.declared.names.HeldName.{HeldName}
-use Rattle.jcl_meaning.specs.declared.state.DdVolume.{DdVolume}
 use Rattle.jcl_meaning.specs.declared.state.Passed.{Passed}
 use Rattle.jcl_meaning.specs.declared.state.Place.{Place}
 use Rattle.jcl_meaning.specs.declared.store.DataSet.{DataSet}
 use Rattle.jcl_meaning.specs.declared.store.SoloStore.{SoloStore}
 use Rattle.jcl_meaning.specs.Agendas.{steps_from}
 use Rattle.jcl_meaning.specs.History.{IsStepOutcome, abended, satisfied}
-use Rattle.jcl_meaning.specs.Names.{held_under, names_of}
+use Rattle.jcl_meaning.specs.Names.{names_of}
+use Rattle.jcl_meaning.specs.Parts.{part_of}
 use Rattle.jcl_meaning.specs.Programs.{moves_of}
 use Rattle.jcl_meaning.specs.Solo.{Ran, fixed_of, fresh, given, is_clean, run}
 use Rattle.jcl_meaning.specs.States.{State}
-use Rattle.jcl_meaning.specs.Stores.{Store, is_unexpired}
-
--- a name is held under one of these, itself or its base
-abbrev pub is_among : List HeldName → List ℕ → Bool
-is_among names name = list_any (λ h. bytes_eq h.name name) names
-
-abbrev pub is_held_by : Option (List ℕ) → List HeldName → Bool
-is_held_by None names = true
-is_held_by (Some name) names = is_among names name
-
--- a key that a job with these names sees: one held under them, or one of its own
-abbrev pub sees_key : List HeldName → Key → Bool
-sees_key names key = is_held_by (held_under key) names
-
--- that a name is a group's base, and nothing of its generations
-abbrev pub some_group : CatEntry
-some_group = Group (record { limit = 0; scratch = false; generations = [] })
-
--- What it sees of a name's entry. A name is held under its base, which is the name itself where it is no generation. A volume is seen
--- where the base is held; a group is seen whole where its own name is held, and else, where the base is, only that it is one.
-abbrev pub seen_entry : List HeldName → List ℕ → Option CatEntry → Option CatEntry
-seen_entry names name None = None
-seen_entry names name (Some (Volume serial)) = if is_among names (base_of name) then Some (Volume serial) else None
-seen_entry names name (Some (Group g)) =
-    if is_among names name then Some (Group g) else (if is_among names (base_of name) then Some some_group else None)
-
--- the part of a store under names: the sets of those names on any volume, their entries, and the job's own sets
-abbrev pub part_of : List HeldName → Store → Store
-part_of names s = record {
-  set = λ key serial. if sees_key names key then s.set key serial else None;
-  catalog = λ name. seen_entry names name (s.catalog name);
-}
+use Rattle.jcl_meaning.specs.Stores.{is_unexpired}
+use Rattle.jcl_meaning.specs.Takes.{dd_volume}
 
 -- a set that is there, unexpired or not
 abbrev pub shown_set : Option DataSet → ℕ → Option Bool
@@ -79,11 +45,6 @@ kind_refers (Set p) step dd = refers p.volume step dd
 abbrev pub steps_refer : List StepPlan → ℕ → ℕ → Bool
 steps_refer steps step dd = list_any (λ s. list_any (λ d. kind_refers d.kind step dd) s.dds) steps
 
--- the volume on which a DD's set was taken
-abbrev pub volume_taken : List DdVolume → ℕ → ℕ → Option (List ℕ)
-volume_taken [] step dd = None
-volume_taken (v ∷ volumes) step dd = if v.step == step && v.dd == dd then Some v.serial else volume_taken volumes step dd
-
 -- What a run sees: which sets are there, each unexpired or not; what is entered; the passed sets in their order; the volumes of the DDs
 -- that later steps refer to; whether an ABEND came; and which tests of the JOB statement and of later steps are met so far.
 pub record View : Type 0 where
@@ -100,7 +61,7 @@ view_at plan k date s = record {
   sets = λ key serial. shown_set ((part_of (names_of plan) s.store).set key serial) date;
   catalog = (part_of (names_of plan) s.store).catalog;
   passed = s.own.passed;
-  volumes = λ step dd. if steps_refer (drop k plan.steps) step dd then volume_taken s.own.volumes step dd else None;
+  volumes = λ step dd. if steps_refer (drop k plan.steps) step dd then dd_volume s.own.volumes step dd else None;
   abended = abended s.own.ended;
   job_tests = map (satisfied s.own.ended) plan.tests.items;
   step_tests = map (λ step. map (satisfied s.own.ended) step.tests.items) (drop k plan.steps);

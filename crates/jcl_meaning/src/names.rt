@@ -101,7 +101,7 @@ fn changes_after_abend(word: Option<ConditionalWord>) -> bool
     }
 }
 
-fn is_shr(status: Status) -> bool
+pub fn is_shr(status: Status) -> bool
     ensures { result ≡ is_shr status }
 {
     match status {

@@ -131,7 +131,7 @@ pub struct Own {
     /// Its DDs that were taken, in order.
     pub dds: Listed<DdState>,
     pub due: Option<Due>,
-    /// The lines that its program has written.
+    /// The lines that its program has written; none again once it has ended.
     pub lines: usize,
 }
 
@@ -166,6 +166,14 @@ pub struct Place {
 pub enum Resolution {
     Means(Key),
     Fails(Fault),
+}
+
+/// What the key of a DD means, from admission on.
+#[derive(Clone, Copy, Debug)]
+pub struct KeyMeaning {
+    pub step: usize,
+    pub dd: usize,
+    pub means: Resolution,
 }
 
 /// What a disposition changes.

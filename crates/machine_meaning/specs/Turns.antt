@@ -8,9 +8,10 @@ use Rattle.jcl_meaning.specs.Acts.{act}
 use Rattle.jcl_meaning.specs.Agendas.{Action, agenda, path_agenda}
 use Rattle.jcl_meaning.specs.History.{IsStepOutcome}
 use Rattle.jcl_meaning.specs.Programs.{ending_of}
+use Rattle.jcl_meaning.specs.Resolutions.{meanings_of}
 use Rattle.jcl_meaning.specs.Solo.{given, is_clean, nothing_own, run}
 use Rattle.jcl_meaning.specs.States.{Fixed, State}
-use Rattle.jcl_meaning.specs.Stores.{Store, resolution_of}
+use Rattle.jcl_meaning.specs.Stores.{Store}
 use Rattle.machine_meaning.specs.declared.machine.Progress.{Progress}
 
 -- the lines that were written, the state after them, and how many actions are done
@@ -41,8 +42,8 @@ abbrev pub fixed_in : List (List ℕ) → JobPlan → Fixed
 fixed_in volumes plan = record {
   job_tests = plan.tests.items;
   volumes = volumes;
-  place = λ step dd. None;
-  resolve = λ key. resolution_of no_store key;
+  places = [];
+  meanings = meanings_of no_store plan;
   date = first_date;
 }
 

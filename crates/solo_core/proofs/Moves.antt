@@ -1,7 +1,15 @@
 -- An action behind a change of the state.
 use Rattle.std.proofs.Common.{◌≡◌, ◌++◌, ◌&&◌, Bool, true, false, List, [], ◌∷◌, refl, sym, ap, ◌∙◌, subst}
 use Rattle.std.proofs.lemmas.List.{append-nil}
+use Rattle.std.proofs.Common.{ℕ, Some}
 use Rattle.jcl_plan.specs.declared.entry.JobLine.{JobLine}
+use Rattle.jcl_plan.specs.declared.outcome.Abend.TheVariants as abend
+use Rattle.jcl_meaning.specs.declared.state.DdState.{DdState}
+use Rattle.jcl_meaning.specs.declared.state.TakenSet.{TakenSet}
+use Rattle.jcl_meaning.specs.declared.store.DataSet.{DataSet}
+use Rattle.jcl_meaning.specs.Programs.{grown_by}
+use Rattle.jcl_meaning.specs.RequestActs.{grant_used, put_grows, put_starts, with_set_at}
+use Rattle.jcl_meaning.specs.States.{abended_by}
 use Rattle.solo_core.specs.declared.runner.Runner.{Runner}
 use Rattle.solo_core.specs.Runners.{Does, Sets, state_by}
 use Rattle.jcl_meaning.specs.States.{Done, State, goes, no_fault}
@@ -49,3 +57,26 @@ said s line old mid lines p e = record {
   fixed = p.fixed;
   volumes = p.volumes;
 }
+
+-- a set is changed behind a change of the state
+pub set_then : (t : TakenSet) (set : DataSet) (s : State) (old mid new : Runner) → Sets s old mid → Sets (with_set_at (state_by mid) t set) mid new →
+    Sets (with_set_at s t set) old new
+set_then t set s old mid new p q =
+    sets_then s (with_set_at s t set) old mid new p (subst (λ (x : State). Sets (with_set_at x t set) mid new) p.state q)
+
+-- a growth that is not granted: the grant is used, the set stays as it is, and the program ends
+pub growth_refused : (granted : Bool) (name text : List ℕ) (d : ℕ) (x : DdState) (t : TakenSet) (secondary : ℕ) (set : DataSet) (s : State) (old one two new : Runner) →
+    granted ≡ false → Sets (grant_used s) old one → Sets (with_set_at (state_by one) t set) one two → Does (abended_by abend.SB37 (state_by two)) two new →
+    Does (put_grows granted name text d x t secondary set s) old new
+growth_refused granted name text d x t secondary set s old one two new e p q r =
+    subst (λ (b : Bool). Does (put_grows b name text d x t secondary set s) old new) (sym e)
+    (moved_on (abended_by abend.SB37) (with_set_at (grant_used s) t set) old two new (set_then t set (grant_used s) old one two p q) r)
+
+-- one that is granted: the set has more tracks, and the operation starts
+pub growth_granted : (granted : Bool) (name text : List ℕ) (d : ℕ) (x : DdState) (t : TakenSet) (secondary : ℕ) (set grown : DataSet) (s : State) (old one two new : Runner) →
+    granted ≡ true → grown ≡ grown_by secondary set → Sets (grant_used s) old one → Sets (with_set_at (state_by one) t grown) one two →
+    Does (put_starts name text d x t (Some secondary) (state_by two)) two new → Does (put_grows granted name text d x t secondary set s) old new
+growth_granted granted name text d x t secondary set grown s old one two new e same p q r =
+    subst (λ (b : Bool). Does (put_grows b name text d x t secondary set s) old new) (sym e)
+    (moved_on (put_starts name text d x t (Some secondary)) (with_set_at (grant_used s) t (grown_by secondary set)) old two new
+    (set_then t (grown_by secondary set) (grant_used s) old one two p (subst (λ (y : DataSet). Sets (with_set_at (state_by one) t y) one two) same q)) r)

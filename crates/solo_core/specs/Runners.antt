@@ -6,16 +6,16 @@ use Rattle.jcl_meaning.specs.declared.take.How.{How}
 use Rattle.jcl_meaning.specs.declared.take.How.TheVariants as how
 use Rattle.jcl_meaning.specs.TakeActs.{all_given_back, back_lines}
 use Rattle.jcl_meaning.specs.Agendas.{Action}
-use Rattle.jcl_meaning.specs.Solo.{is_clean, place_of, run}
+use Rattle.jcl_meaning.specs.Solo.{is_clean, run}
 use Rattle.jcl_meaning.specs.States.{Done, Fixed, State, no_fault}
-use Rattle.jcl_meaning.specs.Stores.{resolution_of, store_of}
+use Rattle.jcl_meaning.specs.Stores.{store_of}
 
 abbrev pub fixed_by : Runner → Fixed
 fixed_by r = record {
   job_tests = r.job_tests.now;
-  volumes = r.start.now.volumes;
-  place = λ step dd. place_of r.places.now step dd;
-  resolve = λ key. resolution_of (store_of r.start.now) key;
+  volumes = r.volumes.now;
+  places = r.places.now;
+  meanings = r.meanings.now;
   date = r.date;
 }
 

@@ -157,6 +157,7 @@ impl<'a> Runner<'a> {
         })?;
         self.own.over = Some(*outcome);
         self.own.due = None;
+        self.own.lines = 0;
         self.use_answers();
         Ok(())
     }

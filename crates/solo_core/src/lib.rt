@@ -19,6 +19,7 @@ use jcl_plan::outcome::Outcome;
 use jcl_plan::plan::JobPlan;
 use plain::listed::Listed;
 use std::alloc::{AllocError, Global};
+use store_core::meanings::meanings_of;
 
 /// The solo meaning of a job: the lines that it writes alone, after its admission, in this store, with these places for its sets to be
 /// made, these programs, answers and date.
@@ -34,11 +35,13 @@ pub fn solo(
     ensures { IfOk result (λ r. IsRun r store.now (solo_of plan.now store.now places.now programs.now answers.now date)) }
 {
     let outcomes = endings(alloc, plan.steps.as_slice(), programs)?;
+    let meanings = meanings_of(alloc, plan, store)?;
     let mut runner = Runner {
         alloc,
         job_tests: plan.tests.as_slice(),
-        start: store,
+        volumes: store.volumes.as_slice(),
         places,
+        meanings: meanings.as_slice(),
         date,
         outcomes: outcomes.as_slice(),
         cancels: answers.cancels.as_slice(),
@@ -68,11 +71,13 @@ pub fn solo_path(
 ) -> Result<SoloRun, AllocError>
     ensures { IfOk result (λ r. IsRun r store.now (solo_path_of plan.now store.now places.now outcomes.now date)) }
 {
+    let meanings = meanings_of(alloc, plan, store)?;
     let mut runner = Runner {
         alloc,
         job_tests: plan.tests.as_slice(),
-        start: store,
+        volumes: store.volumes.as_slice(),
         places,
+        meanings: meanings.as_slice(),
         date,
         outcomes,
         cancels: &[],

@@ -2,7 +2,7 @@
 ghost use Rattle.std.specs.Prelude.{◌≡◌, ◌+◌, ◌<◌, ◌∷◌, [], true, Some, OnOk, IfOk, IsSome, length, slice_get, slice_set};
 ghost use Rattle.std.specs.Option.{option_copied};
 ghost use Rattle.jcl_plan.specs.declared.entry.JobLine.TheVariants as line;
-ghost use Rattle.jcl_meaning.specs.Programs.{emptied, empties, is_full, is_read_only, is_shared, or_nothing};
+ghost use Rattle.jcl_meaning.specs.Programs.{emptied, empties, is_full, is_read_only, or_nothing};
 ghost use Rattle.jcl_meaning.specs.RequestActs.{asked, asks_at, asks_of, gets, put_grows, put_starts, put_to_set, puts, puts_in, reads, received, received_now, spools, store_appended, head_or, grant_used, dd_name, with_set_at};
 ghost use Rattle.solo_core.specs.Runners.{Does, Sets, state_by};
 ghost use Rattle.jcl_meaning.specs.States.{abended_by, asks_open, cancel_due, goes, with_own, wrote};
@@ -10,6 +10,7 @@ ghost use Rattle.jcl_meaning.specs.Stores.{set_in, store_of};
 ghost use Rattle.jcl_meaning.specs.Takes.{secondary_of};
 
 use crate::runner::Runner;
+use jcl_meaning::names::is_shr;
 use jcl_meaning::program::Move;
 use jcl_meaning::source::FoundRecord;
 use jcl_meaning::state::{DdState, Due, Own, TakenSet};
@@ -21,7 +22,7 @@ use jname_core::name8::Name8;
 use plain::listed::Listed;
 use std::alloc::{AllocError, Global};
 use store_core::source::{dd_of, is_concatenated, located, members_at, sources};
-use store_core::store::{put_set, set_in};
+use store_core::store::{change_set, set_in};
 
 /// The next number of lines.
 fn one_more(lines: usize) -> Result<usize, AllocError>
@@ -33,17 +34,6 @@ fn one_more(lines: usize) -> Result<usize, AllocError>
     }
 }
 
-fn is_shared(status: Status) -> bool
-    ensures { result ≡ is_shared status }
-{
-    match status {
-        Status::Shr => true,
-        Status::New => false,
-        Status::Old => false,
-        Status::Mod => false,
-    }
-}
-
 /// Whether no record may be put to a DD.
 fn is_read_only(kind: &DdKind) -> bool
     ensures { result ≡ is_read_only kind.now }
@@ -52,7 +42,7 @@ fn is_read_only(kind: &DdKind) -> bool
         DdKind::Sysout(_) => false,
         DdKind::Dummy => false,
         DdKind::Cards(_) => true,
-        DdKind::Set(p) => is_shared(p.status),
+        DdKind::Set(p) => is_shr(p.status),
     }
 }
 
@@ -225,11 +215,11 @@ impl<'a> Runner<'a> {
         }
     }
 
-    /// Puts a set back on its volume.
+    /// Changes a set that its DD took.
     fn put_set(&mut self, t: &TakenSet, set: DataSet) -> Result<(), AllocError>
         ensures { OnOk result (Sets (with_set_at (state_by self.old) t.now set) self.old self.new) }
     {
-        put_set(self.alloc, &mut self.store, &t.key, t.serial, set)?;
+        change_set(self.alloc, &mut self.store, &t.key, t.serial, set)?;
         Ok(())
     }
 
@@ -507,7 +497,7 @@ impl<'a> Runner<'a> {
         };
         let mut set = set_to_write(self.alloc, &self.store, &t, false)?;
         set.records.push(*text)?;
-        put_set(self.alloc, &mut self.store, &t.key, t.serial, set)
+        change_set(self.alloc, &mut self.store, &t.key, t.serial, set)
     }
 }
 

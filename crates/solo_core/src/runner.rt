@@ -1,16 +1,16 @@
 //! A job on its way: what each action of its agenda does.
 ghost use Rattle.std.specs.Prelude.{◌≡◌, ◌<◌, ◌∷◌, [], OnOk, IfSome, IfNone, length, remove};
 ghost use Rattle.solo_core.specs.Runners.{Does, GivesBack, fixed_by, is_received, state_by};
-ghost use Rattle.jcl_meaning.specs.Solo.{place_of};
+ghost use Rattle.jcl_meaning.specs.Resolutions.{meaning_at, place_of};
 ghost use Rattle.jcl_meaning.specs.States.{if_runs};
-ghost use Rattle.jcl_meaning.specs.Stores.{resolution_of, store_of};
+ghost use Rattle.jcl_meaning.specs.Stores.{store_of};
 ghost use Rattle.jcl_meaning.specs.TakeActs.{decided, decision_at, new_dd, refused, started, store_made, take_word, takes, takes_no_set, takes_set, target_at};
 ghost use Rattle.jcl_meaning.specs.Takes.{primary_of, without_passed};
 ghost use Rattle.jcl_meaning.specs.declared.take.Decision.TheVariants.{Takes};
 
 use jcl_meaning::history::{abended, fate, is_run, some_satisfied};
 use jcl_meaning::names::{is_temporary, same_key};
-use jcl_meaning::state::{DdState, DdVolume, Own, Passed, Place, Resolution, TakenSet};
+use jcl_meaning::state::{DdState, DdVolume, KeyMeaning, Own, Passed, Place, Resolution, TakenSet};
 use jcl_meaning::store::{DataSet, SoloStore};
 use jcl_meaning::take::{Decision, How, Target};
 use jcl_plan::day::Day;
@@ -26,7 +26,8 @@ use plain::listed::Listed;
 use std::alloc::{AllocError, Global};
 use std::mem;
 use store_core::disposition::{back_word, is_deleted_back};
-use store_core::store::{catalogued, is_there, put_set, resolution_of, scratch};
+use store_core::meanings::meaning_at;
+use store_core::store::{catalogued, is_there, put_set, scratch};
 use store_core::take::{
     day_of, decide, first_passed, is_known, looked_at, taken, target_of, where_of,
 };
@@ -36,8 +37,9 @@ use store_core::take::{
 pub(crate) struct Runner<'a> {
     pub(crate) alloc: Global,
     pub(crate) job_tests: &'a [Test],
-    pub(crate) start: &'a SoloStore,
+    pub(crate) volumes: &'a [Serial],
     pub(crate) places: &'a [Place],
+    pub(crate) meanings: &'a [KeyMeaning],
     pub(crate) date: Day,
     pub(crate) outcomes: &'a [Outcome],
     pub(crate) cancels: &'a [Option<u32>],
@@ -130,9 +132,9 @@ impl<'a> Runner<'a> {
         name: &Option<Name8>,
         p: &SetPlan,
     ) -> Result<(), AllocError>
-        ensures { OnOk result (Does (takes_set (fixed_by self.old) n dd name.now p.now (state_by self.old) (resolution_of (store_of self.old.start.now) p.now.key)) self.old self.new) }
+        ensures { OnOk result (Does (takes_set (fixed_by self.old) n dd name.now p.now (state_by self.old) (meaning_at self.old.meanings.now n dd)) self.old self.new) }
     {
-        match resolution_of(self.start, &p.key) {
+        match meaning_at(self.meanings, n, dd) {
             Resolution::Fails(fault) => self.refuse(n, dd, fault),
             Resolution::Means(key) => self.take_key(n, dd, name, p, &key),
         }
@@ -155,7 +157,7 @@ impl<'a> Runner<'a> {
         ensures { result ≡ decision_at (fixed_by self.now) p.now key.now (state_by self.now) target.now }
     {
         let serial = looked_at(target);
-        let known = is_known(self.start.volumes.as_slice(), &serial);
+        let known = is_known(self.volumes, &serial);
         let there = is_there(&self.store, key, &serial);
         let space = p.space.is_some();
         decide(target, known, there, space, true)

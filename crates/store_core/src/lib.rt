@@ -3,6 +3,7 @@
 #![tactic(auto)]
 
 pub mod disposition;
+pub mod meanings;
 pub mod source;
 pub mod store;
 pub mod take;

@@ -6,7 +6,7 @@ ghost use Rattle.group_core.specs.Groups.{without};
 ghost use Rattle.jname_core.specs.Generations.{base_of};
 ghost use Rattle.jname_core.specs.declared.key.Key.TheVariants as key;
 ghost use Rattle.jcl_meaning.specs.Lists.{is_at, is_of, member_copied, without_entries, without_sets};
-ghost use Rattle.jcl_meaning.specs.Stores.{catalogued, entry_in, group_of, is_later, is_unexpired, member_of, name_entered, resolution_of, set_in, store_of, uncatalogued, volume_of, with_entry, with_set};
+ghost use Rattle.jcl_meaning.specs.Stores.{catalogued, entry_in, group_of, is_later, is_unexpired, member_of, name_entered, resolution_of, set_in, store_of, uncatalogued, volume_of, with_entry, with_set, with_set_there};
 ghost use Rattle.jcl_meaning.specs.Takes.{is_there};
 
 use group_core::entry::CatEntry;
@@ -231,6 +231,26 @@ pub fn put_set(
         set,
     })?;
     Ok(())
+}
+
+/// Puts a set in the place of the one that is there; where there is none, nothing is put. The error is want of memory.
+pub fn change_set(
+    alloc: Global,
+    store: &mut SoloStore,
+    key: &Key,
+    serial: Serial,
+    set: DataSet,
+) -> Result<(), AllocError>
+    ensures sets { OnOk result (store_of store.new ≡ with_set_there (set_in store.old.sets key.now serial) set (store_of store.old) key.now serial) }
+    ensures others { OnOk result (store.new.volumes ≡ store.old.volumes) }
+{
+    match set_in(store, key, serial) {
+        None => Ok(()),
+        Some(_) => {
+            put_set(alloc, store, key, serial, set)?;
+            Ok(())
+        }
+    }
 }
 
 fn remove_entry(alloc: Global, store: &mut SoloStore, name: &DsName)

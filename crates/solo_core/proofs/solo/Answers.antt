@@ -3,8 +3,7 @@ use Rattle.std.proofs.Common.{◌∙◌, true, map, refl, ap}
 use Rattle.jcl_plan.specs.declared.plan.StepPlan.{StepPlan}
 use Rattle.jcl_meaning.specs.declared.store.SoloStore.{SoloStore}
 use Rattle.jcl_meaning.specs.Programs.{ending_of}
-use Rattle.jcl_meaning.specs.Solo.{place_of}
-use Rattle.jcl_meaning.specs.Stores.{resolution_of, store_of}
+use Rattle.jcl_meaning.specs.Stores.{store_of}
 use Rattle.solo_core.proofs.Starts.{is_run_of}
 use Rattle.solo_core.proofs.solo.Goals as goal
 
@@ -13,18 +12,18 @@ returns c = is_run_of _ _ _ c.args.store.now _ c.run_agenda.new.self
     c.empty.ensures refl (ap (λ (s : SoloStore). s.volumes) c.in_ok-copy_of.ensures)
     (λ i. record {
       job_tests = c.as_slice-2.ensures.value i;
-      volumes = c.args.store.now.volumes;
-      place = λ step dd. place_of c.args.places.now step dd;
-      resolve = λ key. resolution_of (store_of c.args.store.now) key;
+      volumes = c.as_slice-3.ensures i;
+      places = c.args.places.now;
+      meanings = (c.as_slice-4.ensures ∙ c.in_ok-meanings.ensures) i;
       date = c.args.date;
     })
     (λ i. record {
       store = store_of (c.in_ok-copy_of.ensures i);
       own = c.nothing_own.ensures i;
       answers = record {
-        outcomes = (c.as_slice-3.ensures ∙ c.in_ok-outcomes.ensures ∙ ap (map (λ (step : StepPlan). ending_of c.args.programs.now step.program)) c.as_slice.ensures) i;
-        cancels = c.as_slice-4.ensures i;
-        grants = c.as_slice-5.ensures i;
+        outcomes = (c.as_slice-5.ensures ∙ c.in_ok-outcomes.ensures ∙ ap (map (λ (step : StepPlan). ending_of c.args.programs.now step.program)) c.as_slice.ensures) i;
+        cancels = c.as_slice-6.ensures i;
+        grants = c.as_slice-7.ensures i;
         primary = true;
       };
     })

@@ -1,8 +1,7 @@
 -- The runner starts fresh, and what it did is the run of the agenda.
-use Rattle.std.proofs.Common.{true, [], refl, ap}
+use Rattle.std.proofs.Common.{◌∙◌, true, [], refl, ap}
 use Rattle.jcl_meaning.specs.declared.store.SoloStore.{SoloStore}
-use Rattle.jcl_meaning.specs.Solo.{place_of}
-use Rattle.jcl_meaning.specs.Stores.{resolution_of, store_of}
+use Rattle.jcl_meaning.specs.Stores.{store_of}
 use Rattle.solo_core.proofs.Starts.{is_run_of}
 use Rattle.solo_core.proofs.solo_path.Goals as goal
 
@@ -11,9 +10,9 @@ returns c = is_run_of _ _ _ c.args.store.now _ c.run_agenda.new.self
     c.empty.ensures refl (ap (λ (s : SoloStore). s.volumes) c.in_ok-copy_of.ensures)
     (λ i. record {
       job_tests = c.as_slice.ensures.value i;
-      volumes = c.args.store.now.volumes;
-      place = λ step dd. place_of c.args.places.now step dd;
-      resolve = λ key. resolution_of (store_of c.args.store.now) key;
+      volumes = c.as_slice-2.ensures i;
+      places = c.args.places.now;
+      meanings = (c.as_slice-3.ensures ∙ c.in_ok-meanings.ensures) i;
       date = c.args.date;
     })
     (λ i. record {

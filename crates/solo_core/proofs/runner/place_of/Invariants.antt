@@ -1,5 +1,5 @@
 use Rattle.std.proofs.Common.{◌≡◌, drop}
-use Rattle.jcl_meaning.specs.Solo.{place_of}
+use Rattle.jcl_meaning.specs.Resolutions.{place_of}
 use Rattle.solo_core.proofs.runner.place_of.Given as goal
 
 -- what is left decides
