@@ -28,7 +28,8 @@ use Rattle.jcl_meaning.specs.declared.store.SoloStore.{SoloStore}
 use Rattle.jcl_meaning.specs.Names.{names_of}
 use Rattle.jcl_meaning.specs.Solo.{is_clean}
 use Rattle.jcl_meaning.specs.Stores.{store_of}
-use Rattle.jcl_meaning.specs.Views.{IsViewAfter, View, part_of, ran_to, some_group, view_of}
+use Rattle.jcl_meaning.specs.Parts.{part_of, some_group}
+use Rattle.jcl_meaning.specs.Views.{IsViewAfter, View, ran_to, view_of}
 
 -- a step of IEFBR14 with one DD, T, for the temporary set &&T
 abbrev pub set_of_t : SetPlan

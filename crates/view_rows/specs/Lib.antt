@@ -1,1 +1,4 @@
 pub mod Examples
+pub mod FaultPlaces
+pub mod LaterAbends
+pub mod RolledOff
