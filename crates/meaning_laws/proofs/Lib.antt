@@ -1,0 +1,4 @@
+mod Compatible
+mod Parts
+mod Setless
+mod Splitting
