@@ -1,0 +1,3 @@
+mod Orders
+mod Ranking
+mod Selecting

@@ -1,0 +1,6 @@
+//! The order in which jobs are selected. (CLASS and PRTY parameters)
+#![tactic(auto)]
+
+pub mod queue;
+#[cfg(test)]
+mod tests;
