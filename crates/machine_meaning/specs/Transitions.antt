@@ -1,5 +1,5 @@
 -- What may follow an event: the table of cases.
-use Rattle.std.specs.Prelude.{◌≡◌, ℕ, ◌+◌, ◌<◌, ◌≤◌, nat_le, Bool, true, false, List, [], ◌∷◌, ◌++◌, map, length, remove, Option, Some, None, Result, Ok, Err, All}
+use Rattle.std.specs.Prelude.{◌≡◌, ℕ, ◌+◌, ◌<◌, ◌≤◌, nat_le, Bool, true, false, List, [], ◌∷◌, ◌++◌, map, length, Option, Some, None, Result, Ok, Err, All}
 use Rattle.std.specs.List.{flat_map}
 use Rattle.enq_core.specs.declared.table.Blocked.{Blocked}
 use Rattle.enq_core.specs.declared.table.Want.{Want}
@@ -24,7 +24,7 @@ use Rattle.machine_meaning.specs.declared.machine.SpoolSet.{SpoolSet}
 use Rattle.machine_meaning.specs.declared.machine.Stage.{Stage}
 use Rattle.machine_meaning.specs.declared.machine.Stage.TheVariants.{Selected, Named, Admitted}
 use Rattle.machine_meaning.specs.declared.machine.Waiting.{Waiting}
-use Rattle.machine_meaning.specs.Queues.{HasNone, IsSelected}
+use Rattle.machine_meaning.specs.Queues.{HasNone, IsSelected, others_than}
 use Rattle.machine_meaning.specs.Spools.{HasNoSet, Takes, sets_of, with_sets}
 use Rattle.machine_meaning.specs.Turns.{Advanced, IsSafe, advanced, first_progress, progress_after}
 use Rattle.machine_meaning.specs.Worlds.{World, IsAt, HasNoInitiator, counted, of_job, with_running}
@@ -54,9 +54,9 @@ pub data Reads (job_of : Denoting) (old : World) (deck : List (List ℕ)) (lines
 -- An idle initiator selects a job, if one waits for it.
 pub data Selects (old : World) (place : ℕ) (x : Initiator) (lines : List Entry) (new : World) : Type 0 where
   nothing : All (HasNone old.waiting) x.classes → lines ≡ [] → new ≡ old → Selects old place x lines new
-  selected : (from : ℕ) (w : Waiting) → IsSelected old.waiting x.classes from w → lines ≡ of_job w.job (line.Selected x.number ∷ []) →
+  selected : (w : Waiting) → IsSelected old.waiting x.classes w → lines ≡ of_job w.job (line.Selected x.number ∷ []) →
       new ≡ record old {
-        waiting = remove old.waiting from;
+        waiting = others_than old.waiting w.job;
         initiators = with_running old.initiators place x (Some (record { job = w.job; plan = w.plan; listing = w.listing ++ line.Selected x.number ∷ []; stage = Selected }));
       } → Selects old place x lines new
 

@@ -1,3 +1,4 @@
+pub mod Numbered
 mod Orders
 mod Ranking
 mod Selecting

@@ -16,7 +16,11 @@ use Rattle.std.proofs.lemmas.Map.Views.{IfSome-get}
 use Rattle.queue_core.specs.declared.queue.Queued.{Queued}
 use Rattle.queue_core.specs.declared.queue.Rank.{Rank}
 use Rattle.queue_core.specs.Ranks.{AreBounded, AreNumbered, IsRanked, IsVacant, queued_of, rank_cmp, rank_of}
-use Rattle.queue_core.proofs.Orders.{All-removed, at_itself, at_own, job_at, rank_at}
+use Rattle.queue_core.proofs.Numbered.{All-removed, at_own, job_at, numbered_at}
+use Rattle.queue_core.proofs.Orders.{at_itself, rank_at}
+
+abbrev pub number_of : Queued → ℕ
+number_of q = q.job
 
 -- a look-up that found, and one that did not
 pub some_is : {X : Type 0} (P : X → Type 0) (o : Option X) (x : X) → IfSome o P → o ≡ Some x → P x
@@ -28,20 +32,6 @@ if_some P (Some x) h = h x refl
 
 pub not_some : {X : Type 0} {A : Type 0} (o : Option X) (x : X) → o ≡ None → o ≡ Some x → A
 not_some o x n s = cc
-
-pub numbered_at : (jobs : BTreeMap ℕ Queued) (k : ℕ) (q : Queued) → All AreNumbered jobs.entries → get nat_cmp jobs k ≡ Some q → q.job ≡ k
-numbered_at jobs k q n e = All-contains AreNumbered jobs.entries (k, q) n (some_is (λ v. Contains jobs.entries (k, v)) (get nat_cmp jobs k) q (IfSome-get nat_cmp_total exact_unsigned jobs k) e)
-
--- no job has a number above all
-pub none_at : (jobs : BTreeMap ℕ Queued) (k : ℕ) → All (λ e. e.0 < k) jobs.entries → get nat_cmp jobs k ≡ None
-none_at jobs k below = by (get nat_cmp jobs k) refl
-  where
-    itself : k < k → ⊥
-    itself h = omega arith
-
-    by : (o : Option Queued) → get nat_cmp jobs k ≡ o → o ≡ None
-    by None e = refl
-    by (Some q) e = absurd (itself (All-contains (λ x. x.0 < k) jobs.entries (k, q) below (some_is (λ v. Contains jobs.entries (k, v)) (get nat_cmp jobs k) q (IfSome-get nat_cmp_total exact_unsigned jobs k) e)))
 
 pub none_is : {X : Type 0} (P : Type 0) (o : Option X) → is_some o ≡ false → MatchOption o P (λ x. Unit {0}) → P
 none_is P None e h = h
@@ -166,7 +156,7 @@ module _ (jobs jobs_now : BTreeMap ℕ Queued) (ranks ranks_now : BTreeSet Rank)
 
       by : (same : Bool) → is_at (rank_cmp (rank_of q)) (rank_of x) ≡ same → contains rank_cmp ranks_now (rank_of x) ≡ true
       by true s =
-          let numbers : job ≡ k = sym (numbered_at jobs job q h.numbered had) ∙ ap (λ (r : Rank). r.job) (rank_at (rank_of q) (rank_of x) s) ∙ numbered_at jobs k x h.numbered was in
+          let numbers : job ≡ k = sym (numbered_at number_of jobs job q h.numbered had) ∙ ap (λ (r : Rank). r.job) (rank_at (rank_of q) (rank_of x) s) ∙ numbered_at number_of jobs k x h.numbered was in
           absurd (both_ways (is_at (nat_cmp job) k) (still u k x e).1 (ap (is_at (nat_cmp job)) (sym numbers) ∙ at_own job))
       by false s = v.0 (rank_of x) ∙ ap (λ b. cond b false (contains rank_cmp ranks (rank_of x))) s ∙ some_is (λ y. contains rank_cmp ranks (rank_of y) ≡ true) (get nat_cmp jobs k) x (h.ranked k) was
 

@@ -17,8 +17,9 @@ use Rattle.queue_core.specs.declared.queue.Queued.{Queued}
 use Rattle.queue_core.specs.declared.queue.Rank.{Rank}
 use Rattle.queue_core.specs.Queues.{HasNoneOf, IsFirstOf, IsJobOf}
 use Rattle.queue_core.specs.Ranks.{AreBounded, IsLeast, IsRanked, IsVacant, queued_of, rank_cmp, rank_of}
+use Rattle.queue_core.proofs.Numbered.{numbered_at, value_found}
 use Rattle.queue_core.proofs.Orders.{class_upto, first_job, first_priority, lowest_first}
-use Rattle.queue_core.proofs.Ranking.{if_some, not_some, numbered_at, some_is}
+use Rattle.queue_core.proofs.Ranking.{if_some, not_some, number_of, some_is}
 
 module _ (jobs : BTreeMap ℕ Queued) (ranks : BTreeSet Rank) (occupied : List Bool) (h : IsRanked jobs ranks occupied) where
   -- what holds of each job that a number finds
@@ -38,18 +39,15 @@ module _ (jobs : BTreeMap ℕ Queued) (ranks : BTreeSet Rank) (occupied : List B
       (λ k x found same. both_ways (contains rank_cmp ranks (rank_of x)) (none (rank_of x) same) (there k x found))
 
   held : (q : Queued) → contains rank_cmp ranks (rank_of q) ≡ true → Contains (values jobs) q
-  held q e = value_of jobs.entries (Contains-from_lookup (tells_apart exact_unsigned) q.job q jobs.entries (h.queued (rank_of q) e))
-    where
-      value_of : (es : List (ℕ × Queued)) → Contains es (q.job, q) → Contains (map (λ (e : ℕ × Queued). e.1) es) q
-      value_of es c = (c.0, rw length-map c.1, get_or-map (λ (e : ℕ × Queued). e.1) es c.0 (q.job, q) q c.1 ∙ ap (λ (e : ℕ × Queued). e.1) c.2)
+  held q e = value_found jobs q.job q (h.queued (rank_of q) e)
 
   -- the job of a number
   pub job_found : (job : ℕ) (q : Queued) → get nat_cmp jobs job ≡ Some q → IsJobOf (values jobs) job q
-  job_found job q e = (held q (there job q e), numbered_at jobs job q h.numbered e)
+  job_found job q e = (held q (there job q e), numbered_at number_of jobs job q h.numbered e)
 
   pub no_job : (job : ℕ) → get nat_cmp jobs job ≡ None → All (λ x. x.job ≡ job → ⊥) (values jobs)
   no_job job none = of_each (λ x. x.job ≡ job → ⊥)
-      (λ k x found same. not_some (get nat_cmp jobs k) x (ap (get nat_cmp jobs) (sym (numbered_at jobs k x h.numbered found) ∙ same) ∙ none) found)
+      (λ k x found same. not_some (get nat_cmp jobs k) x (ap (get nat_cmp jobs) (sym (numbered_at number_of jobs k x h.numbered found) ∙ same) ∙ none) found)
 
   pub first_is : (class : ℕ) (q : Queued) → IsLeast ranks class q → IsFirstOf (values jobs) class q
   first_is class q l = record {

@@ -1,5 +1,5 @@
 mod UnitNames
-mod Bests
+mod Queueing
 mod Selections
 mod Answering
 mod Places

@@ -26,7 +26,7 @@ reads_refused job_of old new deck cause (read plan room denoted lines stays) = a
 
 selects_nothing : (old new : World) (place : ℕ) (x : Initiator) (cause : Cause) → Selects old place x (entry.Refused cause ∷ []) new → ⊥
 selects_nothing old new place x cause (nothing none lines stays) = absurd (cc)
-selects_nothing old new place x cause (selected from w is lines stays) = absurd (cc)
+selects_nothing old new place x cause (selected w is lines stays) = absurd (cc)
 
 goes_on_with_nothing : (old new : World) (place : ℕ) (x : Initiator) (r : Running) (stage : Stage) (cause : Cause) → GoesOn old place x r stage (entry.Refused cause ∷ []) new → ⊥
 goes_on_with_nothing old new place x r Selected cause (held free lines stays) = absurd (cc)

@@ -1,8 +1,8 @@
 -- An idle initiator selects a job.
-use Rattle.std.proofs.Common.{◌≡◌, ◌++◌, ◌∷◌, ℕ, zero, suc, List, [], Some, None, All, map, take, drop, arith, sym, ap, ◌∙◌, subst}
-use Rattle.std.specs.Prelude.{get_or, remove, slice_get, slice_set}
-use Rattle.std.proofs.lemmas.List.Elements.{All-append, All-cons, All-nil, All-set, All-tail, All-take}
-use Rattle.std.proofs.lemmas.Option.{get_or_from_slice_get, slice_get_within}
+use Rattle.std.proofs.Common.{◌≡◌, ◌++◌, ◌∷◌, ◌≤◌, ◌<◌, ◌==◌, not, ℕ, List, [], Some, None, All, map, arith, sym, ap, ◌∙◌, subst}
+use Rattle.std.specs.Prelude.{slice_set}
+use Rattle.std.specs.List.{Contains}
+use Rattle.std.proofs.lemmas.List.Elements.{All-cons, All-contains, All-filter, All-nil, All-push, All-set, All-weaker}
 use Rattle.jcl_plan.specs.declared.entry.Entry.{Entry}
 use Rattle.jcl_plan.specs.declared.entry.JobLine.{JobLine}
 use Rattle.jcl_plan.specs.declared.entry.JobLine.TheVariants as line
@@ -10,10 +10,12 @@ use Rattle.machine_meaning.specs.declared.config.ConfiguredInitiator.{Configured
 use Rattle.machine_meaning.specs.declared.machine.Initiator.{Initiator}
 use Rattle.machine_meaning.specs.declared.machine.Stage.TheVariants.{Selected}
 use Rattle.machine_meaning.specs.declared.machine.Waiting.{Waiting}
+use Rattle.machine_meaning.specs.declared.machine.TheConstants.{MOST_JOBS}
 use Rattle.machine_meaning.specs.Configs.{idle}
-use Rattle.machine_meaning.specs.Queues.{IsSelected}
+use Rattle.machine_meaning.specs.Queues.{IsSelected, others_than}
 use Rattle.machine_meaning.specs.Transitions.{Acts, selected}
 use Rattle.machine_meaning.specs.Worlds.{World, of_job}
+use Rattle.sched_core.specs.Selection.{told}
 use Rattle.sched_core.specs.Systems.{IsKept}
 use Rattle.init_core.specs.NoSets.{HasNoSets, RunsNoSets}
 
@@ -22,34 +24,45 @@ abbrev pub with_job : Initiator → Waiting → List JobLine → Initiator
 with_job x w listing = record x { running = Some (record { job = w.job; plan = w.plan; listing = listing; stage = Selected }) }
 
 abbrev pub selected_world : World → ℕ → ℕ → Initiator → Waiting → List JobLine → World
-selected_world old place from x w listing = record old { waiting = remove old.waiting from; initiators = slice_set old.initiators place (with_job x w listing) }
+selected_world old place job x w listing = record old { waiting = others_than old.waiting job; initiators = slice_set old.initiators place (with_job x w listing) }
 
-pub selects : (old : World) (place from : ℕ) (x x_read : Initiator) (w w_read : Waiting) (number : ℕ) (listing : List JobLine) (lines : List Entry) → x.running ≡ None →
-    IsSelected old.waiting x.classes from w → x_read ≡ x → w_read ≡ w → number ≡ x.number → lines ≡ of_job w.job (line.Selected number ∷ []) →
-    listing ≡ w.listing ++ line.Selected number ∷ [] → Acts old place x x.running lines (selected_world old place from x_read w_read listing)
-selects old place from x x_read w w_read number listing lines idle is ex ew en l g =
-    subst (λ runs. Acts old place x runs lines (selected_world old place from x_read w_read listing)) (sym idle)
-    (selected from w is (l ∙ ap (λ n. of_job w.job (line.Selected n ∷ [])) en)
-    (λ i. selected_world old place from (ex i) (ew i) ((g ∙ ap (λ n. w.listing ++ line.Selected n ∷ []) en) i)))
+pub selects : (old : World) (place : ℕ) (x x_read : Initiator) (w taken : Waiting) (job number : ℕ) (lines : List Entry) → x.running ≡ None →
+    IsSelected old.waiting x.classes w → w.job ≡ job → x_read ≡ x → taken ≡ told w (line.Selected number) → number ≡ x.number → lines ≡ of_job job (line.Selected number ∷ []) →
+    Acts old place x x.running lines (selected_world old place job x_read taken taken.listing)
+selects old place x x_read w taken job number lines idle is ej ex et en l =
+    subst (λ runs. Acts old place x runs lines (selected_world old place job x_read taken taken.listing)) (sym idle)
+    (selected w is (l ∙ (λ i. of_job (sym ej i) (line.Selected (en i) ∷ [])))
+    ((λ i. selected_world old place (sym ej i) (ex i) (et i) (et i).listing) ∙ ap (λ n. selected_world old place w.job x w (w.listing ++ line.Selected n ∷ [])) en))
 
--- the job that is read at a place of the queue
-pub waiting_at : (waiting : List Waiting) (from : ℕ) (w w_read : Waiting) → slice_get waiting from ≡ Some w → w_read ≡ get_or waiting from w_read → w_read ≡ w
-waiting_at waiting from w w_read e is = is ∙ get_or_from_slice_get waiting from w w_read e
+all_others : (P : Waiting → Type 0) (waiting : List Waiting) (job : ℕ) → All P waiting → All P (others_than waiting job)
+all_others P waiting job all = All-filter (λ w. not (w.job == job)) P waiting all
 
-all_drop : (P : Waiting → Type 0) (n : ℕ) (waiting : List Waiting) → All P waiting → All P (drop n waiting)
-all_drop P zero waiting all = all
-all_drop P (suc n) [] all = all
-all_drop P (suc n) (w ∷ waiting) all = all_drop P n waiting (All-tail P w waiting all)
-
-pub kept_selected : (waiting : List Waiting) (initiators : List Initiator) (jobs events place from : ℕ) (x : Initiator) (w : Waiting) (listing : List JobLine) →
-    IsKept waiting initiators jobs events → slice_get waiting from ≡ Some w → IsKept (remove waiting from) (slice_set initiators place (with_job x w listing)) jobs events
-kept_selected waiting initiators jobs events place from x w listing k e = record {
-  in_queue = All-append (λ v. HasNoSets v.plan) (take from waiting) (drop (suc from) waiting) (All-take (λ v. HasNoSets v.plan) from waiting k.in_queue) (all_drop (λ v. HasNoSets v.plan) (suc from) waiting k.in_queue);
-  with_initiators = All-set (λ y. RunsNoSets y.running) initiators place (with_job x w listing)
-      (subst (λ v. HasNoSets v.plan) (get_or_from_slice_get waiting from w w e) (k.in_queue from w (slice_get_within waiting from w e))) k.with_initiators;
+pub kept_selected : (waiting : List Waiting) (initiators : List Initiator) (jobs events place job : ℕ) (x : Initiator) (taken w : Waiting) (listing : List JobLine) →
+    IsKept waiting initiators jobs events → Contains waiting w → taken.plan ≡ w.plan → IsKept (others_than waiting job) (slice_set initiators place (with_job x taken listing)) jobs events
+kept_selected waiting initiators jobs events place job x taken w listing k c e = record {
+  in_queue = all_others (λ v. HasNoSets v.plan) waiting job k.in_queue;
+  numbers = all_others (λ v. v.job ≤ jobs) waiting job k.numbers;
+  with_initiators = All-set (λ y. RunsNoSets y.running) initiators place (with_job x taken listing)
+      (subst HasNoSets (sym e) (All-contains (λ v. HasNoSets v.plan) waiting w k.in_queue c)) k.with_initiators;
   few_jobs = k.few_jobs;
   few_events = k.few_events;
 }
+
+pub kept_entered : (waiting new : List Waiting) (initiators : List Initiator) (jobs events job : ℕ) (w : Waiting) → IsKept waiting initiators jobs events → HasNoSets w.plan → w.job ≡ job →
+    jobs < job → job ≤ MOST_JOBS → new ≡ waiting ++ w ∷ [] → IsKept new initiators job events
+kept_entered waiting new initiators jobs events job w k none is next most e = subst (λ ws. IsKept ws initiators job events) (sym e) (record {
+  in_queue = All-push (λ v. HasNoSets v.plan) waiting w k.in_queue none;
+  numbers = All-push (λ v. v.job ≤ job) waiting w (All-weaker (λ v. v.job ≤ jobs) (λ v. v.job ≤ job) (λ v h. below v.job h) waiting k.numbers) (at_most w.job is);
+  with_initiators = k.with_initiators;
+  few_jobs = most;
+  few_events = k.few_events;
+})
+  where
+    below : (n : ℕ) → n ≤ jobs → n ≤ job
+    below n h = omega arith
+
+    at_most : (n : ℕ) → n ≡ job → n ≤ job
+    at_most n h = omega arith
 
 idle_none : (configured : List ConfiguredInitiator) → All (λ x. RunsNoSets x.running) (map idle configured)
 idle_none [] = All-nil (λ x. RunsNoSets x.running)
@@ -58,6 +71,7 @@ idle_none (x ∷ configured) = All-cons (λ y. RunsNoSets y.running) (idle x) (m
 pub kept_start : (waiting : List Waiting) (configured : List ConfiguredInitiator) → waiting ≡ [] → IsKept waiting (map idle configured) 0 0
 kept_start waiting configured e = subst (λ ws. IsKept ws (map idle configured) 0 0) (sym e) (record {
   in_queue = All-nil (λ v. HasNoSets v.plan);
+  numbers = All-nil (λ v. v.job ≤ 0);
   with_initiators = idle_none configured;
   few_jobs = omega arith;
   few_events = omega arith;

@@ -1,33 +1,40 @@
--- The selection of a job, place by place.
-use Rattle.std.specs.Prelude.{◌≡◌, ℕ, ◌<◌, ◌≤◌, Bool, true, ◌&&◌, ◌==◌, nat_lt, if◌then◌else◌, List, Option, Some, None, take, slice_get, All}
+-- The jobs that wait, and the one that is selected.
+use Rattle.std.specs.Prelude.{◌≡◌, ◌≢◌, ℕ, ◌++◌, ◌∷◌, [], List, Option, Some, None, All, map}
+use Rattle.std.specs.BTreeMap.{BTreeMap, IsOrdered, get, is_at, values}
+use Rattle.std.specs.List.{Contains}
+use Rattle.std.specs.Map.{set_value}
+use Rattle.std.specs.Ordering.{nat_cmp}
+use Rattle.jcl_plan.specs.declared.entry.JobLine.{JobLine}
 use Rattle.machine_meaning.specs.declared.machine.Waiting.{Waiting}
-use Rattle.machine_meaning.specs.Queues.{HasNone, IsFirst, IsSelected}
-use Rattle.sched_core.specs.declared.queue.Best.{Best}
+use Rattle.machine_meaning.specs.Queues.{IsSelected}
+use Rattle.queue_core.specs.declared.queue.Queued.{Queued}
 
-abbrev pub is_better : Option Best → ℕ → Bool
-is_better None priority = true
-is_better (Some best) priority = nat_lt best.priority priority
+abbrev pub queued_of : Waiting → Queued
+queued_of w = record { job = w.job; class = w.class; priority = w.priority }
 
-abbrev pub next_best : Option Best → ℕ → Waiting → ℕ → Option Best
-next_best best place w class = if w.class == class && is_better best w.priority then Some (record { place = place; priority = w.priority }) else best
+-- a job lies under its number
+abbrev pub IsNumbered : ℕ × Waiting → Type 0
+IsNumbered e = e.1.job ≡ e.0
 
--- some job is the first
-abbrev pub IsFirstAt : List Waiting → ℕ → ℕ → Type 0
-IsFirstAt waiting class place = (w : Waiting) × IsFirst waiting class place w
+-- the queue is that of the jobs
+pub record IsTied (queue : List Queued) (jobs : BTreeMap ℕ Waiting) : Type 0 where
+  pub ordered : IsOrdered nat_cmp jobs
+  pub numbered : All IsNumbered jobs.entries
+  pub tied : queue ≡ map queued_of (values jobs)
 
-abbrev pub IsSelectedAt : List Waiting → List ℕ → ℕ → Type 0
-IsSelectedAt waiting classes place = (w : Waiting) × IsSelected waiting classes place w
+abbrev pub told : Waiting → JobLine → Waiting
+told w line = record w { listing = w.listing ++ line ∷ [] }
 
--- of the jobs before a place none is of the class, or this one is the first
-pub record IsBestOf (waiting : List Waiting) (class count : ℕ) (best : Best) : Type 0 where
-  pub w : Waiting
-  pub at : slice_get waiting best.place ≡ Some w
-  pub of_class : w.class ≡ class
-  pub priority : w.priority ≡ best.priority
-  pub so_far : best.place < count
-  pub highest : All (λ x. x.class ≡ class → x.priority ≤ best.priority) (take count waiting)
-  pub earliest : All (λ x. x.class ≡ class → x.priority < best.priority) (take best.place waiting)
+-- the line stands behind the others of the job of this number, if it waits
+pub record IsTold (old : BTreeMap ℕ Waiting) (job : ℕ) (line : JobLine) (new : BTreeMap ℕ Waiting) : Type 0 where
+  pub there : (w : Waiting) → get nat_cmp old job ≡ Some w → new.entries ≡ set_value (is_at (nat_cmp job)) old.entries (told w line)
+  pub absent : get nat_cmp old job ≡ None → new.entries ≡ old.entries
 
-abbrev pub IsBest : List Waiting → ℕ → ℕ → Option Best → Type 0
-IsBest waiting class count None = HasNone (take count waiting) class
-IsBest waiting class count (Some best) = IsBestOf waiting class count best
+-- the job that waited under this number, with the line
+abbrev pub IsTaken : List Waiting → ℕ → JobLine → Option Waiting → Type 0
+IsTaken waiting job line None = All (λ w. w.job ≢ job) waiting
+IsTaken waiting job line (Some taken) = (w : Waiting) → Contains waiting w → w.job ≡ job → taken ≡ told w line
+
+-- the job of this number is the first of the first class that has one
+abbrev pub SelectsJob : List Waiting → List ℕ → ℕ → Type 0
+SelectsJob waiting classes job = (w : Waiting) × IsSelected waiting classes w × (w.job ≡ job)

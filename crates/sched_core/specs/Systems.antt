@@ -28,6 +28,7 @@ RefusesFirst result allows = (cause : Cause) (new : World) → allows (entry.Ref
 -- what holds of a machine between events
 pub record IsKept (waiting : List Waiting) (initiators : List Initiator) (jobs events : ℕ) : Type 0 where
   pub in_queue : All (λ w. HasNoSets w.plan) waiting
+  pub numbers : All (λ w. w.job ≤ jobs) waiting
   pub with_initiators : All (λ x. RunsNoSets x.running) initiators
   pub few_jobs : jobs ≤ MOST_JOBS
   pub few_events : events ≤ MOST_EVENTS

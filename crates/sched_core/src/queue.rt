@@ -1,65 +1,106 @@
-//! The order of selection. (CLASS and PRTY parameters)
-ghost use Rattle.std.specs.Prelude.{◌≡◌, All, IfNone, IfSome};
-ghost use Rattle.machine_meaning.specs.Queues.{HasNone, IsFirst, IsSelected};
-ghost use Rattle.sched_core.specs.Selection.{IsFirstAt, IsSelectedAt, is_better, next_best};
+//! The jobs that wait, by number and in the order of their selection. (CLASS and PRTY parameters)
+ghost use Rattle.std.specs.Prelude.{◌≡◌, ◌≢◌, ◌<◌, ◌++◌, ◌∷◌, [], All, IfNone, IfOk, IfSome, OnErr, OnOk};
+ghost use Rattle.machine_meaning.specs.Queues.{HasNone, others_than};
+ghost use Rattle.sched_core.specs.Selection.{IsTaken, IsTold, SelectsJob, queued_of};
 
+use jcl_plan::entry::JobLine;
 use machine_meaning::machine::Waiting;
+use queue_core::queue::{JobQueue, Queued};
+use std::alloc::{AllocError, Global};
+use std::collections::BTreeMap;
+use std::marker::Model;
 
-/// The job of a class that is first so far, by its place and its priority.
-#[derive(Clone, Copy, Debug)]
-pub struct Best {
-    pub place: usize,
-    pub priority: u8,
+/// The jobs that wait, in the order of reading, which is that of their numbers.
+#[derive(Debug, Drop)]
+pub struct Backlog {
+    queue: JobQueue,
+    jobs: BTreeMap<u16, Waiting>,
 }
 
-fn is_better(best: Option<Best>, priority: u8) -> bool
-    ensures { result ≡ is_better best priority }
+impl Model for Backlog {
+    ghost use Rattle.std.specs.BTreeMap.{values};
+    ghost use Rattle.std.specs.Prelude.{List};
+    ghost use Rattle.machine_meaning.specs.declared.machine.Waiting.{Waiting};
+    ghost use Rattle.sched_core.specs.Selection.{IsTied};
+
+    ghost Value = { List Waiting };
+
+    ghost view = { λ b. values b.jobs };
+
+    ghost invariant = { λ b. IsTied b.queue b.jobs };
+}
+
+fn queued_of(w: &Waiting) -> Queued
+    ensures { result ≡ queued_of w.now }
 {
-    match best {
-        None => true,
-        Some(best) => best.priority < priority,
+    Queued {
+        job: w.job,
+        class: w.class,
+        priority: w.priority,
     }
 }
 
-/// Which of these is first: the one so far, or the job at a place.
-fn next_best(best: Option<Best>, place: usize, w: &Waiting, class: u8) -> Option<Best>
-    ensures { result ≡ next_best best place w.now class }
+/// A line more of a job that waits, if it does. An `Err` changes nothing.
+fn tell(jobs: &mut BTreeMap<u16, Waiting>, job: u16, line: JobLine) -> Result<(), AllocError>
+    ensures ok { OnOk result (IsTold jobs.old job line jobs.new) }
+    ensures err { OnErr result (jobs.new.entries ≡ jobs.old.entries) }
 {
-    if w.class == class && is_better(best, w.priority) {
-        Some(Best {
-            place,
-            priority: w.priority,
-        })
-    } else {
-        best
+    match jobs.get_mut(&job) {
+        None => Ok(()),
+        Some(w) => w.listing.push(line),
     }
 }
 
-/// The place of the first job of a class.
-fn first_of(waiting: &[Waiting], class: u8) -> Option<usize>
-    ensures some { IfSome result (IsFirstAt waiting.now class) }
-    ensures none { IfNone result (HasNone waiting.now class) }
-{
-    let mut best: Option<Best> = None;
-    for (place, w) in waiting.iter().enumerate() {
-        best = next_best(best, place, w, class);
-    }
-    match best {
-        None => None,
-        Some(best) => Some(best.place),
-    }
-}
-
-/// The place of the first job of the first of these classes that has one.
-pub fn selected(waiting: &[Waiting], classes: &[u8]) -> Option<usize>
-    ensures some { IfSome result (IsSelectedAt waiting.now classes.now) }
-    ensures none { IfNone result (All (HasNone waiting.now) classes.now) }
-{
-    for class in classes {
-        let class = *class;
-        if let Some(place) = first_of(waiting, class) {
-            return Some(place);
+impl Backlog {
+    pub fn new(alloc: Global) -> Backlog
+        ensures { result ≡ [] }
+    {
+        Backlog {
+            queue: JobQueue::new(alloc),
+            jobs: BTreeMap::new(alloc),
         }
     }
-    None
+
+    /// A job that was read behind all others waits too. An `Err` changes nothing.
+    pub fn enter(&mut self, w: Waiting) -> Result<(), AllocError>
+        requires later { All (λ x. x.job < w.job) self.old }
+        ensures ok { OnOk result (self.new ≡ self.old ++ w ∷ []) }
+        ensures err { OnErr result (self.new ≡ self.old) }
+    {
+        let queued = queued_of(&w);
+        self.queue.enter(queued)?;
+        match self.jobs.insert(queued.job, w) {
+            Ok(_) => Ok(()),
+            Err(_) => {
+                self.queue.remove(queued.job);
+                Err(AllocError)
+            }
+        }
+    }
+
+    /// The first job of the first of these classes that has one, by its number.
+    pub fn selected(&self, classes: &[u8]) -> Option<u16>
+        ensures some { IfSome result (SelectsJob self.now classes.now) }
+        ensures none { IfNone result (All (HasNone self.now) classes.now) }
+    {
+        for class in classes {
+            let class = *class;
+            if let Some(queued) = self.queue.first(class) {
+                return Some(queued.job);
+            }
+        }
+        None
+    }
+
+    /// Takes the job of a number out, with this line behind its others. An `Err` changes nothing.
+    pub fn take(&mut self, job: u16, line: JobLine) -> Result<Option<Waiting>, AllocError>
+        ensures ok { IfOk result (IsTaken self.old job line) }
+        ensures left { OnOk result (self.new ≡ others_than self.old job) }
+        ensures err { OnErr result (self.new ≡ self.old) }
+    {
+        tell(&mut self.jobs, job, line)?;
+        self.queue.remove(job);
+        let w = self.jobs.remove(&job);
+        Ok(w)
+    }
 }

@@ -1,5 +1,5 @@
 //! The machine.
-ghost use Rattle.std.specs.Prelude.{◌≡◌, ◌≢◌, ◌≤◌, ◌∷◌, ◌++◌, [], ℕ, List, All, IfNone, IfOk, IfSome, None, Some, map, OnErr, OnOk, slice_get};
+ghost use Rattle.std.specs.Prelude.{◌≡◌, ◌≢◌, ◌<◌, ◌≤◌, ◌∷◌, ◌++◌, [], ℕ, List, All, IfNone, IfOk, IfSome, None, Some, map, OnErr, OnOk, slice_get};
 ghost use Rattle.jcl_plan.specs.declared.entry.Entry.TheVariants as entry;
 ghost use Rattle.machine_meaning.specs.Configs.{idle, start_of};
 ghost use Rattle.jcl_plan.specs.declared.entry.JobLine.TheVariants as line;
@@ -11,9 +11,8 @@ ghost use Rattle.init_core.specs.NoSets.{HasNoSets};
 
 use crate::config::Config;
 use crate::jobs::job_of;
-use crate::queue::selected;
+use crate::queue::Backlog;
 use init_core::initiator::act;
-use init_core::listing::lines_of;
 use jcl_parse::refusal::ReadError;
 use jcl_plan::entry::{Entry, JobLine};
 use jcl_plan::fault::Cause;
@@ -63,7 +62,7 @@ pub struct System {
     alloc: Global,
     volumes: Listed<Serial>,
     initiators: Vec<Initiator>,
-    waiting: Vec<Waiting>,
+    waiting: Backlog,
     spool: Spool,
     jobs: u16,
     events: u16,
@@ -76,9 +75,9 @@ impl Model for System {
 
     ghost Value = { World };
 
-    ghost view = { λ s. record { volumes = s.volumes; programs = []; initiators = s.initiators.items; waiting = s.waiting.items; holds = []; spool = s.spool; jobs = s.jobs; events = s.events } };
+    ghost view = { λ s. record { volumes = s.volumes; programs = []; initiators = s.initiators.items; waiting = s.waiting; holds = []; spool = s.spool; jobs = s.jobs; events = s.events } };
 
-    ghost invariant = { λ s. IsKept s.waiting.items s.initiators.items s.jobs s.events };
+    ghost invariant = { λ s. IsKept s.waiting s.initiators.items s.jobs s.events };
 }
 
 fn one(alloc: Global, entry: Entry) -> Result<Listed<Entry>, AllocError>
@@ -140,7 +139,7 @@ impl System {
             alloc,
             volumes,
             initiators,
-            waiting: Vec::new(alloc),
+            waiting: Backlog::new(alloc),
             spool: Spool::new(alloc),
             jobs: 0,
             events: 0,
@@ -171,13 +170,12 @@ impl System {
     fn take_in(&mut self, job: u16, plan: JobPlan) -> Result<Listed<Entry>, ApplyFault>
         requires sets { HasNoSets plan }
         requires number { job ≤ MOST_JOBS }
+        requires next { self.old.jobs < job }
         ensures { Answers result self.old self.new (IsTakenIn self.old job plan) }
     {
         let lines = one(self.alloc, Entry::Job(job, first_line(&plan)))?;
         let w = waiting_of(self.alloc, job, plan)?;
-        let Ok(()) = self.waiting.push(w) else {
-            return Err(ApplyFault::Memory);
-        };
+        self.waiting.enter(w)?;
         self.jobs = job;
         Ok(lines)
     }
@@ -213,18 +211,17 @@ impl System {
     {
         let number = self.initiators[place].number;
         let classes = self.initiators[place].classes;
-        let Some(from) = selected(self.waiting.as_slice(), classes.as_slice()) else {
+        let Some(job) = self.waiting.selected(classes.as_slice()) else {
             return Ok(Listed::empty(self.alloc));
         };
-        let job = self.waiting[from].job;
         let lines = one(self.alloc, Entry::Job(job, JobLine::Selected(number)))?;
-        let mut listing = lines_of(self.alloc, self.waiting[from].listing.as_slice())?;
-        listing.push(JobLine::Selected(number))?;
-        let w = self.waiting.remove(from);
+        let Some(w) = self.waiting.take(job, JobLine::Selected(number))? else {
+            unreachable!();
+        };
         self.initiators[place].running = Some(Running {
             job: w.job,
             plan: w.plan,
-            listing,
+            listing: w.listing,
             stage: Stage::Selected,
         });
         Ok(lines)

@@ -2,15 +2,15 @@ use Rattle.std.proofs.Common.{◌∙◌, ap, sym}
 use Rattle.std.specs.Prelude.{filter}
 use Rattle.std.specs.Map.{values_of}
 use Rattle.queue_core.specs.Ranks.{IsVacant}
-use Rattle.queue_core.proofs.Orders.{other_than, without_job}
-use Rattle.queue_core.proofs.Ranking.{bounded_less, last_taken_out, none_is, taken_out}
+use Rattle.queue_core.proofs.Numbered.{other_than, without_job}
+use Rattle.queue_core.proofs.Ranking.{bounded_less, last_taken_out, none_is, number_of, taken_out}
 use Rattle.queue_core.proofs.Selecting.{job_found, no_job}
 use Rattle.queue_core.proofs.queue.JobQueue.remove.Goals as goal
 
 pub returns-in_err-queued-clause-left : goal.returns-in_err-queued-clause-left
 returns-in_err-queued-clause-left c =
-    ap values_of c.in_err-queued.ensures.entries ∙ without_job c.args.job c.self.inside.jobs.entries c.self.invariant.ordered c.self.invariant.numbered
-    ∙ ap (filter (other_than c.args.job)) c.self.view_is
+    ap values_of c.in_err-queued.ensures.entries ∙ without_job number_of c.args.job c.self.inside.jobs.entries c.self.invariant.ordered c.self.invariant.numbered
+    ∙ ap (filter (other_than number_of c.args.job)) c.self.view_is
 
 pub first_of-requires : goal.first_of-requires
 first_of-requires c = bounded_less c.self.inside.jobs c.remove.new.self c.self.inside.ranks c.remove-2.new.self c.self.inside.occupied c.args.job c.in_ok-queued.queued
@@ -30,13 +30,13 @@ invariant_of-self-else-is_none c =
 
 pub returns-then-is_none-clause-left : goal.returns-then-is_none-clause-left
 returns-then-is_none-clause-left c =
-    ap values_of c.in_ok-queued.ensures.entries ∙ without_job c.args.job c.self.inside.jobs.entries c.self.invariant.ordered c.self.invariant.numbered
-    ∙ ap (filter (other_than c.args.job)) c.self.view_is
+    ap values_of c.in_ok-queued.ensures.entries ∙ without_job number_of c.args.job c.self.inside.jobs.entries c.self.invariant.ordered c.self.invariant.numbered
+    ∙ ap (filter (other_than number_of c.args.job)) c.self.view_is
 
 pub returns-else-is_none-clause-left : goal.returns-else-is_none-clause-left
 returns-else-is_none-clause-left c =
-    ap values_of c.in_ok-queued.ensures.entries ∙ without_job c.args.job c.self.inside.jobs.entries c.self.invariant.ordered c.self.invariant.numbered
-    ∙ ap (filter (other_than c.args.job)) c.self.view_is
+    ap values_of c.in_ok-queued.ensures.entries ∙ without_job number_of c.args.job c.self.inside.jobs.entries c.self.invariant.ordered c.self.invariant.numbered
+    ∙ ap (filter (other_than number_of c.args.job)) c.self.view_is
 
 pub returns-in_err-queued-clause-none : goal.returns-in_err-queued-clause-none
 returns-in_err-queued-clause-none c = rw (c.from_residual.ensures, ← c.self.view_is)
