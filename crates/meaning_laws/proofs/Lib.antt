@@ -1,4 +1,4 @@
 mod Compatible
 mod Parts
-mod Setless
+pub mod Setless
 mod Splitting
