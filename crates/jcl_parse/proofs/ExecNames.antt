@@ -4,12 +4,13 @@ use Rattle.std.specs.List.{flat_map, starts_with}
 use Rattle.std.proofs.lemmas.Bool.{ltb-true}
 use Rattle.jcl_plan.specs.declared.fault.Cause.{Cause}
 use Rattle.jcl_plan.specs.declared.fault.Cause.TheVariants.{P}
+use Rattle.jcl_plan.specs.declared.fault.StatementFault.TheVariants.{LeftOut, NotOneProgram, TooManyPositional}
 use Rattle.card_core.specs.declared.statement.Statement.{Statement}
 use Rattle.jcl_parse.specs.declared.exec.ExecKeyword.TheVariants as word
 use Rattle.operand_core.specs.Faults.{name_faults, read_name_faults, told, when, written_name_faults}
 use Rattle.operand_core.specs.Operands.{Keyword, Operand, first_of, is_crowded, operand_of, operand_of_parts, part_faults, parts_of}
 use Rattle.operand_core.specs.Keywords.{has_key, twice_faults, value_of}
-use Rattle.jcl_parse.specs.ExecCards.{calls, exec_keyword, exec_keyword_faults, exec_operand_faults, exec_word_faults, has_positional, later_on_exec, own_exec_faults, program_faults, runs_badly, symbol_faults}
+use Rattle.jcl_parse.specs.ExecCards.{calls, exec_keyword, exec_keyword_faults, exec_operand_faults, exec_word_faults, has_positional, unsupported_on_exec, own_exec_faults, program_faults, runs_badly, symbol_faults}
 use Rattle.jcl_parse.specs.Reading.{CanRun}
 use Rattle.operand_core.specs.Reading.{operand_with}
 use Rattle.operand_core.proofs.Faultless.{none_behind, none_in_front}
@@ -34,15 +35,15 @@ record Good (parts : List (List ℕ)) (operand : Operand) : Type 0 where
 good_from_none : (parts : List (List ℕ)) → exec_operand_faults (operand_of_parts 1 parts) ≡ [] → Good parts (operand_of_parts 1 parts)
 good_from_none parts none =
     let operand : Operand = operand_of_parts 1 parts in
-    let runs_faults : List Cause = when (runs_badly operand) (P 10) in
+    let runs_faults : List Cause = when (runs_badly operand) (P NotOneProgram) in
     let name : List Cause = read_name_faults (first_of operand.positional) in
     let each : List Cause = flat_map (exec_keyword_faults (calls operand)) operand.keywords in
-    let four = none_in_front (operand.faults ++ runs_faults ++ name ++ each) (twice_faults later_on_exec operand.keywords) none in
+    let four = none_in_front (operand.faults ++ runs_faults ++ name ++ each) (twice_faults unsupported_on_exec operand.keywords) none in
     let three = none_in_front (operand.faults ++ runs_faults ++ name) each four in
     let two = none_in_front (operand.faults ++ runs_faults) name three in
     record {
-      forms = none_in_front (flat_map part_faults parts) (when (is_crowded 1 parts) (P 9)) (none_in_front operand.faults runs_faults two);
-      runs = when_none (runs_badly operand) (P 10) (none_behind operand.faults runs_faults two);
+      forms = none_in_front (flat_map part_faults parts) (when (is_crowded 1 parts) (P TooManyPositional)) (none_in_front operand.faults runs_faults two);
+      runs = when_none (runs_badly operand) (P NotOneProgram) (none_behind operand.faults runs_faults two);
       positional = none_behind (operand.faults ++ runs_faults) name three;
       each = none_behind (operand.faults ++ runs_faults ++ name) each four;
     }
@@ -51,7 +52,7 @@ read_name : (value : Option (List ℕ)) → is_some value ≡ true → read_name
 read_name None some none = absurd (cc)
 read_name (Some text) some none = ap told none
 
-program_cases : (refers : Bool) (faults : List Cause) → cond refers (P 19 ∷ []) faults ≡ [] → faults ≡ []
+program_cases : (refers : Bool) (faults : List Cause) → cond refers (P LeftOut ∷ []) faults ≡ [] → faults ≡ []
 program_cases true faults h = absurd (cc)
 program_cases false faults h = h
 

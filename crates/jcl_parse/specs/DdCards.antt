@@ -5,6 +5,7 @@ use Rattle.std.specs.Str.{bytes_eq}
 use Rattle.card_core.specs.declared.statement.Statement.{Statement}
 use Rattle.jcl_plan.specs.declared.fault.Cause.{Cause}
 use Rattle.jcl_plan.specs.declared.fault.Cause.TheVariants.{P}
+use Rattle.jcl_plan.specs.declared.fault.StatementFault.TheVariants.{BadValue, ExcludeOneAnother, LeftOut}
 use Rattle.jcl_parse.specs.declared.dd.DdCard.{DdCard}
 use Rattle.jcl_parse.specs.declared.dd.DdCardKind.{DdCardKind}
 use Rattle.jcl_parse.specs.declared.dd.DdCardKind.TheVariants.{Cards, Dummy, Sysout, UnnamedSet}
@@ -15,9 +16,9 @@ use Rattle.operand_core.specs.Subparameters.{first_place, subparameters_of}
 use Rattle.operand_core.specs.Values.{class_of, coded, is_output_class}
 use Rattle.operand_core.specs.Qualified.{head_of, is_qualified}
 
--- keywords that are not brought yet
-abbrev pub later_on_dd : List ℕ → Bool
-later_on_dd key = is_among (codes "DSNAME" ∷ codes "DSN" ∷ codes "DISP" ∷ codes "UNIT" ∷ codes "VOLUME" ∷ codes "VOL" ∷ codes "SPACE" ∷ codes "DDNAME" ∷ codes "LABEL" ∷ codes "DCB" ∷ codes "UCS" ∷ codes "FCB" ∷ codes "OUTLIM" ∷ []) key
+-- keywords that are not supported yet
+abbrev pub unsupported_on_dd : List ℕ → Bool
+unsupported_on_dd key = is_among (codes "DSNAME" ∷ codes "DSN" ∷ codes "DISP" ∷ codes "UNIT" ∷ codes "VOLUME" ∷ codes "VOL" ∷ codes "SPACE" ∷ codes "DDNAME" ∷ codes "LABEL" ∷ codes "DCB" ∷ codes "UCS" ∷ codes "FCB" ∷ codes "OUTLIM" ∷ []) key
 
 -- keywords that are left out for good
 abbrev pub left_out_on_dd : List ℕ → Bool
@@ -29,11 +30,11 @@ is_sysout value = is_output_class (first_place (subparameters_of value)) && nat_
 
 abbrev pub sysout_faults : Option (List ℕ) → List Cause
 sysout_faults None = []
-sysout_faults (Some value) = when (not (is_sysout value)) (P 6)
+sysout_faults (Some value) = when (not (is_sysout value)) (P BadValue)
 
 abbrev pub dd_keyword_faults : Keyword → List Cause
 dd_keyword_faults keyword =
-    if later_on_dd keyword.key then P 19 ∷ []
+    if unsupported_on_dd keyword.key then P LeftOut ∷ []
     else (if bytes_eq keyword.key (codes "SYSOUT") then sysout_faults (coded keyword.value)
     else unknown_faults left_out_on_dd keyword.key)
 
@@ -55,7 +56,7 @@ is_read_word (Some text) = is_dd_word text
 abbrev pub dd_positional_faults : Option (List ℕ) → List Cause
 dd_positional_faults None = []
 dd_positional_faults (Some text) =
-    if is_dd_word text then [] else (if bytes_eq text (codes "DYNAM") then P 19 ∷ [] else P 6 ∷ [])
+    if is_dd_word text then [] else (if bytes_eq text (codes "DYNAM") then P LeftOut ∷ [] else P BadValue ∷ [])
 
 -- the class of SYSOUT, where one is coded
 abbrev pub sysout_of : List Keyword → Option (List ℕ)
@@ -69,8 +70,8 @@ excludes operand =
 
 abbrev pub dd_operand_faults : Operand → List Cause
 dd_operand_faults operand =
-    operand.faults ++ dd_positional_faults (first_of operand.positional) ++ when (excludes operand) (P 7)
-    ++ flat_map dd_keyword_faults operand.keywords ++ twice_faults later_on_dd operand.keywords
+    operand.faults ++ dd_positional_faults (first_of operand.positional) ++ when (excludes operand) (P ExcludeOneAnother)
+    ++ flat_map dd_keyword_faults operand.keywords ++ twice_faults unsupported_on_dd operand.keywords
 
 -- the faults of a statement whose operand is read; one positional operand is
 abbrev pub own_dd_faults : Statement → List Cause

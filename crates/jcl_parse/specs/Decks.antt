@@ -5,6 +5,7 @@ use Rattle.std.specs.Str.{bytes_eq}
 use Rattle.card_core.specs.declared.statement.Statement.{Statement}
 use Rattle.jcl_plan.specs.declared.fault.Cause.{Cause}
 use Rattle.jcl_plan.specs.declared.fault.Cause.TheVariants.{P}
+use Rattle.jcl_plan.specs.declared.fault.StatementFault.TheVariants.{DdBeforeExec, NoStep, NoSuchProcedureStep, NotOneJob, NothingToContinue, UnknownOperation}
 use Rattle.jcl_parse.specs.declared.dd.DdCard.{DdCard}
 use Rattle.jcl_parse.specs.declared.deck.Deck.{Deck}
 use Rattle.jcl_parse.specs.declared.deck.DeckStep.{DeckStep}
@@ -44,19 +45,19 @@ is_of_job_library place statement = bytes_eq statement.name (codes "JOBLIB") || 
 
 -- the faults of a statement by its place in the deck
 abbrev pub place_faults : Place → Operation → Statement → List Cause
-place_faults place operation.Job statement = when (not place.first) (P 1)
-place_faults place operation.Exec statement = when place.first (P 1)
-place_faults place operation.Other statement = when place.first (P 1)
+place_faults place operation.Job statement = when (not place.first) (P NotOneJob)
+place_faults place operation.Exec statement = when place.first (P NotOneJob)
+place_faults place operation.Other statement = when place.first (P NotOneJob)
 place_faults place operation.Dd statement =
-    when place.first (P 1)
-    ++ when (not place.called && not (is_of_job_library place statement)) (P 12)
-    ++ when (has_no_name statement && not place.behind_dd) (P 15)
+    when place.first (P NotOneJob)
+    ++ when (not place.called && not (is_of_job_library place statement)) (P DdBeforeExec)
+    ++ when (has_no_name statement && not place.behind_dd) (P NothingToContinue)
 
 abbrev pub own_faults : Operation → Statement → List Cause
 own_faults operation.Job statement = own_job_faults statement
 own_faults operation.Exec statement = own_exec_faults statement
 own_faults operation.Dd statement = own_dd_faults statement
-own_faults operation.Other statement = written_name_faults statement.name ++ P 3 ∷ []
+own_faults operation.Other statement = written_name_faults statement.name ++ P UnknownOperation ∷ []
 
 abbrev pub names_of : Operation → Statement → List Cause
 names_of operation.Dd statement = dd_name_faults statement.name
@@ -115,13 +116,13 @@ has_misplaced_qualifier [] = false
 has_misplaced_qualifier (step ∷ steps) = misqualifies step.exec.runs (has_qualified step.dds) (has_misplaced_qualifier steps)
 
 abbrev pub deck_with : JobCard → List DeckStep → Result Deck Cause
-deck_with job [] = Err (P 11)
+deck_with job [] = Err (P NoStep)
 deck_with job (step ∷ steps) =
-    if has_misplaced_qualifier (step ∷ steps) then Err (P 24) else Ok (record { job = job; steps = step ∷ steps })
+    if has_misplaced_qualifier (step ∷ steps) then Err (P NoSuchProcedureStep) else Ok (record { job = job; steps = step ∷ steps })
 
 -- a deck in which each statement may stand where it does
 abbrev pub deck_without_refusal : List Statement → Result Deck Cause
-deck_without_refusal [] = Err (P 1)
+deck_without_refusal [] = Err (P NotOneJob)
 deck_without_refusal (statement ∷ statements) = deck_with (job_card statement) (steps_of statements)
 
 abbrev pub deck_unless : Option Cause → List Statement → Result Deck Cause

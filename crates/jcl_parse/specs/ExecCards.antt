@@ -7,6 +7,7 @@ use Rattle.jname_core.specs.Faults.{first_fault, has_other_than}
 use Rattle.card_core.specs.declared.statement.Statement.{Statement}
 use Rattle.jcl_plan.specs.declared.fault.Cause.{Cause}
 use Rattle.jcl_plan.specs.declared.fault.Cause.TheVariants.{P}
+use Rattle.jcl_plan.specs.declared.fault.StatementFault.TheVariants.{LeftOut, NotOneProgram, UnknownKeyword}
 use Rattle.jcl_parse.specs.declared.exec.ExecCard.{ExecCard}
 use Rattle.jcl_parse.specs.declared.exec.ExecKeyword.{ExecKeyword}
 use Rattle.jcl_parse.specs.declared.exec.ExecKeyword.TheVariants as word
@@ -19,9 +20,9 @@ use Rattle.operand_core.specs.Keywords.{has_key, is_among, is_long, twice_faults
 use Rattle.operand_core.specs.Qualified.{head_of, is_qualified}
 use Rattle.operand_core.specs.Values.{unquoted}
 
--- keywords that are not brought yet, also for one step of a procedure, as COND.STEP
-abbrev pub later_on_exec : List ℕ → Bool
-later_on_exec key = is_among (codes "COND" ∷ codes "PARM" ∷ codes "REGION" ∷ codes "TIME" ∷ codes "ACCT" ∷ []) (head_of key)
+-- keywords that are not supported yet, also for one step of a procedure, as COND.STEP
+abbrev pub unsupported_on_exec : List ℕ → Bool
+unsupported_on_exec key = is_among (codes "COND" ∷ codes "PARM" ∷ codes "REGION" ∷ codes "TIME" ∷ codes "ACCT" ∷ []) (head_of key)
 
 -- keywords that are left out for good
 abbrev pub left_out_on_exec : List ℕ → Bool
@@ -34,14 +35,14 @@ exec_keyword calls key =
     else (if bytes_eq key (codes "PROC") then word.Procedure
     else (if is_qualified key && not calls then word.Unknown
     else (if left_out_on_exec key then word.LeftOut
-    else (if later_on_exec key then word.Later
+    else (if unsupported_on_exec key then word.Unsupported
     else (if is_qualified key || not calls then word.Unknown
     else word.Symbol)))))
 
 -- a program is named, and not by reference to a DD
 abbrev pub program_faults : Option (List ℕ) → List Cause
 program_faults None = []
-program_faults (Some value) = if starts_with nat_eq value (codes "*.") then P 19 ∷ [] else name_faults value
+program_faults (Some value) = if starts_with nat_eq value (codes "*.") then P LeftOut ∷ [] else name_faults value
 
 -- a symbol has one to seven name characters
 abbrev pub symbol_faults : List ℕ → List Cause
@@ -50,9 +51,9 @@ symbol_faults key = as_cause (first_fault (length key == 0) (nat_lt 7 (length ke
 abbrev pub exec_word_faults : ExecKeyword → Keyword → List Cause
 exec_word_faults word.Program keyword = program_faults keyword.value
 exec_word_faults word.Procedure keyword = read_name_faults keyword.value
-exec_word_faults word.Unknown keyword = P 4 ∷ []
-exec_word_faults word.LeftOut keyword = P 19 ∷ []
-exec_word_faults word.Later keyword = P 19 ∷ []
+exec_word_faults word.Unknown keyword = P UnknownKeyword ∷ []
+exec_word_faults word.LeftOut keyword = P LeftOut ∷ []
+exec_word_faults word.Unsupported keyword = P LeftOut ∷ []
 exec_word_faults word.Symbol keyword = symbol_faults keyword.key
 
 abbrev pub exec_keyword_faults : Bool → Keyword → List Cause
@@ -73,8 +74,8 @@ runs_badly operand =
 
 abbrev pub exec_operand_faults : Operand → List Cause
 exec_operand_faults operand =
-    operand.faults ++ when (runs_badly operand) (P 10) ++ read_name_faults (first_of operand.positional)
-    ++ flat_map (exec_keyword_faults (calls operand)) operand.keywords ++ twice_faults later_on_exec operand.keywords
+    operand.faults ++ when (runs_badly operand) (P NotOneProgram) ++ read_name_faults (first_of operand.positional)
+    ++ flat_map (exec_keyword_faults (calls operand)) operand.keywords ++ twice_faults unsupported_on_exec operand.keywords
 
 -- the faults of a statement whose operand is read; one positional operand is
 abbrev pub own_exec_faults : Statement → List Cause

@@ -10,9 +10,9 @@ use Rattle.jcl_parse.specs.declared.rules.Form.{Form}
 use Rattle.jcl_parse.specs.declared.rules.Form.TheVariants as form
 use Rattle.operand_core.specs.Faults.{name_faults, told}
 use Rattle.operand_core.specs.Operands.{Keyword, Operand}
-use Rattle.jcl_parse.specs.JobCards.{job_keyword_faults, later_on_job}
-use Rattle.jcl_parse.specs.ExecCards.{calls, exec_keyword_faults, later_on_exec, procedure_of, program_of}
-use Rattle.jcl_parse.specs.DdCards.{dd_keyword_faults, later_on_dd}
+use Rattle.jcl_parse.specs.JobCards.{job_keyword_faults, unsupported_on_job}
+use Rattle.jcl_parse.specs.ExecCards.{calls, exec_keyword_faults, unsupported_on_exec, procedure_of, program_of}
+use Rattle.jcl_parse.specs.DdCards.{dd_keyword_faults, unsupported_on_dd}
 use Rattle.jcl_parse.specs.Decks.{refusal_from}
 
 abbrev pub keyword_faults : Form → Keyword → List Cause
@@ -20,10 +20,10 @@ keyword_faults form.Job keyword = job_keyword_faults keyword
 keyword_faults (form.Exec calls) keyword = exec_keyword_faults calls keyword
 keyword_faults form.Dd keyword = dd_keyword_faults keyword
 
-abbrev pub is_later : Form → List ℕ → Bool
-is_later form.Job key = later_on_job key
-is_later (form.Exec calls) key = later_on_exec key
-is_later form.Dd key = later_on_dd key
+abbrev pub is_unsupported : Form → List ℕ → Bool
+is_unsupported form.Job key = unsupported_on_job key
+is_unsupported (form.Exec calls) key = unsupported_on_exec key
+is_unsupported form.Dd key = unsupported_on_dd key
 
 -- a reading, seen by view, is what statements denote, memory apart
 abbrev pub Gives : {X Y : Type 0} → (X → Y) → Result X ReadError → Result Y Cause → Type 0

@@ -4,14 +4,14 @@ ghost use Rattle.std.specs.Option.{option_copied};
 ghost use Rattle.operand_core.specs.Faults.{told};
 ghost use Rattle.operand_core.specs.Subparameters.{first_place, subparameters_of};
 ghost use Rattle.operand_core.specs.Values.{class_of};
-ghost use Rattle.jcl_parse.specs.DdCards.{dd_keyword_faults, is_dd_word, is_sysout, later_on_dd, left_out_on_dd, sysout_faults, behind_period, dd_card, dd_faults, dd_kind, dd_name_faults, dd_name_of, dd_of_statement, dd_operand_faults, dd_positional_faults, excludes, is_read_word, own_dd_faults, qualifier_of, sysout_of};
+ghost use Rattle.jcl_parse.specs.DdCards.{dd_keyword_faults, is_dd_word, is_sysout, unsupported_on_dd, left_out_on_dd, sysout_faults, behind_period, dd_card, dd_faults, dd_kind, dd_name_faults, dd_name_of, dd_of_statement, dd_operand_faults, dd_positional_faults, excludes, is_read_word, own_dd_faults, qualifier_of, sysout_of};
 ghost use Rattle.jcl_parse.specs.Reading.{Gives};
 ghost use Rattle.operand_core.specs.Reading.{Tells, operand_with};
 
 use crate::refusal::ReadError;
 use crate::rules::{Form, has_twice, keywords_fault};
 use card_core::statement::Statement;
-use jcl_plan::fault::Cause;
+use jcl_plan::fault::{Cause, StatementFault};
 use jname_core::name8::Name8;
 use operand_core::fault::{
     earlier, long_fault, name_fault, valid_name, when, written_name, written_name_fault,
@@ -46,8 +46,8 @@ pub struct DdCard {
     pub kind: DdCardKind,
 }
 
-pub(crate) fn later_on_dd(key: &[u8]) -> bool
-    ensures { result ≡ later_on_dd key.now }
+pub(crate) fn unsupported_on_dd(key: &[u8]) -> bool
+    ensures { result ≡ unsupported_on_dd key.now }
 {
     key == b"DSNAME".as_slice()
         || key == b"DSN".as_slice()
@@ -87,7 +87,7 @@ fn sysout_fault(value: Option<&[u8]>) -> Option<Cause>
 {
     match value {
         None => None,
-        Some(value) => when(!is_sysout(value), Cause::P(6)),
+        Some(value) => when(!is_sysout(value), Cause::P(StatementFault::BadValue)),
     }
 }
 
@@ -95,8 +95,8 @@ pub(crate) fn dd_keyword_fault(keyword: &Keyword<'_>) -> Option<Cause>
     ensures { result ≡ told (dd_keyword_faults keyword.now) }
 {
     let key = keyword.key();
-    if later_on_dd(key) {
-        Some(Cause::P(19))
+    if unsupported_on_dd(key) {
+        Some(Cause::P(StatementFault::LeftOut))
     } else if key == b"SYSOUT".as_slice() {
         sysout_fault(coded(keyword.value()))
     } else {
@@ -159,9 +159,9 @@ fn dd_positional_fault(part: Option<&[u8]>) -> Option<Cause>
             if is_dd_word(text) {
                 None
             } else if text == b"DYNAM".as_slice() {
-                Some(Cause::P(19))
+                Some(Cause::P(StatementFault::LeftOut))
             } else {
-                Some(Cause::P(6))
+                Some(Cause::P(StatementFault::BadValue))
             }
         }
     }
@@ -188,9 +188,15 @@ fn dd_operand_fault(operand: &Operand<'_>) -> Option<Cause>
     let positional = operand.positional.as_slice();
     let keywords = operand.keywords.as_slice();
     let word = dd_positional_fault(first_of(positional));
-    let both = when(excludes(positional, keywords), Cause::P(7));
+    let both = when(
+        excludes(positional, keywords),
+        Cause::P(StatementFault::ExcludeOneAnother),
+    );
     let each = keywords_fault(Form::Dd, keywords);
-    let twice = when(has_twice(Form::Dd, keywords), Cause::P(5));
+    let twice = when(
+        has_twice(Form::Dd, keywords),
+        Cause::P(StatementFault::KeywordTwice),
+    );
     let before_keywords = earlier(earlier(operand.fault, word), both);
     earlier(earlier(before_keywords, each), twice)
 }

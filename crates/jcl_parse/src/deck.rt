@@ -9,7 +9,7 @@ use crate::exec::{ExecCard, Runs, exec_card, own_exec_fault};
 use crate::job::{JobCard, job_card, own_job_fault};
 use crate::refusal::ReadError;
 use card_core::statement::Statement;
-use jcl_plan::fault::Cause;
+use jcl_plan::fault::{Cause, StatementFault};
 use operand_core::fault::{earlier, long_fault, when, written_name_fault};
 use operand_core::keyword::is_long;
 use plain::listed::Listed;
@@ -105,12 +105,12 @@ fn is_of_job_library(place: Place, statement: &Statement) -> bool
 fn dd_place_fault(place: Place, statement: &Statement) -> Option<Cause>
     ensures { result ≡ told (place_faults place Operation.Dd statement.now) }
 {
-    let first = when(place.first, Cause::P(1));
+    let first = when(place.first, Cause::P(StatementFault::NotOneJob));
     let early = !place.called && !is_of_job_library(place, statement);
     let alone = has_no_name(statement) && !place.behind_dd;
     earlier(
-        earlier(first, when(early, Cause::P(12))),
-        when(alone, Cause::P(15)),
+        earlier(first, when(early, Cause::P(StatementFault::DdBeforeExec))),
+        when(alone, Cause::P(StatementFault::NothingToContinue)),
     )
 }
 
@@ -119,9 +119,9 @@ fn place_fault(place: Place, operation: Operation, statement: &Statement) -> Opt
     ensures { result ≡ told (place_faults place operation statement.now) }
 {
     match operation {
-        Operation::Job => when(!place.first, Cause::P(1)),
-        Operation::Exec => when(place.first, Cause::P(1)),
-        Operation::Other => when(place.first, Cause::P(1)),
+        Operation::Job => when(!place.first, Cause::P(StatementFault::NotOneJob)),
+        Operation::Exec => when(place.first, Cause::P(StatementFault::NotOneJob)),
+        Operation::Other => when(place.first, Cause::P(StatementFault::NotOneJob)),
         Operation::Dd => dd_place_fault(place, statement),
     }
 }
@@ -133,7 +133,7 @@ fn unknown_fault(statement: &Statement) -> Option<Cause>
 {
     earlier(
         written_name_fault(statement.name.as_slice()),
-        Some(Cause::P(3)),
+        Some(Cause::P(StatementFault::UnknownOperation)),
     )
 }
 
@@ -276,15 +276,15 @@ fn deck_without_refusal(alloc: Global, statements: &[Statement]) -> Result<Deck,
     ensures { Gives (λ deck. deck) result (deck_without_refusal statements.now) }
 {
     let Some((first, others)) = statements.split_first() else {
-        return Err(ReadError::Refused(Cause::P(1)));
+        return Err(ReadError::Refused(Cause::P(StatementFault::NotOneJob)));
     };
     let job = job_card(alloc, first)?;
     let steps = steps_of(alloc, others)?;
     if steps.is_empty() {
-        return Err(ReadError::Refused(Cause::P(11)));
+        return Err(ReadError::Refused(Cause::P(StatementFault::NoStep)));
     }
     if has_misplaced_qualifier(steps.as_slice()) {
-        return Err(ReadError::Refused(Cause::P(24)));
+        return Err(ReadError::Refused(Cause::P(StatementFault::NoSuchProcedureStep)));
     }
     Ok(Deck {
         job,

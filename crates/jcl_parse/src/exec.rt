@@ -5,14 +5,14 @@ ghost use Rattle.jname_core.specs.Characters.{is_name_character};
 ghost use Rattle.jname_core.specs.Faults.{has_other_than};
 ghost use Rattle.std.specs.Option.{option_copied};
 ghost use Rattle.operand_core.specs.Faults.{told};
-ghost use Rattle.jcl_parse.specs.ExecCards.{later_on_exec, left_out_on_exec, exec_keyword, program_faults, symbol_faults, calls, exec_faults, exec_keyword_faults, exec_operand_faults, own_exec_faults, runs_badly, symbol_of, symbols_of, procedure_of, program_of, runs_of, exec_card, exec_of_statement};
+ghost use Rattle.jcl_parse.specs.ExecCards.{unsupported_on_exec, left_out_on_exec, exec_keyword, program_faults, symbol_faults, calls, exec_faults, exec_keyword_faults, exec_operand_faults, own_exec_faults, runs_badly, symbol_of, symbols_of, procedure_of, program_of, runs_of, exec_card, exec_of_statement};
 ghost use Rattle.jcl_parse.specs.Reading.{CanRun, Gives};
 ghost use Rattle.operand_core.specs.Reading.{Tells, operand_with};
 
 use crate::refusal::ReadError;
 use crate::rules::{Form, has_twice, keywords_fault};
 use card_core::statement::Statement;
-use jcl_plan::fault::Cause;
+use jcl_plan::fault::{Cause, StatementFault};
 use jname_core::name8::{Name8, is_name_character};
 use operand_core::fault::{
     earlier, long_fault, name_fault, read_name_fault, valid_name, when, written_name,
@@ -62,14 +62,14 @@ pub enum ExecKeyword {
     Unknown,
     /// It is left out for good.
     LeftOut,
-    /// It is not brought yet.
-    Later,
+    /// It is not supported yet.
+    Unsupported,
     /// It gives a value to a symbol.
     Symbol,
 }
 
-pub(crate) fn later_on_exec(key: &[u8]) -> bool
-    ensures { result ≡ later_on_exec key.now }
+pub(crate) fn unsupported_on_exec(key: &[u8]) -> bool
+    ensures { result ≡ unsupported_on_exec key.now }
 {
     let head = head_of(key);
     head == b"COND".as_slice()
@@ -98,8 +98,8 @@ pub(crate) fn exec_keyword(calls: bool, key: &[u8]) -> ExecKeyword
         ExecKeyword::Unknown
     } else if left_out_on_exec(key) {
         ExecKeyword::LeftOut
-    } else if later_on_exec(key) {
-        ExecKeyword::Later
+    } else if unsupported_on_exec(key) {
+        ExecKeyword::Unsupported
     } else if is_qualified(key) || !calls {
         ExecKeyword::Unknown
     } else {
@@ -114,7 +114,7 @@ fn program_fault(value: Option<&[u8]>) -> Option<Cause>
         None => None,
         Some(name) => {
             if name.starts_with(b"*.") {
-                Some(Cause::P(19))
+                Some(Cause::P(StatementFault::LeftOut))
             } else {
                 name_fault(name)
             }
@@ -148,9 +148,9 @@ pub(crate) fn exec_keyword_fault(calls: bool, keyword: &Keyword<'_>) -> Option<C
     match exec_keyword(calls, keyword.key()) {
         ExecKeyword::Program => program_fault(keyword.value()),
         ExecKeyword::Procedure => read_name_fault(keyword.value()),
-        ExecKeyword::Unknown => Some(Cause::P(4)),
-        ExecKeyword::LeftOut => Some(Cause::P(19)),
-        ExecKeyword::Later => Some(Cause::P(19)),
+        ExecKeyword::Unknown => Some(Cause::P(StatementFault::UnknownKeyword)),
+        ExecKeyword::LeftOut => Some(Cause::P(StatementFault::LeftOut)),
+        ExecKeyword::Unsupported => Some(Cause::P(StatementFault::LeftOut)),
         ExecKeyword::Symbol => symbol_fault(keyword.key()),
     }
 }
@@ -180,10 +180,16 @@ fn exec_operand_fault(operand: &Operand<'_>) -> Option<Cause>
     let form = Form::Exec {
         calls: calls(positional, keywords),
     };
-    let runs = when(runs_badly(positional, keywords), Cause::P(10));
+    let runs = when(
+        runs_badly(positional, keywords),
+        Cause::P(StatementFault::NotOneProgram),
+    );
     let name = read_name_fault(first_of(positional));
     let each = keywords_fault(form, keywords);
-    let twice = when(has_twice(form, keywords), Cause::P(5));
+    let twice = when(
+        has_twice(form, keywords),
+        Cause::P(StatementFault::KeywordTwice),
+    );
     let before_keywords = earlier(earlier(operand.fault, runs), name);
     earlier(earlier(before_keywords, each), twice)
 }

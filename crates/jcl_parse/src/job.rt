@@ -1,19 +1,18 @@
 //! The JOB statement.
-ghost use Rattle.std.specs.Prelude.{◌≡◌, ◌+◌, ◌*◌, ◌-◌, ◌≤◌, IsTrue, IfOk, MatchOption, None, min, true, false};
-ghost use Rattle.std.specs.List.{list_all};
-ghost use Rattle.jname_core.specs.Characters.{is_digit};
+ghost use Rattle.std.specs.Prelude.{◌≡◌, IfOk, None};
 ghost use Rattle.std.specs.Option.{option_copied};
 ghost use Rattle.operand_core.specs.Faults.{told};
 ghost use Rattle.operand_core.specs.Keywords.{unknown_faults, value_faults, value_of};
 ghost use Rattle.operand_core.specs.Values.{is_output_class};
-ghost use Rattle.jcl_parse.specs.JobCards.{decimal_value, is_job_class, is_priority, job_keyword_faults, later_on_job, left_out_on_job, job_card, job_faults, job_name_faults, job_of_statement, job_operand_faults, own_job_faults, priority_of};
+ghost use Rattle.jcl_parse.specs.JobCards.{is_job_class, is_priority, job_keyword_faults, unsupported_on_job, left_out_on_job, job_card, job_faults, job_name_faults, job_of_statement, job_operand_faults, own_job_faults, priority_of};
 ghost use Rattle.jcl_parse.specs.Reading.{Gives};
 ghost use Rattle.operand_core.specs.Reading.{Tells};
 
 use crate::refusal::ReadError;
 use crate::rules::{Form, has_twice, keywords_fault};
 use card_core::statement::Statement;
-use jcl_plan::fault::Cause;
+use jcl_plan::fault::{Cause, StatementFault};
+use jname_core::decimal::number_within;
 use jname_core::name8::Name8;
 use operand_core::fault::{earlier, long_fault, name_fault, when, written_name_fault};
 use operand_core::keyword::{is_long, unknown_fault, value_of};
@@ -33,8 +32,8 @@ pub struct JobCard {
     pub message_class: u8,
 }
 
-pub(crate) fn later_on_job(key: &[u8]) -> bool
-    ensures { result ≡ later_on_job key.now }
+pub(crate) fn unsupported_on_job(key: &[u8]) -> bool
+    ensures { result ≡ unsupported_on_job key.now }
 {
     key == b"COND".as_slice()
         || key == b"MSGLEVEL".as_slice()
@@ -61,55 +60,17 @@ fn is_job_class(value: &[u8]) -> bool
     }
 }
 
-/// The number of decimal digits, or 14 where it is more.
-fn capped_value(text: &[u8]) -> Option<u8>
-    ensures { MatchOption result (list_all is_digit text.now ≡ false) (λ n. (list_all is_digit text.now ≡ true) × (n ≡ min 14 (decimal_value text.now))) }
-{
-    let mut number = 0;
-    for c in text {
-        if !is_digit(*c) {
-            return None;
-        }
-        number = next_value(number, *c);
-    }
-    Some(number)
-}
-
-fn is_digit(c: u8) -> bool
-    ensures { result ≡ is_digit c }
-{
-    b'0' <= c && c <= b'9'
-}
-
-fn next_value(number: u8, digit: u8) -> u8
-    requires small { number ≤ 14 }
-    requires digit { IsTrue (is_digit digit) }
-    ensures { result ≡ min 14 (10 * number + (digit - 48)) }
-{
-    (10 * number + (digit - b'0')).min(14)
-}
-
-/// A priority, where the value is one.
-fn priority(value: &[u8]) -> Option<u8>
-    ensures { MatchOption result (is_priority value.now ≡ false) (λ n. (is_priority value.now ≡ true) × (n ≡ decimal_value value.now)) }
-{
-    if value.is_empty() {
-        return None;
-    }
-    match capped_value(value) {
-        Some(number) if number <= 13 => Some(number),
-        _ => None,
-    }
-}
+/// The priority of a job that codes none.
+const NORMAL_PRIORITY: u8 = 6;
 
 fn priority_of(value: Option<&[u8]>) -> u8
     ensures { result ≡ priority_of (option_copied value.entry) }
 {
     match value {
-        None => 6,
-        Some(value) => match priority(value) {
-            Some(number) => number,
-            None => 6,
+        None => NORMAL_PRIORITY,
+        Some(value) => match number_within(0, 13, value) {
+            Some(number) => number as u8,
+            None => NORMAL_PRIORITY,
         },
     }
 }
@@ -119,7 +80,7 @@ fn job_class_fault(value: Option<&[u8]>) -> Option<Cause>
 {
     match value {
         None => None,
-        Some(value) => when(!is_job_class(value), Cause::P(6)),
+        Some(value) => when(!is_job_class(value), Cause::P(StatementFault::BadValue)),
     }
 }
 
@@ -128,7 +89,10 @@ fn priority_fault(value: Option<&[u8]>) -> Option<Cause>
 {
     match value {
         None => None,
-        Some(value) => when(priority(value).is_none(), Cause::P(6)),
+        Some(value) => when(
+            number_within(0, 13, value).is_none(),
+            Cause::P(StatementFault::BadValue),
+        ),
     }
 }
 
@@ -137,7 +101,7 @@ fn output_class_fault(value: Option<&[u8]>) -> Option<Cause>
 {
     match value {
         None => None,
-        Some(value) => when(!is_output_class(value), Cause::P(6)),
+        Some(value) => when(!is_output_class(value), Cause::P(StatementFault::BadValue)),
     }
 }
 
@@ -145,8 +109,8 @@ pub(crate) fn job_keyword_fault(keyword: &Keyword<'_>) -> Option<Cause>
     ensures { result ≡ told (job_keyword_faults keyword.now) }
 {
     let key = keyword.key();
-    if later_on_job(key) {
-        Some(Cause::P(19))
+    if unsupported_on_job(key) {
+        Some(Cause::P(StatementFault::LeftOut))
     } else if key == b"CLASS".as_slice() {
         job_class_fault(keyword.value())
     } else if key == b"PRTY".as_slice() {
@@ -162,7 +126,7 @@ fn job_name_fault(name: &[u8]) -> Option<Cause>
     ensures { result ≡ told (job_name_faults name.now) }
 {
     if name.is_empty() {
-        Some(Cause::P(2))
+        Some(Cause::P(StatementFault::MissingName))
     } else {
         name_fault(name)
     }
@@ -173,7 +137,13 @@ fn job_operand_fault(operand: &Operand<'_>) -> Option<Cause>
 {
     let keywords = operand.keywords.as_slice();
     let fault = earlier(operand.fault, keywords_fault(Form::Job, keywords));
-    earlier(fault, when(has_twice(Form::Job, keywords), Cause::P(5)))
+    earlier(
+        fault,
+        when(
+            has_twice(Form::Job, keywords),
+            Cause::P(StatementFault::KeywordTwice),
+        ),
+    )
 }
 
 /// The fault of a statement whose operand is read.

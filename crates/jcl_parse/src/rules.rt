@@ -3,11 +3,11 @@ ghost use Rattle.std.specs.Prelude.{◌≡◌};
 ghost use Rattle.std.specs.List.{flat_map};
 ghost use Rattle.operand_core.specs.Faults.{told};
 ghost use Rattle.operand_core.specs.Keywords.{has_twice};
-ghost use Rattle.jcl_parse.specs.Reading.{is_later, keyword_faults};
+ghost use Rattle.jcl_parse.specs.Reading.{is_unsupported, keyword_faults};
 
-use crate::dd::{dd_keyword_fault, later_on_dd};
-use crate::exec::{exec_keyword_fault, later_on_exec};
-use crate::job::{job_keyword_fault, later_on_job};
+use crate::dd::{dd_keyword_fault, unsupported_on_dd};
+use crate::exec::{exec_keyword_fault, unsupported_on_exec};
+use crate::job::{job_keyword_fault, unsupported_on_job};
 use jcl_plan::fault::Cause;
 use operand_core::fault::earlier;
 use operand_core::keyword::has_key;
@@ -32,14 +32,14 @@ fn keyword_fault(form: Form, keyword: &Keyword<'_>) -> Option<Cause>
     }
 }
 
-/// Whether a keyword is not brought yet.
-fn is_later(form: Form, key: &[u8]) -> bool
-    ensures { result ≡ is_later form key.now }
+/// Whether a keyword is not supported yet.
+fn is_unsupported(form: Form, key: &[u8]) -> bool
+    ensures { result ≡ is_unsupported form key.now }
 {
     match form {
-        Form::Job => later_on_job(key),
-        Form::Exec { .. } => later_on_exec(key),
-        Form::Dd => later_on_dd(key),
+        Form::Job => unsupported_on_job(key),
+        Form::Exec { .. } => unsupported_on_exec(key),
+        Form::Dd => unsupported_on_dd(key),
     }
 }
 
@@ -54,13 +54,13 @@ pub fn keywords_fault(form: Form, keywords: &[Keyword<'_>]) -> Option<Cause>
     fault
 }
 
-/// Whether a keyword stands twice, those that are not brought yet apart.
+/// Whether a keyword stands twice, those that are not supported yet apart.
 pub fn has_twice(form: Form, keywords: &[Keyword<'_>]) -> bool
-    ensures { result ≡ has_twice (is_later form) keywords.now }
+    ensures { result ≡ has_twice (is_unsupported form) keywords.now }
 {
     for (at, keyword) in keywords.iter().enumerate() {
         let (_, behind) = keywords.split_at(at + 1);
-        if !is_later(form, keyword.key()) && has_key(behind, keyword.key()) {
+        if !is_unsupported(form, keyword.key()) && has_key(behind, keyword.key()) {
             return true;
         }
     }

@@ -21,7 +21,10 @@ fn show(out: &mut Vec<u8>, text: &[u8]) -> Result<(), AllocError> {
 fn show_cause(alloc: Global, out: &mut Vec<u8>, cause: Cause) -> Result<(), AllocError> {
     let text = match cause {
         Cause::N(number) => format!(in alloc; "N{number}")?,
-        Cause::P(number) => format!(in alloc; "P{number}")?,
+        Cause::P(fault) => {
+            let number = fault.number();
+            format!(in alloc; "P{number}")?
+        }
         _ => format!(in alloc; "other")?,
     };
     show(out, text.as_bytes())

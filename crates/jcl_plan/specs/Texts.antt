@@ -10,6 +10,7 @@ use Rattle.jcl_plan.specs.declared.fault.Fault.{Fault}
 use Rattle.jcl_plan.specs.declared.fault.Fault.TheVariants.{F1, F2, F3, F4, F5, F6, F7, F8, F9, F10}
 use Rattle.jcl_plan.specs.declared.fault.Cause.{Cause}
 use Rattle.jcl_plan.specs.declared.fault.Cause.TheVariants.{C, N, P, Q, B, A}
+use Rattle.jcl_plan.specs.Numbers.{number_of}
 use Rattle.jcl_plan.specs.declared.words.TakeWord.{TakeWord}
 use Rattle.jcl_plan.specs.declared.words.TakeWord.TheVariants as take
 use Rattle.jcl_plan.specs.declared.words.DispWord.{DispWord}
@@ -68,7 +69,7 @@ fault_text F10 = codes "F10"
 abbrev pub cause_text : Cause → List ℕ
 cause_text (C n) = codes "C" ++ decimal n
 cause_text (N n) = codes "N" ++ decimal n
-cause_text (P n) = codes "P" ++ decimal n
+cause_text (P fault) = codes "P" ++ decimal (number_of fault)
 cause_text (Q n) = codes "Q" ++ decimal n
 cause_text (B n) = codes "B" ++ decimal n
 cause_text (A n) = codes "A" ++ decimal n

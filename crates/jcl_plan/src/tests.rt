@@ -1,6 +1,6 @@
 use crate::day::Day;
 use crate::entry::{Entry, JobLine, Written};
-use crate::fault::{Cause, Fault};
+use crate::fault::{Cause, Fault, StatementFault};
 use crate::outcome::{Abend, Code, Fate, Outcome};
 use crate::plan::Record;
 use crate::words::{BackWord, DispWord, TakeWord};
@@ -67,7 +67,10 @@ fn jobs_are_read_and_selected(rt: HostRuntime) -> Result<(), Fail> {
             read("ABCDEFGH", 13)?,
             "0017 READ ABCDEFGH CLASS A PRTY 13\n",
         ),
-        (JobLine::Rejected(Cause::P(11)), "0017 REJECTED P11\n"),
+        (
+            JobLine::Rejected(Cause::P(StatementFault::NoStep)),
+            "0017 REJECTED P11\n",
+        ),
         (JobLine::Selected(15), "0017 SELECTED 15\n"),
         (JobLine::Broken(12), "0017 BROKEN B12\n"),
         (JobLine::Names(0), "0017 NAMES 0\n"),
@@ -334,7 +337,7 @@ fn causes_have_a_letter(rt: HostRuntime) -> Result<(), Fail> {
     for (cause, text) in [
         (Cause::C(7), "-- REFUSED C7\n"),
         (Cause::N(4), "-- REFUSED N4\n"),
-        (Cause::P(46), "-- REFUSED P46\n"),
+        (Cause::P(StatementFault::TooManyNames), "-- REFUSED P46\n"),
         (Cause::Q(2), "-- REFUSED Q2\n"),
         (Cause::B(12), "-- REFUSED B12\n"),
         (Cause::A(5), "-- REFUSED A5\n"),

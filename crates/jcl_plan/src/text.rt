@@ -128,7 +128,7 @@ fn push_cause(out: &mut Vec<u8>, cause: Cause) -> Result<(), AllocError>
     match cause {
         Cause::C(number) => push_lettered(out, b"C", number),
         Cause::N(number) => push_lettered(out, b"N", number),
-        Cause::P(number) => push_lettered(out, b"P", number),
+        Cause::P(fault) => push_lettered(out, b"P", fault.number()),
         Cause::Q(number) => push_lettered(out, b"Q", number),
         Cause::B(number) => push_lettered(out, b"B", number),
         Cause::A(number) => push_lettered(out, b"A", number),

@@ -12,6 +12,9 @@ is_letter c = is_between 65 90 c
 abbrev pub is_digit : ℕ → Bool
 is_digit c = is_between 48 57 c
 
+abbrev pub is_letter_or_digit : ℕ → Bool
+is_letter_or_digit c = is_letter c || is_digit c
+
 -- #, @ and $
 abbrev pub is_national : ℕ → Bool
 is_national c = c == 35 || c == 64 || c == 36

@@ -3,3 +3,4 @@ pub mod Characters
 pub mod Faults
 pub mod Grammar
 pub mod Generations
+pub mod Decimals

@@ -5,6 +5,7 @@ ghost use Rattle.jname_core.specs.Faults.{ds_name_fault, has_bad_component, has_
 ghost use Rattle.jname_core.specs.Generations.{base_of, generation_name, generation_of, has_generation_form, is_bad_generation, before_suffix, is_suffix, suffix_number, suffix_version, number_of_digits, four_digits};
 ghost use Rattle.jname_core.specs.Grammar.{IsDotted, IsDsNameWithin, IsName8, IsUnitName};
 
+use crate::character::is_digit;
 use crate::fault::NameFault;
 use crate::name8::{begins_badly, first_fault, has_no_component_character};
 use plain::short::Short;
@@ -68,12 +69,6 @@ fn split_generation(text: &[u8]) -> Option<(&[u8], &[u8])>
     } else {
         None
     }
-}
-
-fn is_digit(c: u8) -> bool
-    ensures { result ≡ is_digit c }
-{
-    b'0' <= c && c <= b'9'
 }
 
 fn are_digits(a: u8, b: u8, c: u8, d: u8) -> bool

@@ -5,6 +5,8 @@
 //! first fault that holds of it.
 #![tactic(auto)]
 
+pub mod character;
+pub mod decimal;
 pub mod ds_name;
 pub mod fault;
 pub mod key;

@@ -5,6 +5,7 @@ ghost use Rattle.jname_core.specs.Characters.{is_first, is_name_character, is_co
 ghost use Rattle.jname_core.specs.Faults.{begins_badly, first_fault, has_other_than, name8_fault, unit_name_fault};
 ghost use Rattle.jname_core.specs.Grammar.{IsName8, IsUnitName};
 
+use crate::character::{is_digit, is_letter};
 use crate::fault::NameFault;
 use plain::short::Short;
 use std::marker::Model;
@@ -13,14 +14,14 @@ use std::marker::Model;
 pub fn is_first(c: u8) -> bool
     ensures { result ≡ is_first c }
 {
-    (b'A' <= c && c <= b'Z') || (c == b'#' || c == b'@' || c == b'$')
+    is_letter(c) || (c == b'#' || c == b'@' || c == b'$')
 }
 
 /// A letter, a digit or one of `#`, `@`, `$`.
 pub fn is_name_character(c: u8) -> bool
     ensures { result ≡ is_name_character c }
 {
-    is_first(c) || (b'0' <= c && c <= b'9')
+    is_first(c) || is_digit(c)
 }
 
 /// As a name's character, or a hyphen.

@@ -5,8 +5,8 @@ ghost use Rattle.mvt_main.specs.Programs.{IsChosen, views_in};
 
 use clap::error::ErrorKind;
 use clap::{Arg, ArgMatches, Command, Error};
+use jname_core::decimal::number_within;
 use session_core::{Options, RiskChoice};
-use session_text::values::number_within;
 use std::alloc::Global;
 use std::convert::AsStr;
 

@@ -2,6 +2,7 @@
 use Rattle.std.proofs.Common.{◌≡◌, Bool, true, false, cond, List, [], ◌∷◌, ◌++◌, None, refl, ap}
 use Rattle.jcl_plan.specs.declared.fault.Cause.{Cause}
 use Rattle.jcl_plan.specs.declared.fault.Cause.TheVariants.{P}
+use Rattle.jcl_plan.specs.declared.fault.StatementFault.TheVariants.{OperandTooLong}
 use Rattle.operand_core.specs.Faults.{long_faults, told}
 use Rattle.operand_core.proofs.Told.{told-none}
 
@@ -18,8 +19,8 @@ pub own_from_long : (is_long : Bool) (names own : List Cause) → told (cond is_
 own_from_long false names own h = h
 own_from_long true names own h = absurd (some_behind names (told-none (long_faults names) h))
   where
-    some_behind : (names : List Cause) → names ++ P 32 ∷ [] ≡ [] → ⊥
-    some_behind names e = let none : P 32 ∷ [] ≡ [] = none_behind names (P 32 ∷ []) e in cc
+    some_behind : (names : List Cause) → names ++ P OperandTooLong ∷ [] ≡ [] → ⊥
+    some_behind names e = let none : P OperandTooLong ∷ [] ≡ [] = none_behind names (P OperandTooLong ∷ []) e in cc
 
 pub told_none_in_front : (faults others : List Cause) → told (faults ++ others) ≡ None → told faults ≡ None
 told_none_in_front faults others h = ap told (none_in_front faults others (told-none (faults ++ others) h))

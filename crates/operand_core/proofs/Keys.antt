@@ -6,6 +6,7 @@ use Rattle.std.proofs.lemmas.List.Sums.{take_while-cons}
 use Rattle.std.proofs.lemmas.Slice.Eq.{bytes_eq-Decides}
 use Rattle.jcl_plan.specs.declared.fault.Cause.{Cause}
 use Rattle.jcl_plan.specs.declared.fault.Cause.TheVariants.{P}
+use Rattle.jcl_plan.specs.declared.fault.StatementFault.TheVariants.{BadValue, UnbalancedParentheses}
 use Rattle.operand_core.specs.Faults.{when}
 use Rattle.operand_core.specs.Operands.{Keyword, is_balanced, is_closed, is_positional, is_read, keyword_of, keywords_of, onto_keywords, part_faults, positional_parts, read_of}
 use Rattle.operand_core.specs.Keywords.{has_key, value_of}
@@ -34,7 +35,7 @@ first_has_none f key (keyword ∷ keywords) none has =
     key_cases f key keyword keywords (bytes_eq keyword.key key) refl (none_in_front (f keyword) (flat_map f keywords) none)
     (first_has_none f key keywords (none_behind (f keyword) (flat_map f keywords) none)) has
 
-read_cases : (balanced closed : Bool) → cond balanced (when (not closed) (P 6)) (P 8 ∷ []) ≡ [] → (balanced && closed) ≡ true
+read_cases : (balanced closed : Bool) → cond balanced (when (not closed) (P BadValue)) (P UnbalancedParentheses ∷ []) ≡ [] → (balanced && closed) ≡ true
 read_cases true true h = refl
 read_cases true false h = absurd (cc)
 read_cases false closed h = absurd (cc)

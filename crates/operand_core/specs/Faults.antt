@@ -2,6 +2,8 @@
 use Rattle.std.specs.Prelude.{ℕ, ◌+◌, ◌==◌, Bool, nat_lt, List, [], ◌∷◌, ◌++◌, length, Option, Some, None, Result, Ok, Err, if◌then◌else◌}
 use Rattle.jcl_plan.specs.declared.fault.Cause.{Cause}
 use Rattle.jcl_plan.specs.declared.fault.Cause.TheVariants.{C, N, P, Q, B, A}
+use Rattle.jcl_plan.specs.declared.fault.StatementFault.TheVariants.{OperandTooLong}
+use Rattle.jcl_plan.specs.Numbers as statement
 use Rattle.jname_core.specs.declared.fault.NameFault.{NameFault}
 use Rattle.jname_core.specs.Faults.{name8_fault}
 use Rattle.jname_core.specs.Numbers.{number_of}
@@ -10,7 +12,7 @@ use Rattle.jname_core.specs.Numbers.{number_of}
 abbrev pub rank : Cause → ℕ
 rank (C n) = n
 rank (N n) = 256 + n
-rank (P n) = 512 + n
+rank (P fault) = 512 + statement.number_of fault
 rank (Q n) = 768 + n
 rank (B n) = 1024 + n
 rank (A n) = 1280 + n
@@ -46,7 +48,7 @@ written_name_faults name = if length name == 0 then [] else name_faults name
 
 -- an operand that is too long stops the reading: of the other faults those of the name stay
 abbrev pub long_faults : List Cause → List Cause
-long_faults names = names ++ P 32 ∷ []
+long_faults names = names ++ P OperandTooLong ∷ []
 
 -- a card, where no fault is told
 abbrev pub or_fault : {X : Type 0} → Option Cause → X → Result X Cause

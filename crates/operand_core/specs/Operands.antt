@@ -5,6 +5,7 @@ use Rattle.jname_core.specs.Characters.{is_name_character}
 use Rattle.card_core.specs.Fields.{quoted_after}
 use Rattle.jcl_plan.specs.declared.fault.Cause.{Cause}
 use Rattle.jcl_plan.specs.declared.fault.Cause.TheVariants.{P}
+use Rattle.jcl_plan.specs.declared.fault.StatementFault.TheVariants.{BadValue, TooManyPositional, UnbalancedParentheses}
 use Rattle.operand_core.specs.Faults.{when}
 
 -- how many parentheses are open after a character; one that closes none open closes nothing
@@ -61,7 +62,7 @@ abbrev pub read_of : List ℕ → List ℕ → Option (List ℕ)
 read_of part text = if is_read part then Some text else None
 
 abbrev pub part_faults : List ℕ → List Cause
-part_faults part = if is_balanced part then when (not (is_closed part)) (P 6) else P 8 ∷ []
+part_faults part = if is_balanced part then when (not (is_closed part)) (P BadValue) else P UnbalancedParentheses ∷ []
 
 -- a keyword and its value, or none where that is not read
 pub record Keyword : Type 0 where
@@ -113,7 +114,7 @@ abbrev pub operand_of_parts : ℕ → List (List ℕ) → Operand
 operand_of_parts most parts = record {
   positional = map (λ part. read_of part part) (positional_parts parts);
   keywords = keywords_of parts;
-  faults = flat_map part_faults parts ++ when (is_crowded most parts) (P 9);
+  faults = flat_map part_faults parts ++ when (is_crowded most parts) (P TooManyPositional);
 }
 
 -- the operand of a statement that takes so many positional ones at most

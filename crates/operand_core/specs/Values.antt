@@ -1,6 +1,6 @@
 -- The values of keywords.
-use Rattle.std.specs.Prelude.{ℕ, Bool, true, false, ◌||◌, ◌==◌, List, [], ◌∷◌, Option, Some, None, unwrap_or, if◌then◌else◌}
-use Rattle.jname_core.specs.Characters.{is_digit, is_letter}
+use Rattle.std.specs.Prelude.{ℕ, Bool, true, false, ◌==◌, List, [], ◌∷◌, Option, Some, None, unwrap_or, if◌then◌else◌}
+use Rattle.jname_core.specs.Characters.{is_letter_or_digit}
 use Rattle.card_core.specs.Fields.{begun_with}
 
 -- a value, where one is coded
@@ -23,7 +23,7 @@ unquoted (c ∷ cs) = if c == 39 then unwrap_or (enclosed false cs) (c ∷ cs) e
 
 -- a letter or a digit
 abbrev pub is_output_class : List ℕ → Bool
-is_output_class (c ∷ []) = is_letter c || is_digit c
+is_output_class (c ∷ []) = is_letter_or_digit c
 is_output_class _ = false
 
 -- A where none is coded

@@ -3,7 +3,7 @@ ghost use Rattle.std.specs.Prelude.{◌≡◌, Some, None};
 ghost use Rattle.std.specs.Option.{option_copied};
 ghost use Rattle.operand_core.specs.Faults.{earlier, long_faults, lower, name_faults, rank, read_name_faults, told, when, written_name, written_name_faults};
 
-use jcl_plan::fault::Cause;
+use jcl_plan::fault::{Cause, StatementFault};
 use jname_core::name8::Name8;
 
 fn rank(cause: Cause) -> u16
@@ -12,7 +12,7 @@ fn rank(cause: Cause) -> u16
     match cause {
         Cause::C(n) => u16::from(n),
         Cause::N(n) => 256 + u16::from(n),
-        Cause::P(n) => 512 + u16::from(n),
+        Cause::P(fault) => 512 + u16::from(fault.number()),
         Cause::Q(n) => 768 + u16::from(n),
         Cause::B(n) => 1024 + u16::from(n),
         Cause::A(n) => 1280 + u16::from(n),
@@ -66,9 +66,9 @@ pub fn written_name_fault(name: &[u8]) -> Option<Cause>
 
 /// The fault of a statement whose operand is too long, by that of its name.
 pub fn long_fault(name: Option<Cause>) -> Option<Cause>
-    ensures { result ≡ earlier name (Some (Cause.P 32)) }
+    ensures { result ≡ earlier name (Some ((Cause.P StatementFault.OperandTooLong))) }
 {
-    earlier(name, Some(Cause::P(32)))
+    earlier(name, Some(Cause::P(StatementFault::OperandTooLong)))
 }
 
 /// The name that a text is, of which no fault is told.

@@ -4,7 +4,7 @@ ghost use Rattle.std.specs.Option.{option_copied};
 ghost use Rattle.operand_core.specs.Keywords.{has_key, is_long, value_of};
 
 use crate::operand::Keyword;
-use jcl_plan::fault::Cause;
+use jcl_plan::fault::{Cause, StatementFault};
 
 /// The most characters of an operand that is read.
 const MOST_CHARACTERS: usize = 1024;
@@ -37,11 +37,11 @@ pub fn value_of<'a>(keywords: &[Keyword<'a>], key: &[u8]) -> Option<&'a [u8]>
 
 /// The fault of a keyword that the statement does not take.
 pub fn unknown_fault(is_left_out: bool) -> Cause
-    ensures { result ≡ (if is_left_out then Cause.P 19 else Cause.P 4) }
+    ensures { result ≡ (if is_left_out then (Cause.P StatementFault.LeftOut) else (Cause.P StatementFault.UnknownKeyword)) }
 {
     if is_left_out {
-        Cause::P(19)
+        Cause::P(StatementFault::LeftOut)
     } else {
-        Cause::P(4)
+        Cause::P(StatementFault::UnknownKeyword)
     }
 }

@@ -9,7 +9,7 @@ ghost use Rattle.operand_core.specs.Reading.{IsOperand};
 use crate::fault::{earlier, when};
 use crate::parts::{Part, keyword_of, parts_of};
 use crate::scan::{is_balanced, is_closed, is_read};
-use jcl_plan::fault::Cause;
+use jcl_plan::fault::{Cause, StatementFault};
 use std::alloc::{AllocError, Global};
 use std::marker::Model;
 
@@ -83,9 +83,9 @@ fn part_fault(part: &[u8]) -> Option<Cause>
     ensures { result ≡ told (part_faults part.now) }
 {
     if is_balanced(part) {
-        when(!is_closed(part), Cause::P(6))
+        when(!is_closed(part), Cause::P(StatementFault::BadValue))
     } else {
-        Some(Cause::P(8))
+        Some(Cause::P(StatementFault::UnbalancedParentheses))
     }
 }
 
@@ -169,7 +169,10 @@ pub fn operand_of<'a>(alloc: Global, most: usize, text: &'a [u8]) -> Result<Oper
         keywords: keywords_of(alloc, parts)?,
         fault: earlier(
             parts_fault(parts),
-            when(is_crowded(most, parts), Cause::P(9)),
+            when(
+                is_crowded(most, parts),
+                Cause::P(StatementFault::TooManyPositional),
+            ),
         ),
     })
 }

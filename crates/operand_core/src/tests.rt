@@ -1,7 +1,7 @@
 //! Operands and their values, as they are read.
 use crate::operand::operand_of;
 use crate::value::unquoted;
-use jcl_plan::fault::Cause;
+use jcl_plan::fault::{Cause, StatementFault};
 use std::test::Fail;
 
 #[test]
@@ -20,7 +20,10 @@ fn reads_an_operand(rt: HostRuntime) -> Result<(), Fail> {
 #[test]
 fn tells_the_least_fault(rt: HostRuntime) -> Result<(), Fail> {
     let operand = operand_of(rt.alloc(), 1, b"A,KEY=(B,C))")?;
-    assert_eq!(rt; operand.fault, Some(Cause::P(8)));
+    assert_eq!(rt;
+        operand.fault,
+        Some(Cause::P(StatementFault::UnbalancedParentheses))
+    );
     Ok(())
 }
 

@@ -3,6 +3,7 @@ ghost use Rattle.std.specs.Prelude.{◌≡◌, [], false, unwrap_or, IfOk};
 ghost use Rattle.std.specs.Option.{option_copied};
 ghost use Rattle.operand_core.specs.Values.{class_of, coded, enclosed, is_output_class, unquoted};
 
+use jname_core::character::is_letter_or_digit;
 use plain::text::Text;
 use std::alloc::{AllocError, Global};
 
@@ -66,7 +67,7 @@ pub fn is_output_class(value: &[u8]) -> bool
     ensures { result ≡ is_output_class value.now }
 {
     match value {
-        [c] => b'A' <= *c && *c <= b'Z' || b'0' <= *c && *c <= b'9',
+        [c] => is_letter_or_digit(*c),
         _ => false,
     }
 }

@@ -12,6 +12,7 @@ use Rattle.jcl_parse.specs.declared.deck.DeckStep.{DeckStep}
 use Rattle.jcl_parse.specs.Decks.{deck_of}
 use Rattle.jcl_plan.specs.declared.fault.Cause.{Cause}
 use Rattle.jcl_plan.specs.declared.fault.Cause.TheVariants.{P}
+use Rattle.jcl_plan.specs.declared.fault.StatementFault.TheVariants.{LeftOut, NoSuchProcedure}
 use Rattle.jcl_plan.specs.declared.plan.JobPlan.{JobPlan}
 use Rattle.sched_core.specs.Jobs.{calls_some, dd_of, is_later, job_by_deck, job_by_statements, job_of, kind_of, plan_of, step_of}
 use Rattle.init_core.specs.NoSets.{HasNoSets, IsNoSet, StepHasNoSets}
@@ -42,7 +43,7 @@ abbrev is_ok : Result JobPlan Cause → Type 0
 is_ok (Ok p) = Unit {0}
 is_ok (Err cause) = ⊥
 
-by_tests : (calls later : Bool) (deck : Deck) (plan : JobPlan) → cond calls (Err (P 20)) (cond later (Err (P 19)) (Ok (plan_of deck))) ≡ Ok plan → HasNoSets plan
+by_tests : (calls later : Bool) (deck : Deck) (plan : JobPlan) → cond calls (Err (P NoSuchProcedure)) (cond later (Err (P LeftOut)) (Ok (plan_of deck))) ≡ Ok plan → HasNoSets plan
 by_tests true later deck plan e = absurd (subst is_ok (sym e) tt)
 by_tests false true deck plan e = absurd (subst is_ok (sym e) tt)
 by_tests false false deck plan e = subst HasNoSets (ap (or_plan plan) e) (plan_none deck)

@@ -15,6 +15,7 @@ use Rattle.jcl_parse.specs.declared.exec.Runs.TheVariants.{Program, Procedure}
 use Rattle.jcl_parse.specs.Decks.{deck_of}
 use Rattle.jcl_plan.specs.declared.fault.Cause.{Cause}
 use Rattle.jcl_plan.specs.declared.fault.Cause.TheVariants.{C, P}
+use Rattle.jcl_plan.specs.declared.fault.StatementFault.TheVariants.{LeftOut, NoSuchProcedure}
 use Rattle.jcl_plan.specs.declared.plan.AfterAbend.TheVariants.{Unsaid}
 use Rattle.jcl_plan.specs.declared.plan.DdKind.{DdKind}
 use Rattle.jcl_plan.specs.declared.plan.DdKind.TheVariants.{Cards, Dummy, Sysout}
@@ -83,7 +84,7 @@ plan_of deck = record {
 }
 
 abbrev pub job_in : Deck → Result JobPlan Cause
-job_in deck = if calls_some deck.steps then Err (P 20) else (if is_later deck.steps then Err (P 19) else Ok (plan_of deck))
+job_in deck = if calls_some deck.steps then Err (P NoSuchProcedure) else (if is_later deck.steps then Err (P LeftOut) else Ok (plan_of deck))
 
 abbrev pub job_by_deck : Result Deck Cause → Result JobPlan Cause
 job_by_deck (Ok deck) = job_in deck

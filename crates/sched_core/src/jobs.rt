@@ -9,7 +9,7 @@ use jcl_parse::dd::{DdCard, DdCardKind};
 use jcl_parse::deck::{Deck, DeckStep, read_deck};
 use jcl_parse::exec::Runs;
 use jcl_parse::refusal::ReadError;
-use jcl_plan::fault::Cause;
+use jcl_plan::fault::{Cause, StatementFault};
 use jcl_plan::plan::{AfterAbend, DdKind, DdPlan, JobPlan, StepPlan, no_tests};
 use jname_core::name8::Name8;
 use plain::listed::Listed;
@@ -152,10 +152,10 @@ fn job_in(alloc: Global, deck: Deck) -> Result<JobPlan, ReadError>
     ensures { Gives (λ plan. plan) result (job_in deck) }
 {
     if calls_some(deck.steps.as_slice()) {
-        return Err(ReadError::Refused(Cause::P(20)));
+        return Err(ReadError::Refused(Cause::P(StatementFault::NoSuchProcedure)));
     }
     if is_later(deck.steps.as_slice()) {
-        return Err(ReadError::Refused(Cause::P(19)));
+        return Err(ReadError::Refused(Cause::P(StatementFault::LeftOut)));
     }
     let plan = plan_of(alloc, deck)?;
     Ok(plan)

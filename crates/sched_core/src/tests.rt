@@ -5,7 +5,7 @@ use crate::jobs::job_of;
 use crate::system::{ApplyFault, System};
 use jcl_parse::refusal::ReadError;
 use jcl_plan::entry::Entry;
-use jcl_plan::fault::Cause;
+use jcl_plan::fault::{Cause, StatementFault};
 use jname_core::name8::UnitName;
 use jname_core::serial::Serial;
 use machine_meaning::config::ConfigFault;
@@ -264,7 +264,7 @@ fn initiators_are_taken_or_have_their_faults(rt: HostRuntime) -> Result<(), Fail
 /// Decks, and why they are refused: first their cards, then their statements, then a procedure that is called, then what the machine does not run.
 const DECKS: &[(&str, Option<Cause>)] = &[
     ("//J JOB 1\n//S EXEC PGM=A\n//X DD DUMMY\n//\n", None),
-    ("", Some(Cause::P(1))),
+    ("", Some(Cause::P(StatementFault::NotOneJob))),
     (
         "//J JOB 1\n//S EXEC PGM=A\n//X\tDD DUMMY\n",
         Some(Cause::C(2)),
@@ -278,44 +278,44 @@ const DECKS: &[(&str, Option<Cause>)] = &[
         "//J JOB 1\n//S EXEC PROCX\n//9 DD DUMMY\n",
         Some(Cause::N(3)),
     ),
-    ("//S EXEC PROCX\n//J JOB 1\n", Some(Cause::P(1))),
-    ("//J JOB 1,CLASS=Z\n//S EXEC PROCX\n", Some(Cause::P(6))),
+    ("//S EXEC PROCX\n//J JOB 1\n", Some(Cause::P(StatementFault::NotOneJob))),
+    ("//J JOB 1,CLASS=Z\n//S EXEC PROCX\n", Some(Cause::P(StatementFault::BadValue))),
     (
         "//J JOB 1\n//S EXEC PROCX\n//X DD SYSOUT=*\n",
-        Some(Cause::P(6)),
+        Some(Cause::P(StatementFault::BadValue)),
     ),
     (
         "//J JOB 1\n//S EXEC PGM=A\n//S2 EXEC PGM=A\n//S3 EXEC\n",
-        Some(Cause::P(10)),
+        Some(Cause::P(StatementFault::NotOneProgram)),
     ),
-    ("//J JOB 1\n", Some(Cause::P(11))),
+    ("//J JOB 1\n", Some(Cause::P(StatementFault::NoStep))),
     (
         "//J JOB 1\n//S EXEC PGM=A\n// DD DUMMY\n",
-        Some(Cause::P(15)),
+        Some(Cause::P(StatementFault::NothingToContinue)),
     ),
     (
         "//J JOB 1\n//S EXEC PGM=A\n//Y.X DD DUMMY\n",
-        Some(Cause::P(24)),
+        Some(Cause::P(StatementFault::NoSuchProcedureStep)),
     ),
-    ("//J JOB 1\n//S EXEC PROCX\n", Some(Cause::P(20))),
+    ("//J JOB 1\n//S EXEC PROCX\n", Some(Cause::P(StatementFault::NoSuchProcedure))),
     (
         "//J JOB 1\n//S EXEC PROCX\n//S2 EXEC PGM=A\n",
-        Some(Cause::P(20)),
+        Some(Cause::P(StatementFault::NoSuchProcedure)),
     ),
     (
         "//J JOB 1\n//S EXEC PGM=A\n//X DD DUMMY\n// DD DUMMY\n//S2 EXEC PROC=B\n",
-        Some(Cause::P(20)),
+        Some(Cause::P(StatementFault::NoSuchProcedure)),
     ),
     (
         "//J JOB 1\n//S EXEC PGM=A\n//S2 EXEC PGM=A\n",
-        Some(Cause::P(19)),
+        Some(Cause::P(StatementFault::LeftOut)),
     ),
     (
         "//J JOB 1\n//S EXEC PGM=A\n//X DD DUMMY\n// DD DUMMY\n",
-        Some(Cause::P(19)),
+        Some(Cause::P(StatementFault::LeftOut)),
     ),
-    ("//J JOB 1\n//S EXEC PGM=A\n//X DD\n", Some(Cause::P(19))),
-    ("//J JOB 1\n//S EXEC PGM=A,COND=EVEN\n", Some(Cause::P(19))),
+    ("//J JOB 1\n//S EXEC PGM=A\n//X DD\n", Some(Cause::P(StatementFault::LeftOut))),
+    ("//J JOB 1\n//S EXEC PGM=A,COND=EVEN\n", Some(Cause::P(StatementFault::LeftOut))),
 ];
 
 #[test]

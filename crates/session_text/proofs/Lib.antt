@@ -1,6 +1,5 @@
 pub mod Places
 pub mod Blanks
-pub mod Numbers
 pub mod Serials
 pub mod Operands
 pub mod Feeds

@@ -5,7 +5,8 @@ use Rattle.jname_core.specs.Faults.{is_no_serial}
 use Rattle.jname_core.specs.Grammar.{IsSerial, IsUnitName}
 use Rattle.jname_core.proofs.Names.{kept_from_serial, unit_name_none}
 use Rattle.session_text.specs.declared.statement.Says.TheVariants as says
-use Rattle.session_text.specs.Fields.{listed_in, number_within}
+use Rattle.jname_core.specs.Decimals.{number_within}
+use Rattle.session_text.specs.Fields.{listed_in}
 use Rattle.session_text.specs.Rows.{two_of}
 use Rattle.session_text.specs.Statements.{bad, unit_of, volume_of}
 use Rattle.session_text.proofs.Blanks.{two_fields_are}

@@ -1,7 +1,8 @@
 -- The fields of a statement, and their values. (This profile)
-use Rattle.std.specs.Prelude.{ℕ, ◌+◌, ◌-◌, ◌*◌, Bool, not, ◌&&◌, ◌||◌, ◌==◌, nat_le, nat_eq, List, [], ◌∷◌, length, filter, fold, take, drop, codes, Option, Some, None, if◌then◌else◌}
-use Rattle.std.specs.Char.{is_ascii_digit}
-use Rattle.std.specs.List.{list_all, position, slice_split, starts_with}
+use Rattle.std.specs.Prelude.{ℕ, ◌+◌, Bool, not, ◌==◌, nat_eq, List, [], ◌∷◌, length, filter, take, drop, codes, Option, Some, None, if◌then◌else◌}
+use Rattle.std.specs.List.{position, slice_split, starts_with}
+use Rattle.jname_core.specs.Characters.{is_letter_or_digit}
+use Rattle.jname_core.specs.Decimals.{number_within}
 
 -- blanks stand between fields
 abbrev pub fields_of : List ℕ → List (List ℕ)
@@ -11,27 +12,10 @@ fields_of line = filter (λ field. not (length field == 0)) (slice_split (λ b. 
 abbrev pub is_marked : List ℕ → Bool
 is_marked line = starts_with nat_eq line (codes "./ ")
 
--- a number without sign; zeros may stand before it
-abbrev pub value_of : List ℕ → ℕ
-value_of text = fold (λ number c. 10 * number + (c - 48)) 0 text
-
-abbrev pub number_of : List ℕ → Option ℕ
-number_of text = if not (length text == 0) && list_all is_ascii_digit text then Some (value_of text) else None
-
-abbrev pub if_within : ℕ → ℕ → Option ℕ → Option ℕ
-if_within low high None = None
-if_within low high (Some n) = if nat_le low n && nat_le n high then Some n else None
-
-abbrev pub number_within : ℕ → ℕ → List ℕ → Option ℕ
-number_within low high text = if_within low high (number_of text)
-
 -- the class of a writer is a letter or a digit
-abbrev pub is_class : ℕ → Bool
-is_class c = (nat_le 65 c && nat_le c 90) || is_ascii_digit c
-
 abbrev pub class_of : List ℕ → Option ℕ
 class_of [] = None
-class_of (c ∷ []) = if is_class c then Some c else None
+class_of (c ∷ []) = if is_letter_or_digit c then Some c else None
 class_of (c ∷ d ∷ more) = None
 
 -- `x` or `x*n`: what stands before the first star, and how many times

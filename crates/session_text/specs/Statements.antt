@@ -13,7 +13,8 @@ use Rattle.session_text.specs.declared.statement.LineSays.TheVariants as line
 use Rattle.session_text.specs.declared.statement.Says.{Says}
 use Rattle.session_text.specs.declared.statement.Says.TheVariants as says
 use Rattle.session_text.specs.declared.statement.Statement.{Statement}
-use Rattle.session_text.specs.Fields.{before_star, class_of, fields_of, is_marked, listed_in, number_within, times_in}
+use Rattle.jname_core.specs.Decimals.{number_within}
+use Rattle.session_text.specs.Fields.{before_star, class_of, fields_of, is_marked, listed_in, times_in}
 use Rattle.session_text.specs.Lines.{lines_of}
 
 abbrev pub bad : Says

@@ -9,4 +9,4 @@ mod says;
 pub mod statement;
 #[cfg(test)]
 mod tests;
-pub mod values;
+mod values;

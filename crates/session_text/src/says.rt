@@ -6,7 +6,8 @@ ghost use Rattle.session_text.specs.Statements.{initiator_of, opens, says_by, sa
 use crate::fault::Fault;
 use crate::fields::{is_marked, next_field, only_field, two_fields};
 use crate::statement::{LineSays, Says};
-use crate::values::{before_star, class_of, number_within, serials_in, times_in};
+use crate::values::{before_star, class_of, serials_in, times_in};
+use jname_core::decimal::number_within;
 use jname_core::name8::UnitName;
 use jname_core::serial::Serial;
 use machine_meaning::event::Event;

@@ -1,5 +1,6 @@
 use Rattle.std.proofs.Common.{◌≡◌, Some, ◌∙◌}
-use Rattle.session_text.specs.Fields.{fields_of, number_within}
+use Rattle.jname_core.specs.Decimals.{number_within}
+use Rattle.session_text.specs.Fields.{fields_of}
 use Rattle.session_text.specs.Rows.{two_of}
 use Rattle.session_text.proofs.Operands.{volume_kept, volume_refused}
 use Rattle.session_text.proofs.says.volume.Goals as goal

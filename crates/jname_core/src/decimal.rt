@@ -1,0 +1,46 @@
+//! Numbers in decimal digits.
+ghost use Rattle.std.specs.Prelude.{◌≡◌, ◌≤◌, IfSome, min};
+ghost use Rattle.std.specs.List.{list_all};
+ghost use Rattle.jname_core.specs.Characters.{is_digit};
+ghost use Rattle.jname_core.specs.Decimals.{decimal_value, is_decimal, number_within};
+
+use crate::character::is_digit;
+
+/// The value of digits, or 65,536 where it is above that.
+fn capped_value(digits: &[u8]) -> u32
+    ensures { result ≡ min 65536 (decimal_value digits.now) }
+{
+    let mut value = 0;
+    for c in digits {
+        value = (10 * value + u32::from(c.saturating_sub(b'0'))).min(65_536);
+    }
+    value
+}
+
+fn are_digits(text: &[u8]) -> bool
+    ensures { result ≡ list_all is_digit text.now }
+{
+    text.iter().all(|c| is_digit(*c))
+}
+
+fn is_decimal(text: &[u8]) -> bool
+    ensures { result ≡ is_decimal text.now }
+{
+    !text.is_empty() && are_digits(text)
+}
+
+/// The number that the text is in decimal, where it lies within these; zeros may stand before it.
+pub fn number_within(low: u16, high: u16, text: &[u8]) -> Option<u16>
+    ensures value { result ≡ number_within low high text.now }
+    ensures bound { IfSome result (λ n. n ≤ high) }
+{
+    if !is_decimal(text) {
+        return None;
+    }
+    let value = capped_value(text);
+    if u32::from(low) <= value && value <= u32::from(high) {
+        Some(value as u16)
+    } else {
+        None
+    }
+}
