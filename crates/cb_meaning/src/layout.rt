@@ -1,0 +1,52 @@
+//! Where the fields of a record stand that another layout may have elsewhere, or wider.
+
+/// The bytes of a record.
+pub const RECORD_BYTES: usize = 176;
+
+/// A number's first byte, and how many bytes it has, the highest first.
+#[derive(Clone, Copy, Debug, PartialEq, Eq)]
+pub struct Field {
+    pub at: u8,
+    pub width: u8,
+}
+
+/// A layout of the queue's records.
+#[derive(Clone, Copy, Debug, PartialEq, Eq)]
+pub struct Layout {
+    /// What a JCT says of it.
+    pub number: u8,
+    pub most_records: u32,
+    pub most_steps: u16,
+    /// The link of the class queue or of the free chain, in any record.
+    pub link: Field,
+    /// In a JCT: the first SCT, and the number of steps.
+    pub first_step: Field,
+    pub steps: Field,
+    /// In an SCT: the next, the first SIOT, and the number of DDs.
+    pub next_step: Field,
+    pub first_dd: Field,
+    pub dds: Field,
+    /// In an SIOT: the next, the JFCB or the first record of cards, and the number of cards.
+    pub next_dd: Field,
+    pub below: Field,
+    pub cards: Field,
+    /// In a record of cards: the next.
+    pub next_cards: Field,
+}
+
+/// Records of 4,096 and jobs of 32 steps.
+pub const LAYOUT_1: Layout = Layout {
+    number: 1,
+    most_records: 4096,
+    most_steps: 32,
+    link: Field { at: 4, width: 2 },
+    first_step: Field { at: 12, width: 2 },
+    steps: Field { at: 14, width: 2 },
+    next_step: Field { at: 8, width: 2 },
+    first_dd: Field { at: 10, width: 2 },
+    dds: Field { at: 12, width: 2 },
+    next_dd: Field { at: 8, width: 2 },
+    below: Field { at: 10, width: 2 },
+    cards: Field { at: 26, width: 2 },
+    next_cards: Field { at: 8, width: 2 },
+};

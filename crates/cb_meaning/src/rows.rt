@@ -1,0 +1,12 @@
+//! Worked examples: records, and what they spell.
+ghost use Rattle.cb_meaning.specs.Examples.{SpellsAJobOfOneSet, SpellsTwoDummies};
+
+/// A job that catalogs a set takes four records.
+pub fn spells_a_job_of_one_set()
+    ensures { SpellsAJobOfOneSet }
+{}
+
+/// A job of two dummies takes four records.
+pub fn spells_two_dummies()
+    ensures { SpellsTwoDummies }
+{}
