@@ -4,5 +4,6 @@ mod Deeds
 mod Advances
 mod Spooled
 mod Safety
+mod Here
 mod Turning
 mod Acting

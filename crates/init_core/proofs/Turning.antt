@@ -9,12 +9,13 @@ use Rattle.init_core.specs.declared.initiator.Due.TheVariants as due
 use Rattle.init_core.specs.declared.initiator.Next.{Next}
 use Rattle.init_core.specs.declared.initiator.Turned.{Turned}
 use Rattle.init_core.specs.declared.initiator.Turned.TheVariants.{Over}
+use Rattle.init_core.specs.Said.{said_line}
 use Rattle.init_core.specs.Initiators.{IsDueBy, Steps, TurnsTo}
 
-pub stepped : (old new : Running) (stage : Stage) (next : Next) (t : Turned) → IsDueBy old stage (due.Next next) → Steps old new next.line next.progress t → TurnsTo old stage new t
+pub stepped : (old new : Running) (stage : Stage) (next : Next) (t : Turned) → IsDueBy old stage (due.Next next) → Steps old new (said_line next.said) next.progress t → TurnsTo old stage new t
 stepped old new Selected next t d s = absurd d
 stepped old new Named next t d s = absurd d
-stepped old new (Admitted p) next t d s = record { line = next.line; next = next.progress; advances = d; steps = s }
+stepped old new (Admitted p) next t d s = record { line = said_line next.said; next = next.progress; advances = d; steps = s }
 
 -- a job that is over stands as it was
 pub over_stands : (old new : Running) (stage : Stage) (entries : List Entry) (sets : List SpoolSet) → TurnsTo old stage new (Over entries sets) → new ≡ old

@@ -3,6 +3,7 @@ use Rattle.std.specs.Prelude.{◌≡◌, ℕ, ◌<◌, ◌≤◌, List, [], ◌�
 use Rattle.jcl_plan.specs.declared.entry.Entry.{Entry}
 use Rattle.jcl_plan.specs.declared.entry.JobLine.{JobLine}
 use Rattle.jcl_plan.specs.declared.entry.JobLine.TheVariants as line
+use Rattle.jcl_plan.specs.declared.plan.JobPlan.{JobPlan}
 use Rattle.jcl_meaning.specs.Agendas.{agenda, budget_of}
 use Rattle.machine_meaning.specs.declared.machine.Initiator.{Initiator}
 use Rattle.machine_meaning.specs.declared.machine.SpoolSet.{SpoolSet}
@@ -17,7 +18,9 @@ use Rattle.init_core.specs.declared.initiator.Due.{Due}
 use Rattle.init_core.specs.declared.initiator.Due.TheVariants as due
 use Rattle.init_core.specs.declared.initiator.Turned.{Turned}
 use Rattle.init_core.specs.declared.initiator.Turned.TheVariants.{On, Over}
-use Rattle.init_core.specs.Todos.{HasAdvanced, listed}
+use Rattle.init_core.specs.declared.said.Said.{Said}
+use Rattle.init_core.specs.Said.{line_of, said_line}
+use Rattle.init_core.specs.Todos.{HasActedHere, HasAdvanced, listed}
 
 -- these lines were written, and the job is in this stage now
 pub record GoesOn (old : Running) (lines : List JobLine) (stage : Stage) (new : Running) (entries : List Entry) : Type 0 where
@@ -65,5 +68,20 @@ pub record HasTurned (old new : Initiator) (spool left : List SpoolSet) (lines :
 abbrev pub IsDueBy : Running → Stage → Due → Type 0
 IsDueBy r Selected due.Names = Unit {0}
 IsDueBy r Named due.Admission = Unit {0}
-IsDueBy r (Admitted p) (due.Next next) = (volumes : List (List ℕ)) → HasAdvanced (advanced volumes [] r.plan p) next.line next.progress
+IsDueBy r (Admitted p) (due.Next next) = (volumes : List (List ℕ)) → HasAdvanced (advanced volumes [] r.plan p) (said_line next.said) next.progress
 IsDueBy r _ _ = ⊥
+
+-- one action wrote the job's next line, and the job goes on; or nothing is changed
+pub record HasTold (job : ℕ) (plan : JobPlan) (listing listing_now : List JobLine) (old new : Progress) (entries : List Entry) : Type 0 where
+  pub said : Said
+  pub entries_are : entries ≡ of_job job (line_of said ∷ [])
+  pub listing_is : listing_now ≡ listing ++ line_of said ∷ []
+  pub acted : HasActedHere plan old new said
+
+abbrev pub IsToldHere : ℕ → JobPlan → List JobLine → List JobLine → Progress → Progress → Option (List Entry) → Type 0
+IsToldHere job plan listing listing_now old new None = (listing_now ≡ listing) × (new ≡ old)
+IsToldHere job plan listing listing_now old new (Some entries) = HasTold job plan listing listing_now old new entries
+
+abbrev pub IsSteppedHere : Running → Stage → Running → Option (List Entry) → Type 0
+IsSteppedHere old stage new None = new ≡ old
+IsSteppedHere old stage new (Some entries) = TurnsTo old stage new (On entries)

@@ -6,12 +6,15 @@ use Rattle.jcl_plan.specs.declared.plan.JobPlan.{JobPlan}
 use Rattle.jcl_plan.specs.declared.plan.StepPlan.{StepPlan}
 use Rattle.jcl_meaning.specs.Acts.{act}
 use Rattle.jcl_meaning.specs.declared.state.DdState.{DdState}
+use Rattle.jcl_meaning.specs.declared.state.Passed.{Passed}
 use Rattle.jcl_meaning.specs.Agendas.{Action, agenda, step_actions}
 use Rattle.jcl_meaning.specs.States.{Done}
 use Rattle.machine_meaning.specs.declared.machine.Progress.{Progress}
-use Rattle.machine_meaning.specs.Turns.{Advanced, fixed_in, state_in}
+use Rattle.machine_meaning.specs.Turns.{Advanced, advanced, fixed_in, state_in}
 use Rattle.init_core.specs.declared.actions.Todo.{Todo}
 use Rattle.init_core.specs.declared.actions.Todo.TheVariants as todo
+use Rattle.init_core.specs.declared.said.Said.{Said}
+use Rattle.init_core.specs.Said.{line_of}
 
 -- an action by the places of its step and DD, from 0
 abbrev pub with_step : Option StepPlan → (StepPlan → Option Action) → Option Action
@@ -63,6 +66,25 @@ pub record HasAdvanced (a : Advanced) (line : Option JobLine) (new : Progress) :
   pub lines : a.lines ≡ listed line
   pub state : a.state ≡ state_in new
   pub number : a.done ≡ new.done
+
+-- an action that wrote was done, and one that did not changed nothing
+abbrev pub IsTried : JobPlan → Todo → Progress → Progress → Option Said → Type 0
+IsTried plan t old new None = new ≡ old
+IsTried plan t old new (Some said) = IsDone plan t (Some (line_of said)) old new
+
+-- a turn was the action that is due, which wrote, and the job is not over behind it; or nothing is changed
+pub record HasActedHere (plan : JobPlan) (old new : Progress) (said : Said) : Type 0 where
+  pub advances : (volumes : List (List ℕ)) → HasAdvanced (advanced volumes [] plan old) (Some (line_of said)) new
+  pub more : new.done < length (agenda plan [])
+
+abbrev pub IsHere : JobPlan → Progress → Progress → Option Said → Type 0
+IsHere plan old new None = new ≡ old
+IsHere plan old new (Some said) = HasActedHere plan old new said
+
+-- the passed sets, once they are marked where they are
+abbrev pub passed_or : Option (List Passed) → List Passed → List Passed
+passed_or None passed = passed
+passed_or (Some marked) passed = marked
 
 -- the records that a DD has spooled, once it is taken
 abbrev pub spooled_of : Option DdState → Option (List (List ℕ))

@@ -4,5 +4,5 @@
 mod actions;
 mod copies;
 pub mod initiator;
-pub mod listing;
 mod progress;
+mod said;

@@ -1,23 +1,24 @@
 //! A job's progress: one action of its agenda at a time. Jobs without sets.
-ghost use Rattle.std.specs.Prelude.{◌≡◌, ◌+◌, ◌-◌, ◌<◌, ◌∷◌, ◌++◌, [], ℕ, List, IfOk, OnOk, None, Some, length, slice_get};
+ghost use Rattle.std.specs.Prelude.{◌≡◌, ◌+◌, ◌-◌, ◌<◌, ◌∷◌, ◌++◌, [], ℕ, List, IfNone, IfOk, IsSome, OnErr, OnOk, None, Some, length, slice_get};
 ghost use Rattle.jcl_plan.specs.declared.entry.JobLine.TheVariants as line;
 ghost use Rattle.jcl_plan.specs.declared.outcome.Outcome.TheVariants as outcome;
 ghost use Rattle.jcl_plan.specs.declared.plan.JobPlan.{JobPlan};
 ghost use Rattle.jcl_plan.specs.declared.words.DispWord.TheVariants as disp;
-ghost use Rattle.jcl_meaning.specs.EndActs.{as_ending, disposes, end_line, ended_with, finished, finishes};
+ghost use Rattle.jcl_meaning.specs.EndActs.{as_ending, disposes, end_line, ended_with, finished, finishes, passed_after};
 ghost use Rattle.jcl_meaning.specs.RequestActs.{head_or};
 ghost use Rattle.jcl_meaning.specs.States.{goes, if_runs, others, with_own};
 ghost use Rattle.jcl_meaning.specs.TakeActs.{new_dd, started, takes, takes_no_set};
 ghost use Rattle.machine_meaning.specs.Turns.{advanced, fixed_in, state_in};
 ghost use Rattle.init_core.specs.NoSets.{HasNoSets, IsNoSet};
-ghost use Rattle.init_core.specs.Todos.{Did, HasAdvanced, IsDone, spooled_of};
+ghost use Rattle.init_core.specs.Said.{line_of, said_line};
+ghost use Rattle.init_core.specs.Todos.{Did, HasAdvanced, IsDone, IsHere, IsTried, passed_or, spooled_of};
 ghost use Rattle.init_core.specs.declared.actions.Todo.TheVariants as todo;
 
 use crate::actions::{Todo, todo_at};
-use jcl_meaning::ending::{as_ending, end_line, marked_later};
+use crate::said::{Said, end_said};
+use jcl_meaning::ending::{as_ending, marked_later};
 use jcl_meaning::history::{abended, fate, is_abend, is_run, some_satisfied};
-use jcl_meaning::state::{DdState, Ended, Output};
-use jcl_plan::entry::JobLine;
+use jcl_meaning::state::{DdState, Ended, Output, Passed};
 use jcl_plan::outcome::{Code, Outcome};
 use jcl_plan::plan::{DdKind, DdPlan, JobPlan, Record, StepPlan};
 use jcl_plan::words::{DispWord, TakeWord};
@@ -27,8 +28,8 @@ use plain::listed::Listed;
 use std::alloc::{AllocError, Global};
 
 /// A step begins, or is passed over.
-pub fn begin(plan: &JobPlan, p: &mut Progress, n: usize, step: &StepPlan) -> JobLine
-    ensures { (volumes : List (List ℕ)) → Did (started (fixed_in volumes plan.now) n step.now (state_in p.old)) (Some result) p.old p.new }
+pub fn begin(plan: &JobPlan, p: &mut Progress, n: usize, step: &StepPlan) -> Said
+    ensures { (volumes : List (List ℕ)) → Did (started (fixed_in volumes plan.now) n step.now (state_in p.old)) (Some (line_of result)) p.old p.new }
 {
     let ended = p.own.ended.as_slice();
     let fate = fate(
@@ -43,7 +44,7 @@ pub fn begin(plan: &JobPlan, p: &mut Progress, n: usize, step: &StepPlan) -> Job
     p.own.dds.clear();
     p.own.due = None;
     p.own.lines = 0;
-    JobLine::Step {
+    Said::Step {
         step: n,
         name: step.name,
         procedure_step: step.procedure_step,
@@ -57,8 +58,10 @@ fn take_no_set(
     dd: usize,
     name: &Option<Name8>,
     word: TakeWord,
-) -> Result<Option<JobLine>, AllocError>
-    ensures { IfOk result (λ line. Did (takes_no_set dd name.now word (state_in p.old)) line p.old p.new) }
+) -> Result<Option<Said>, AllocError>
+    ensures ok { IfOk result (λ line. Did (takes_no_set dd name.now word (state_in p.old)) (said_line line) p.old p.new) }
+    ensures some { IfOk result IsSome }
+    ensures err { OnErr result (p.new ≡ p.old) }
 {
     let state = DdState {
         number: dd,
@@ -70,7 +73,7 @@ fn take_no_set(
         spooled: Listed::empty(alloc),
     };
     p.own.dds.push(state)?;
-    Ok(Some(JobLine::Take {
+    Ok(Some(Said::Take {
         dd,
         name: *name,
         word,
@@ -83,9 +86,11 @@ pub fn take(
     p: &mut Progress,
     dd: usize,
     d: &DdPlan,
-) -> Result<Option<JobLine>, AllocError>
+) -> Result<Option<Said>, AllocError>
     requires { IsNoSet d.now.kind }
-    ensures { IfOk result (λ line. (volumes : List (List ℕ)) (plan : JobPlan) (n : ℕ) → Did (if_runs p.old.own.runs (state_in p.old) (takes (fixed_in volumes plan) n dd d.now.name d.now.kind (state_in p.old))) line p.old p.new) }
+    ensures ok { IfOk result (λ line. (volumes : List (List ℕ)) (plan : JobPlan) (n : ℕ) → Did (if_runs p.old.own.runs (state_in p.old) (takes (fixed_in volumes plan) n dd d.now.name d.now.kind (state_in p.old))) (said_line line) p.old p.new) }
+    ensures silent { IfOk result (λ line. IfNone line (p.new ≡ p.old)) }
+    ensures err { OnErr result (p.new ≡ p.old) }
 {
     if !p.own.runs {
         return Ok(None);
@@ -116,17 +121,36 @@ fn given_outcome(p: &Progress) -> Outcome
     }
 }
 
+/// The passed sets behind a step's end, where it changes them.
+fn marked(
+    alloc: Global,
+    n: usize,
+    outcome: &Outcome,
+    passed: &[Passed],
+) -> Result<Option<Listed<Passed>>, AllocError>
+    ensures { IfOk result (λ marked. passed_or marked passed.now ≡ passed_after outcome.now n passed.now) }
+{
+    if !is_abend(*outcome) {
+        return Ok(None);
+    }
+    let marked = marked_later(alloc, n, passed)?;
+    Ok(Some(marked))
+}
+
+/// A step ends. An `Err` changes nothing.
 fn end_with(alloc: Global, p: &mut Progress, n: usize, outcome: &Outcome) -> Result<(), AllocError>
     ensures state { OnOk result (state_in p.new ≡ ended_with n outcome.now (state_in p.old)) }
     ensures number { OnOk result (p.new.done ≡ p.old.done) }
+    ensures err { OnErr result (p.new ≡ p.old) }
 {
-    if is_abend(*outcome) {
-        p.own.passed = marked_later(alloc, n, p.own.passed.as_slice())?;
-    }
+    let marked = marked(alloc, n, outcome, p.own.passed.as_slice())?;
     p.own.ended.push_front(Ended {
         step: n,
         outcome: *outcome,
     })?;
+    if let Some(passed) = marked {
+        p.own.passed = passed;
+    }
     p.own.over = Some(*outcome);
     p.own.due = None;
     p.own.lines = 0;
@@ -135,12 +159,13 @@ fn end_with(alloc: Global, p: &mut Progress, n: usize, outcome: &Outcome) -> Res
 }
 
 /// The program's own end.
-fn finish_program(alloc: Global, p: &mut Progress, n: usize) -> Result<Option<JobLine>, AllocError>
-    ensures { IfOk result (λ line. Did (finishes n None (state_in p.old)) line p.old p.new) }
+fn finish_program(alloc: Global, p: &mut Progress, n: usize) -> Result<Said, AllocError>
+    ensures ok { IfOk result (λ said. Did (finishes n None (state_in p.old)) (Some (line_of said)) p.old p.new) }
+    ensures err { OnErr result (p.new ≡ p.old) }
 {
     let outcome = given_outcome(p);
     end_with(alloc, p, n, &outcome)?;
-    Ok(Some(end_line(&outcome)))
+    Ok(end_said(&outcome))
 }
 
 /// The end of a step that ended before.
@@ -149,16 +174,16 @@ fn finish_over(
     p: &mut Progress,
     n: usize,
     outcome: &Outcome,
-) -> Result<Option<JobLine>, AllocError>
-    ensures { IfOk result (λ line. Did (finishes n (Some outcome.now) (state_in p.old)) line p.old p.new) }
+) -> Result<Option<Said>, AllocError>
+    ensures { IfOk result (λ line. Did (finishes n (Some outcome.now) (state_in p.old)) (said_line line) p.old p.new) }
 {
     end_with(alloc, p, n, outcome)?;
     Ok(None)
 }
 
 /// The end of a step.
-pub fn finish(alloc: Global, p: &mut Progress, n: usize) -> Result<Option<JobLine>, AllocError>
-    ensures { IfOk result (λ line. Did (finished n (state_in p.old)) line p.old p.new) }
+pub fn finish(alloc: Global, p: &mut Progress, n: usize) -> Result<Option<Said>, AllocError>
+    ensures { IfOk result (λ line. Did (finished n (state_in p.old)) (said_line line) p.old p.new) }
 {
     if !p.own.runs {
         use_outcome(p);
@@ -167,32 +192,35 @@ pub fn finish(alloc: Global, p: &mut Progress, n: usize) -> Result<Option<JobLin
     let over = p.own.over;
     match &over {
         Some(outcome) => finish_over(alloc, p, n, outcome),
-        None => finish_program(alloc, p, n),
+        None => {
+            let said = finish_program(alloc, p, n)?;
+            Ok(Some(said))
+        }
     }
 }
 
-fn say_nothing(dd: usize, name: &Option<Name8>) -> Option<JobLine>
-    ensures { result ≡ Some (line.Disp dd name.now disp.Nothing) }
+fn say_nothing(dd: usize, name: &Option<Name8>) -> Said
+    ensures { line_of result ≡ line.Disp dd name.now disp.Nothing }
 {
-    Some(JobLine::Disp {
+    Said::Disp {
         dd,
         name: *name,
         word: DispWord::Nothing,
-    })
+    }
 }
 
+/// A DD of SYSOUT gives its records to the writers. An `Err` changes nothing.
 fn put_out(
-    alloc: Global,
     p: &mut Progress,
     n: usize,
     dd: usize,
     name: &Option<Name8>,
     class: u8,
-    records: &[Record],
-) -> Result<Option<JobLine>, AllocError>
-    ensures { IfOk result (λ said. Did (goes (line.Disp dd name.now (disp.Spooled (length records.now)) ∷ []) (with_own (state_in p.old) (record p.old.own { outputs = p.old.own.outputs ++ record { step = n; dd = dd; class = class; records = records.now } ∷ [] }))) said p.old p.new) }
+    records: Listed<Record>,
+) -> Result<Said, AllocError>
+    ensures ok { IfOk result (λ said. Did (goes (line.Disp dd name.now (disp.Spooled (length records)) ∷ []) (with_own (state_in p.old) (record p.old.own { outputs = p.old.own.outputs ++ record { step = n; dd = dd; class = class; records = records } ∷ [] }))) (Some (line_of said)) p.old p.new) }
+    ensures err { OnErr result (p.new ≡ p.old) }
 {
-    let records = Listed::copy_of(alloc, records)?;
     let count = records.len();
     p.own.outputs.push(Output {
         step: n,
@@ -200,11 +228,11 @@ fn put_out(
         class,
         records,
     })?;
-    Ok(Some(JobLine::Disp {
+    Ok(Said::Disp {
         dd,
         name: *name,
         word: DispWord::Spooled(count),
-    }))
+    })
 }
 
 /// The records put to a DD, by its place from 0.
@@ -227,10 +255,12 @@ pub fn dispose(
     n: usize,
     dd: usize,
     d: &DdPlan,
-) -> Result<Option<JobLine>, AllocError>
+) -> Result<Option<Said>, AllocError>
     requires no_set { IsNoSet d.now.kind }
     requires place { 0 < dd }
-    ensures { IfOk result (λ line. (volumes : List (List ℕ)) (plan : JobPlan) → Did (if_runs p.old.own.runs (state_in p.old) (disposes (slice_get p.old.own.dds (dd - 1)) (fixed_in volumes plan) n dd d.now.name d.now.kind (state_in p.old))) line p.old p.new) }
+    ensures ok { IfOk result (λ line. (volumes : List (List ℕ)) (plan : JobPlan) → Did (if_runs p.old.own.runs (state_in p.old) (disposes (slice_get p.old.own.dds (dd - 1)) (fixed_in volumes plan) n dd d.now.name d.now.kind (state_in p.old))) (said_line line) p.old p.new) }
+    ensures silent { IfOk result (λ line. IfNone line (p.new ≡ p.old)) }
+    ensures err { OnErr result (p.new ≡ p.old) }
 {
     if !p.own.runs {
         return Ok(None);
@@ -239,15 +269,19 @@ pub fn dispose(
         return Ok(None);
     };
     match &d.kind {
-        DdKind::Sysout(class) => put_out(alloc, p, n, dd, &d.name, *class, records.as_slice()),
-        DdKind::Dummy => Ok(say_nothing(dd, &d.name)),
-        DdKind::Cards(_) => Ok(say_nothing(dd, &d.name)),
+        DdKind::Sysout(class) => {
+            let said = put_out(p, n, dd, &d.name, *class, records)?;
+            Ok(Some(said))
+        }
+        DdKind::Dummy => Ok(Some(say_nothing(dd, &d.name))),
+        DdKind::Cards(_) => Ok(Some(say_nothing(dd, &d.name))),
         DdKind::Set(_) => unreachable!(),
     }
 }
 
-fn start_step(plan: &JobPlan, p: &mut Progress, i: usize) -> Option<JobLine>
-    ensures { IsDone plan.now (todo.Start i) result p.old p.new }
+fn start_step(plan: &JobPlan, p: &mut Progress, i: usize) -> Option<Said>
+    ensures done { IsDone plan.now (todo.Start i) (said_line result) p.old p.new }
+    ensures silent { IfNone result (p.new ≡ p.old) }
 {
     match plan.steps.as_slice().get(i) {
         None => None,
@@ -261,9 +295,11 @@ fn take_dd(
     p: &mut Progress,
     i: usize,
     d: usize,
-) -> Result<Option<JobLine>, AllocError>
+) -> Result<Option<Said>, AllocError>
     requires { HasNoSets plan.now }
-    ensures { IfOk result (λ line. IsDone plan.now (todo.Take i d) line p.old p.new) }
+    ensures ok { IfOk result (λ line. IsDone plan.now (todo.Take i d) (said_line line) p.old p.new) }
+    ensures silent { IfOk result (λ line. IfNone line (p.new ≡ p.old)) }
+    ensures err { OnErr result (p.new ≡ p.old) }
 {
     let Some(step) = plan.steps.as_slice().get(i) else {
         return Ok(None);
@@ -282,8 +318,8 @@ fn finish_step(
     plan: &JobPlan,
     p: &mut Progress,
     i: usize,
-) -> Result<Option<JobLine>, AllocError>
-    ensures { IfOk result (λ line. IsDone plan.now (todo.Finish i) line p.old p.new) }
+) -> Result<Option<Said>, AllocError>
+    ensures { IfOk result (λ line. IsDone plan.now (todo.Finish i) (said_line line) p.old p.new) }
 {
     match plan.steps.as_slice().get(i) {
         None => Ok(None),
@@ -300,9 +336,11 @@ fn dispose_dd(
     p: &mut Progress,
     i: usize,
     d: usize,
-) -> Result<Option<JobLine>, AllocError>
+) -> Result<Option<Said>, AllocError>
     requires { HasNoSets plan.now }
-    ensures { IfOk result (λ line. IsDone plan.now (todo.Dispose i d) line p.old p.new) }
+    ensures ok { IfOk result (λ line. IsDone plan.now (todo.Dispose i d) (said_line line) p.old p.new) }
+    ensures silent { IfOk result (λ line. IfNone line (p.new ≡ p.old)) }
+    ensures err { OnErr result (p.new ≡ p.old) }
 {
     let Some(step) = plan.steps.as_slice().get(i) else {
         return Ok(None);
@@ -322,9 +360,9 @@ fn act(
     plan: &JobPlan,
     p: &mut Progress,
     todo: Todo,
-) -> Result<Option<JobLine>, AllocError>
+) -> Result<Option<Said>, AllocError>
     requires { HasNoSets plan.now }
-    ensures { IfOk result (λ line. IsDone plan.now todo line p.old p.new) }
+    ensures { IfOk result (λ line. IsDone plan.now todo (said_line line) p.old p.new) }
 {
     match todo {
         Todo::Start(i) => Ok(start_step(plan, p, i)),
@@ -340,18 +378,79 @@ fn act(
             let line = dispose_dd(alloc, plan, p, i, d)?;
             Ok(line)
         }
-        Todo::Over => Ok(Some(JobLine::End)),
+        Todo::Over => Ok(Some(Said::End)),
     }
 }
 
-/// The actions up to the first that writes.
-pub fn advance(
+/// The end of a step, where its program's own end is what ends it.
+fn finish_here(alloc: Global, p: &mut Progress, i: usize) -> Result<Option<Said>, AllocError>
+    ensures ok { IfOk result (λ said. (plan : JobPlan) → IsTried plan (todo.Finish i) p.old p.new said) }
+    ensures err { OnErr result (p.new ≡ p.old) }
+{
+    if !p.own.runs {
+        return Ok(None);
+    }
+    if p.own.over.is_some() {
+        return Ok(None);
+    }
+    let n = next(i)?;
+    let said = finish_program(alloc, p, n)?;
+    Ok(Some(said))
+}
+
+/// An action, in its place, if it writes. An `Err` changes nothing.
+fn try_here(
     alloc: Global,
     plan: &JobPlan,
     p: &mut Progress,
-) -> Result<Option<JobLine>, AllocError>
+    todo: Todo,
+) -> Result<Option<Said>, AllocError>
     requires { HasNoSets plan.now }
-    ensures { IfOk result (λ line. (volumes : List (List ℕ)) → HasAdvanced (advanced volumes [] plan.now p.old) line p.new) }
+    ensures ok { IfOk result (IsTried plan.now todo p.old p.new) }
+    ensures err { OnErr result (p.new ≡ p.old) }
+{
+    match todo {
+        Todo::Start(i) => Ok(start_step(plan, p, i)),
+        Todo::Take(i, d) => {
+            let said = take_dd(alloc, plan, p, i, d)?;
+            Ok(said)
+        }
+        Todo::Finish(i) => {
+            let said = finish_here(alloc, p, i)?;
+            Ok(said)
+        }
+        Todo::Dispose(i, d) => {
+            let said = dispose_dd(alloc, plan, p, i, d)?;
+            Ok(said)
+        }
+        Todo::Over => Ok(None),
+    }
+}
+
+/// The action that is due, in its place, if it writes and is not the job's last. An `Err` changes nothing.
+pub fn act_here(alloc: Global, plan: &JobPlan, p: &mut Progress) -> Result<Option<Said>, AllocError>
+    requires { HasNoSets plan.now }
+    ensures ok { IfOk result (IsHere plan.now p.old p.new) }
+    ensures err { OnErr result (p.new ≡ p.old) }
+{
+    let Some(todo) = todo_at(plan, p.done) else {
+        return Ok(None);
+    };
+    let next = next(p.done)?;
+    if todo_at(plan, next).is_none() {
+        return Ok(None);
+    }
+    let Some(said) = try_here(alloc, plan, p, todo)? else {
+        return Ok(None);
+    };
+    p.done = next;
+    Ok(Some(said))
+}
+
+/// The actions up to the first that writes.
+pub fn advance(alloc: Global, plan: &JobPlan, p: &mut Progress) -> Result<Option<Said>, AllocError>
+    requires { HasNoSets plan.now }
+    ensures { IfOk result (λ line. (volumes : List (List ℕ)) → HasAdvanced (advanced volumes [] plan.now p.old) (said_line line) p.new) }
 {
     loop {
         let Some(todo) = todo_at(plan, p.done) else {

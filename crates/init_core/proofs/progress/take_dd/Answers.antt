@@ -1,15 +1,16 @@
 use Rattle.std.proofs.Common.{sym}
 use Rattle.std.proofs.lemmas.Bool.{ltb-true}
+use Rattle.init_core.specs.Said.{said_line}
 use Rattle.init_core.proofs.Deeds.{take_done}
 use Rattle.init_core.proofs.Indexes.{step_at}
 use Rattle.init_core.proofs.progress.take_dd.Goals as goal
 
-pub returns-in_ok-line-in-Some-get : goal.returns-in_ok-line-in-Some-get
-returns-in_ok-line-in-Some-get c =
+pub returns-in_ok-line-in-Some-get-clause-ok : goal.returns-in_ok-line-in-Some-get-clause-ok
+returns-in_ok-line-in-Some-get-clause-ok c =
     let l = c.in-Some.ensures.lookup in
     let m = c.in-Some-get.ensures.lookup in
     let step = c.in-Some.step.now in
     let dd = c.in-Some-get.dd.now in
     let there = step_at c.args.plan.now.steps c.as_slice.result.now c.args.i step c.as_slice.ensures (ltb-true _ _ (sym l.0)) l.1 in
     let dd_there = step_at step.dds c.as_slice-2.result.now c.args.d dd c.as_slice-2.ensures (ltb-true _ _ (sym m.0)) m.1 in
-    take_done c.args.plan.now c.args.i c.args.d step dd c.in_ok-line-in-Some-get.line c.args.p.now c.take.new.p there dd_there c.in_ok-line-in-Some-get.ensures
+    take_done c.args.plan.now c.args.i c.args.d step dd (said_line c.in_ok-line-in-Some-get.line) c.args.p.now c.take.new.p there dd_there c.in_ok-line-in-Some-get.ensures.ok
