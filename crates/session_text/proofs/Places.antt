@@ -1,7 +1,8 @@
 -- A list that is cut at the first element that passes a test.
-use Rattle.std.proofs.Common.{◌≡◌, ℕ, ◌+◌, ◌-◌, ◌<◌, ◌≤◌, Bool, true, false, cond, ltb, List, [], ◌∷◌, length, take, drop, position, Some, None, All, refl, ap, ◌∙◌, arith, length-drop}
+use Rattle.std.proofs.Common.{◌≡◌, ℕ, ◌+◌, ◌-◌, ◌<◌, ◌≤◌, Bool, true, false, cond, ltb, List, [], ◌∷◌, ◌++◌, length, take, drop, position, Some, None, All, refl, sym, ap, ◌∙◌, arith, length-drop}
 use Rattle.std.proofs.lemmas.List.{drop-drop, take_all}
 use Rattle.std.specs.List.{position_or_len, slice_split}
+use Rattle.std.proofs.Math.Seq.{take-add}
 use Rattle.std.proofs.lemmas.Bool.{ltb-true, ltb-false}
 use Rattle.std.proofs.lemmas.List.Elements.{All-from_get_or}
 use Rattle.std.proofs.lemmas.List.Splits.{slice_split_first, slice_split_none}
@@ -39,3 +40,13 @@ not_cut p xs h = slice_split_none p xs (all_fail p xs (none_passes p xs h))
 -- what stands behind the element at a place
 pub behind_one : {X : Type 0} (back xs : List X) (k : ℕ) → back ≡ drop k xs → take (length back - 1) (drop 1 back) ≡ drop (k + 1) xs
 behind_one back xs k is = take_all (length back - 1) (drop 1 back) (omega (arith, length-drop 1 back)) ∙ ap (drop 1) is ∙ drop-drop 1 k xs
+
+-- the first of what is left of a list
+pub next_left : {X : Type 0} (k : ℕ) (xs : List X) (x : X) (more : List X) → drop k xs ≡ x ∷ more
+    → (take (k + 1) xs ≡ take k xs ++ x ∷ []) × (drop (k + 1) xs ≡ more)
+next_left k xs x more left =
+    (take-add k 1 xs ∙ ap (λ z. take k xs ++ take 1 z) left, sym (drop-drop 1 k xs) ∙ ap (drop 1) left)
+
+-- the first does not pass
+pub position_or_len-next : {X : Type 0} (p : X → Bool) (x : X) (xs : List X) → p x ≡ false → position_or_len p (x ∷ xs) ≡ 1 + position_or_len p xs
+position_or_len-next p x xs fails = rw fails refl

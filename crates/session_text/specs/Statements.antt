@@ -144,3 +144,7 @@ abbrev mutual
 
 abbrev pub statements_of : Ending → List ℕ → List Statement
 statements_of ending text = statements_from ending 1 (lines_of ending text)
+
+-- the block that begins with line n and before these rows, and what stands behind it
+abbrev pub block_with : Ending → ℕ → Option Fault → List (List ℕ) → List Statement
+block_with ending n own rows = block_to (position is_end rows) ending n own rows (behind_end ending (n + 1) rows)

@@ -1,5 +1,5 @@
 //! The lines of a text.
-ghost use Rattle.std.specs.Prelude.{◌≡◌, ◌==◌, ◌<◌, ◌∷◌, IfNone, IfOk, IfSome, length, position};
+ghost use Rattle.std.specs.Prelude.{◌≡◌, ◌==◌, ◌<◌, ◌∷◌, [], IfNone, IfSome, length, position};
 ghost use Rattle.std.specs.Str.Lines.{strip_carriage_return};
 ghost use Rattle.session_text.specs.Lines.{lines_of};
 ghost use Rattle.session_text.specs.Rows.{rest_of};
@@ -7,7 +7,6 @@ ghost use Rattle.session_text.specs.Statements.{is_end};
 
 use crate::fields::{is_marked, two_fields};
 use crate::statement::Ending;
-use std::alloc::{AllocError, Global};
 use std::marker::Model;
 
 /// A line that a contract sees as its bytes.
@@ -73,25 +72,17 @@ fn first_row<'a>(text: &'a [u8]) -> Option<(Row<'a>, &'a [u8])>
     Some((Row::ended(line), &behind[1..]))
 }
 
-/// The lines of a text.
-pub(crate) fn rows<'a>(
-    alloc: Global,
-    text: &'a [u8],
-    ending: Ending,
-) -> Result<Vec<Row<'a>>, AllocError>
-    ensures { IfOk result (λ v. v.items ≡ lines_of ending text.now) }
+/// The first line, and what stands behind it. What no line feed ends is a line too, unless the text was cut there.
+pub(crate) fn next_line<'a>(text: &'a [u8], ending: Ending) -> Option<(Row<'a>, &'a [u8])>
+    ensures some { IfSome result (λ r. lines_of ending text.now ≡ r.0 ∷ lines_of ending r.1.now) }
+    ensures shorter { IfSome result (λ r. length r.1.now < length text.now) }
+    ensures none { IfNone result (lines_of ending text.now ≡ []) }
 {
-    let mut rows = Vec::new(alloc);
-    let mut rest = text;
-    while let Some((row, behind)) = first_row(rest) {
-        rows.push(row)?;
-        rest = behind;
-    }
-    match ending {
-        Ending::Whole if !rest.is_empty() => {
-            rows.push(Row { bytes: rest })?;
-            Ok(rows)
-        }
-        _ => Ok(rows),
+    match first_row(text) {
+        Some(first) => Some(first),
+        None => match ending {
+            Ending::Whole if !text.is_empty() => Some((Row { bytes: text }, b"".as_slice())),
+            _ => None,
+        },
     }
 }

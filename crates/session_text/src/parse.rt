@@ -1,9 +1,10 @@
 //! Lines to statements.
-ghost use Rattle.std.specs.Prelude.{◌≡◌, ◌<◌, ◌≤◌, ◌+◌, ◌++◌, drop, length, position, IfNone, IfOk, IfSome, OnOk};
-ghost use Rattle.session_text.specs.Statements.{at_end, behind_end, block_to, is_end, open_fault, read_with, statements_from, statements_of};
+ghost use Rattle.std.specs.Prelude.{◌≡◌, ◌≤◌, ◌+◌, ◌++◌, ◌∷◌, [], drop, length, position, take, IfNone, IfOk, IfSome, None, OnOk, Some};
+ghost use Rattle.session_text.specs.Lines.{lines_of};
+ghost use Rattle.session_text.specs.Statements.{at_end, block_with, is_end, open_fault, read_with, statements_from, statements_of};
 
 use crate::fault::Fault;
-use crate::lines::{Row, rows};
+use crate::lines::next_line;
 use crate::says::line_says;
 use crate::statement::{Ending, LineSays, Says, Statement};
 use machine_meaning::event::Event;
@@ -11,21 +12,75 @@ use plain::listed::Listed;
 use plain::text::Text;
 use std::alloc::{AllocError, Global};
 
-fn end_in(rows: &[Row<'_>]) -> Option<usize>
-    ensures end { result ≡ position is_end rows.now }
-    ensures bound { IfSome result (λ k. k < length rows.now) }
-{
-    rows.iter().position(|row| row.is_end())
+/// Lines that are not taken yet, and the number of the first of them.
+#[derive(Clone, Copy)]
+struct Place<'a> {
+    rest: &'a [u8],
+    line: usize,
 }
 
-fn cards(alloc: Global, rows: &[Row<'_>]) -> Result<Listed<Text>, AllocError>
-    ensures { IfOk result (λ v. v ≡ rows.now) }
+/// A block: what it says, how many lines stand before its END, and what stands behind that.
+#[derive(Drop)]
+struct Block<'a> {
+    says: Says,
+    count: usize,
+    behind: &'a [u8],
+}
+
+fn read_with(own: Option<Fault>, cards: Listed<Text>) -> Says
+    ensures { result ≡ read_with own cards }
+{
+    match own {
+        Some(fault) => Says::Refused(fault),
+        None => Says::Events(Event::Read(cards), 1),
+    }
+}
+
+/// Puts a card behind the others. With a fault of the block's own none is wanted.
+fn keep_card(
+    alloc: Global,
+    own: Option<Fault>,
+    card: &[u8],
+    cards: &mut Listed<Text>,
+) -> Result<(), AllocError>
+    ensures { OnOk result (own ≡ None → cards.new ≡ cards.old ++ card.now ∷ []) }
+{
+    match own {
+        Some(_) => Ok(()),
+        None => cards.push(Text::copy_of(alloc, card)?),
+    }
+}
+
+/// The block before the first END, where there is one.
+fn block_in<'a>(
+    alloc: Global,
+    text: &'a [u8],
+    own: Option<Fault>,
+    ending: Ending,
+) -> Result<Option<Block<'a>>, AllocError>
+    ensures end { IfOk result (λ r. IfSome r (λ b. position is_end (lines_of ending text.now) ≡ Some b.count)) }
+    ensures says { IfOk result (λ r. IfSome r (λ b. b.says ≡ read_with own (take b.count (lines_of ending text.now)))) }
+    ensures behind { IfOk result (λ r. IfSome r (λ b. lines_of ending b.behind.now ≡ drop (b.count + 1) (lines_of ending text.now))) }
+    ensures bound { IfOk result (λ r. IfSome r (λ b. b.count + 1 + length b.behind.now ≤ length text.now)) }
+    ensures none { IfOk result (λ r. IfNone r (position is_end (lines_of ending text.now) ≡ None)) }
 {
     let mut cards = Listed::empty(alloc);
-    for row in rows {
-        cards.push(Text::copy_of(alloc, row.bytes)?)?;
+    let mut rest = text;
+    let mut count = 0;
+    while let Some((row, behind)) = next_line(rest, ending) {
+        if row.is_end() {
+            let says = read_with(own, cards);
+            return Ok(Some(Block {
+                says,
+                count,
+                behind,
+            }));
+        }
+        keep_card(alloc, own, row.bytes, &mut cards)?;
+        count += 1;
+        rest = behind;
     }
-    Ok(cards)
+    Ok(None)
 }
 
 fn open_fault(ending: Ending, own: Option<Fault>) -> Fault
@@ -41,64 +96,66 @@ fn open_fault(ending: Ending, own: Option<Fault>) -> Fault
     }
 }
 
-fn read_with(alloc: Global, own: Option<Fault>, rows: &[Row<'_>]) -> Result<Says, AllocError>
-    ensures { IfOk result (λ s. s ≡ read_with own rows.now) }
-{
-    match own {
-        Some(fault) => Ok(Says::Refused(fault)),
-        None => Ok(Says::Events(Event::Read(cards(alloc, rows)?), 1)),
-    }
-}
-
-/// Puts a block behind the statements, the rows of which begin at `line`, and tells the row behind it. With `None` it was the last.
-fn push_block(
+/// Puts a block behind the statements, which begins at this line and before this text, and tells what stands behind it. With `None` it was the last.
+fn push_block<'a>(
     alloc: Global,
     out: &mut Listed<Statement>,
-    rows: &[Row<'_>],
+    text: &'a [u8],
     line: usize,
     own: Option<Fault>,
     ending: Ending,
-) -> Result<Option<usize>, AllocError>
-    requires { line ≤ length rows.now }
-    ensures next { IfOk result (λ r. IfSome r (λ next. out.new ++ statements_from ending (next + 1) (drop next rows.now)
-        ≡ out.old ++ block_to (position is_end (drop line rows.now)) ending line own (drop line rows.now) (behind_end ending (line + 1) (drop line rows.now)))) }
-    ensures last { IfOk result (λ r. IfNone r (out.new
-        ≡ out.old ++ block_to (position is_end (drop line rows.now)) ending line own (drop line rows.now) (behind_end ending (line + 1) (drop line rows.now)))) }
-    ensures bound { IfOk result (λ r. IfSome r (λ next. (line < next) × (next ≤ length rows.now))) }
+) -> Result<Option<Place<'a>>, AllocError>
+    requires { line + length text.now + 1 ≤ usize.MAX }
+    ensures next { IfOk result (λ r. IfSome r (λ next. out.new ++ statements_from ending next.line (lines_of ending next.rest.now)
+        ≡ out.old ++ block_with ending line own (lines_of ending text.now))) }
+    ensures last { IfOk result (λ r. IfNone r (out.new ≡ out.old ++ block_with ending line own (lines_of ending text.now))) }
+    ensures lines { IfOk result (λ r. IfSome r (λ next. next.line + length next.rest.now ≤ line + 1 + length text.now)) }
+    ensures shorter { IfOk result (λ r. IfSome r (λ next. length next.rest.now ≤ length text.now)) }
 {
-    let (_, behind) = rows.split_at(line);
-    let Some(end) = end_in(behind) else {
+    let Some(block) = block_in(alloc, text, own, ending)? else {
         let says = Says::Refused(open_fault(ending, own));
         out.push(Statement { line, says })?;
         return Ok(None);
     };
-    let says = read_with(alloc, own, &behind[..end])?;
+    let Block {
+        says,
+        count,
+        behind,
+    } = block;
     out.push(Statement { line, says })?;
-    Ok(Some(line + end + 1))
+    Ok(Some(Place {
+        rest: behind,
+        line: line + count + 2,
+    }))
 }
 
-/// Puts what begins at a row behind the statements, and tells the row behind it. With `None` it was the last.
-fn push_statement(
+/// Puts what begins with a line behind the statements, and tells what stands behind it. With `None` it was the last.
+fn push_statement<'a>(
     alloc: Global,
     out: &mut Listed<Statement>,
-    rows: &[Row<'_>],
-    at: usize,
+    row: &[u8],
+    text: &'a [u8],
+    line: usize,
     ending: Ending,
-) -> Result<Option<usize>, AllocError>
-    requires { at < length rows.now }
-    ensures next { IfOk result (λ r. IfSome r (λ next. out.new ++ statements_from ending (next + 1) (drop next rows.now)
-        ≡ out.old ++ statements_from ending (at + 1) (drop at rows.now))) }
-    ensures last { IfOk result (λ r. IfNone r (out.new ≡ out.old ++ statements_from ending (at + 1) (drop at rows.now))) }
-    ensures bound { IfOk result (λ r. IfSome r (λ next. (at < next) × (next ≤ length rows.now))) }
+) -> Result<Option<Place<'a>>, AllocError>
+    requires { line + length text.now + 1 ≤ usize.MAX }
+    ensures next { IfOk result (λ r. IfSome r (λ next. out.new ++ statements_from ending next.line (lines_of ending next.rest.now)
+        ≡ out.old ++ statements_from ending line (row.now ∷ lines_of ending text.now))) }
+    ensures last { IfOk result (λ r. IfNone r (out.new ≡ out.old ++ statements_from ending line (row.now ∷ lines_of ending text.now))) }
+    ensures lines { IfOk result (λ r. IfSome r (λ next. next.line + length next.rest.now ≤ line + 1 + length text.now)) }
+    ensures shorter { IfOk result (λ r. IfSome r (λ next. length next.rest.now ≤ length text.now)) }
 {
-    let row = &rows[at];
-    match line_says(alloc, row.bytes)? {
-        LineSays::Blank => Ok(Some(at + 1)),
+    let behind = Place {
+        rest: text,
+        line: line + 1,
+    };
+    match line_says(alloc, row)? {
+        LineSays::Blank => Ok(Some(behind)),
         LineSays::One(says) => {
-            out.push(Statement { line: at + 1, says })?;
-            Ok(Some(at + 1))
+            out.push(Statement { line, says })?;
+            Ok(Some(behind))
         }
-        LineSays::Opens(own) => push_block(alloc, out, rows, at + 1, own, ending),
+        LineSays::Opens(own) => push_block(alloc, out, text, line, own, ending),
     }
 }
 
@@ -128,15 +185,18 @@ pub fn statements(
 ) -> Result<Listed<Statement>, AllocError>
     ensures { IfOk result (λ v. v ≡ statements_of ending text.now) }
 {
-    let rows = rows(alloc, text, ending)?;
     let mut out = Listed::empty(alloc);
-    let mut at = 0;
-    while at < rows.len() {
-        match push_statement(alloc, &mut out, rows.as_slice(), at, ending)? {
-            Some(next) => at = next,
+    let mut rest = text;
+    let mut line = 1;
+    while let Some((row, behind)) = next_line(rest, ending) {
+        match push_statement(alloc, &mut out, row.bytes, behind, line, ending)? {
+            Some(next) => {
+                rest = next.rest;
+                line = next.line;
+            }
             None => return Ok(out),
         }
     }
-    push_end(&mut out, at + 1, ending)?;
+    push_end(&mut out, line, ending)?;
     Ok(out)
 }

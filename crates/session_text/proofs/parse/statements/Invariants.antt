@@ -1,9 +1,13 @@
-use Rattle.std.proofs.Common.{◌≡◌, ◌++◌, ◌+◌, ◌-◌, ◌≤◌, drop, length}
-use Rattle.session_text.specs.Statements.{statements_from}
+use Rattle.std.proofs.Common.{◌≡◌, ◌++◌, ◌+◌, ◌≤◌, length}
+use Rattle.session_text.specs.Lines.{lines_of}
+use Rattle.session_text.specs.Statements.{statements_from, statements_of}
 use Rattle.session_text.proofs.parse.statements.Given as goal
 
-abbrev pub invariant-loop-at : goal.invariant-loop-at
-invariant-loop-at l = (l.at ≤ length l.rows.items) × (statements_from l.ending 1 l.rows.items ≡ l.out ++ statements_from l.ending (l.at + 1) (drop l.at l.rows.items))
+abbrev pub invariant-loop-row : goal.invariant-loop-row
+invariant-loop-row l = record {
+  so_far : statements_of l.ending l.text ≡ l.out ++ statements_from l.ending l.line (lines_of l.ending l.rest);
+  within : l.line + length l.rest ≤ length l.text + 1;
+}
 
-abbrev pub decreases-loop-at : goal.decreases-loop-at
-decreases-loop-at l = length l.rows.items - l.at
+abbrev pub decreases-loop-row : goal.decreases-loop-row
+decreases-loop-row l = length l.rest
