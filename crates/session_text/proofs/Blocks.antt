@@ -1,11 +1,9 @@
 -- Blocks among the rows of a text.
-use Rattle.std.proofs.Common.{◌≡◌, ℕ, suc, ◌+◌, ◌-◌, ◌<◌, Bool, true, false, List, [], ◌∷◌, length, take, drop, get_or, position, Option, Some, refl, ap, ◌∙◌, arith, add-zero}
+use Rattle.std.proofs.Common.{◌≡◌, ℕ, suc, ◌+◌, ◌-◌, ◌<◌, Bool, true, false, List, [], ◌∷◌, length, take, drop, position, Option, Some, refl, arith, add-zero}
 use Rattle.std.specs.List.{position_or_len}
-use Rattle.std.proofs.lemmas.List.{at_drop_more}
 use Rattle.session_text.specs.declared.fault.Fault.{Fault}
 use Rattle.session_text.specs.declared.statement.Ending.{Ending}
-use Rattle.session_text.specs.declared.statement.LineSays.{LineSays}
-use Rattle.session_text.specs.Statements.{behind_end, block_to, by_line, is_end, read_with, says_of, statement_at, statements_from}
+use Rattle.session_text.specs.Statements.{behind_end, block_to, is_end, read_with, statement_at, statements_from}
 use Rattle.session_text.proofs.Places.{first_at}
 
 behind_row : (ending : Ending) (n : ℕ) (row : List ℕ) (rows : List (List ℕ)) (k : ℕ) (b : Bool) → is_end row ≡ b → position_or_len is_end (row ∷ rows) ≡ k → k < length (row ∷ rows)
