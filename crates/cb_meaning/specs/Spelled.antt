@@ -60,6 +60,9 @@ abbrev pub status_bytes : Field
 status_bytes = field 168 8
 
 -- JCT
+abbrev pub jct_fields : Layout → List Field
+jct_fields l = common l ++ field 8 4 ∷ l.first_step ∷ l.steps ∷ field 16 9 ∷ field 26 24 ∷ status_bytes ∷ []
+
 pub record SpellsJct (l : Layout) (plan : JobPlan) (r : List ℕ) : Type 0 where
   pub layout : byte_at r 8 ≡ l.number
   pub class : byte_at r 9 ≡ plan.class
@@ -69,9 +72,12 @@ pub record SpellsJct (l : Layout) (plan : JobPlan) (r : List ℕ) : Type 0 where
   pub name : part r 16 8 ≡ filled 8 plan.name
   pub count : byte_at r 24 ≡ length plan.tests.items
   pub tests : part r 26 24 ≡ then_zeros 24 (flat_map job_test_bytes plan.tests.items)
-  pub unused : is_zero_but (common l ++ field 8 4 ∷ l.first_step ∷ l.steps ∷ field 16 9 ∷ field 26 24 ∷ status_bytes ∷ []) r ≡ true
+  pub unused : is_zero_but (jct_fields l) r ≡ true
 
 -- SCT
+abbrev pub sct_fields : Layout → List Field
+sct_fields l = common l ++ l.next_step ∷ l.first_dd ∷ l.dds ∷ field 14 2 ∷ field 16 24 ∷ field 40 40 ∷ status_bytes ∷ []
+
 pub record SpellsSct (l : Layout) (step : StepPlan) (r : List ℕ) : Type 0 where
   pub dds : number_at r l.dds ≡ length step.dds
   pub after_abend : byte_at r 14 ≡ after_abend_code step.after_abend
@@ -80,7 +86,7 @@ pub record SpellsSct (l : Layout) (step : StepPlan) (r : List ℕ) : Type 0 wher
   pub procedure_step : part r 24 8 ≡ filled_or_blank 8 step.procedure_step
   pub program : part r 32 8 ≡ filled 8 step.program
   pub tests : part r 40 40 ≡ then_zeros 40 (flat_map step_test_bytes step.tests.items)
-  pub unused : is_zero_but (common l ++ l.next_step ∷ l.first_dd ∷ l.dds ∷ field 14 2 ∷ field 16 24 ∷ field 40 40 ∷ status_bytes ∷ []) r ≡ true
+  pub unused : is_zero_but (sct_fields l) r ≡ true
 
 -- SIOT: what its kind does not use is zero
 abbrev pub kind_code : DdKind → ℕ
@@ -186,21 +192,27 @@ name_referred (volume.Serial serial) = None
 name_referred (volume.OfName name) = Some name
 name_referred (volume.OfDd step dd) = None
 
+abbrev pub jfcb_fields : Layout → List Field
+jfcb_fields l = common l ++ field 8 98 ∷ []
+
 pub record SpellsJfcb (l : Layout) (p : SetPlan) (r : List ℕ) : Type 0 where
   pub kind : byte_at r 8 ≡ key_code p.key
   pub relative : part r 9 3 ≡ relative_bytes p.key
   pub name : part r 12 44 ≡ name_bytes p.key
   pub serial : part r 56 6 ≡ filled_or_blank 6 (serial_coded p.volume)
   pub reference : part r 62 44 ≡ filled_or_blank 44 (name_referred p.volume)
-  pub unused : is_zero_but (common l ++ field 8 98 ∷ []) r ≡ true
+  pub unused : is_zero_but (jfcb_fields l) r ≡ true
 
 -- records of cards: one or two each
+abbrev pub card_fields : Layout → List Field
+card_fields l = common l ++ l.next_cards ∷ field 10 1 ∷ field 16 160 ∷ []
+
 pub record SpellsCards (l : Layout) (here : List (List ℕ)) (r : List ℕ) : Type 0 where
   pub count : byte_at r 10 ≡ length here
   pub some : 1 ≤ length here
   pub most : length here ≤ 2
   pub cards : part r 16 160 ≡ then_zeros 160 (flat_map (λ card. card) here)
-  pub unused : is_zero_but (common l ++ l.next_cards ∷ field 10 1 ∷ field 16 160 ∷ []) r ≡ true
+  pub unused : is_zero_but (card_fields l) r ≡ true
 
 -- A chain of records, from a first number on, spells these; its own numbers are the list's.
 abbrev pub CardChain : Layout → Records → ℕ → ℕ → List ℕ → List (List ℕ) → Type 0
