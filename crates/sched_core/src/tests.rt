@@ -278,8 +278,14 @@ const DECKS: &[(&str, Option<Cause>)] = &[
         "//J JOB 1\n//S EXEC PROCX\n//9 DD DUMMY\n",
         Some(Cause::N(3)),
     ),
-    ("//S EXEC PROCX\n//J JOB 1\n", Some(Cause::P(StatementFault::NotOneJob))),
-    ("//J JOB 1,CLASS=Z\n//S EXEC PROCX\n", Some(Cause::P(StatementFault::BadValue))),
+    (
+        "//S EXEC PROCX\n//J JOB 1\n",
+        Some(Cause::P(StatementFault::NotOneJob)),
+    ),
+    (
+        "//J JOB 1,CLASS=Z\n//S EXEC PROCX\n",
+        Some(Cause::P(StatementFault::BadValue)),
+    ),
     (
         "//J JOB 1\n//S EXEC PROCX\n//X DD SYSOUT=*\n",
         Some(Cause::P(StatementFault::BadValue)),
@@ -297,7 +303,10 @@ const DECKS: &[(&str, Option<Cause>)] = &[
         "//J JOB 1\n//S EXEC PGM=A\n//Y.X DD DUMMY\n",
         Some(Cause::P(StatementFault::NoSuchProcedureStep)),
     ),
-    ("//J JOB 1\n//S EXEC PROCX\n", Some(Cause::P(StatementFault::NoSuchProcedure))),
+    (
+        "//J JOB 1\n//S EXEC PROCX\n",
+        Some(Cause::P(StatementFault::NoSuchProcedure)),
+    ),
     (
         "//J JOB 1\n//S EXEC PROCX\n//S2 EXEC PGM=A\n",
         Some(Cause::P(StatementFault::NoSuchProcedure)),
@@ -314,8 +323,14 @@ const DECKS: &[(&str, Option<Cause>)] = &[
         "//J JOB 1\n//S EXEC PGM=A\n//X DD DUMMY\n// DD DUMMY\n",
         Some(Cause::P(StatementFault::LeftOut)),
     ),
-    ("//J JOB 1\n//S EXEC PGM=A\n//X DD\n", Some(Cause::P(StatementFault::LeftOut))),
-    ("//J JOB 1\n//S EXEC PGM=A,COND=EVEN\n", Some(Cause::P(StatementFault::LeftOut))),
+    (
+        "//J JOB 1\n//S EXEC PGM=A\n//X DD\n",
+        Some(Cause::P(StatementFault::LeftOut)),
+    ),
+    (
+        "//J JOB 1\n//S EXEC PGM=A,COND=EVEN\n",
+        Some(Cause::P(StatementFault::LeftOut)),
+    ),
 ];
 
 #[test]
