@@ -16,7 +16,8 @@ use Rattle.session_text.specs.declared.statement.Says.{Says}
 use Rattle.session_text.specs.declared.statement.Says.TheVariants as says
 use Rattle.session_text.specs.declared.statement.Says.TheVariants.{Volume, Initiator, Events, Refused}
 use Rattle.session_text.specs.declared.statement.Statement.{Statement}
-use Rattle.session_text.specs.Fields.{before_star, class_of, fields_of, is_marked, listed_in, number_within, times_in}
+use Rattle.jname_core.specs.Decimals.{number_within}
+use Rattle.session_text.specs.Fields.{before_star, class_of, fields_of, is_marked, listed_in, times_in}
 use Rattle.session_text.specs.Lines.{lines_of}
 use Rattle.session_text.specs.Statements.{at_end, behind_end, block_to, by_line, initiator_of, initiator_with, is_end, open_fault, opens, read_with, says_by, says_in, says_of, statements_from, statements_of, turns_of, turns_with, unit_of, volume_of, volume_with, writes_of, writes_with}
 use Rattle.session_core.specs.Sessions.{Session, config_of, fault_behind, has_begun, session_behind, session_by, session_of, unless_late}
