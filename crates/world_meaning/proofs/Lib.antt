@@ -1,0 +1,3 @@
+pub mod JobLens
+pub mod Conserved
+pub mod Following

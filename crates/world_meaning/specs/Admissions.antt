@@ -1,0 +1,189 @@
+-- A job whose names are held is admitted, waits for space, or is refused: ASSURED, WAIT SPACE, RISK, TOOMANY, UNCHECKED, REFUSED.
+use Rattle.std.specs.Prelude.{◌≡◌, ◌≢◌, ℕ, ◌-◌, ◌<◌, ◌≤◌, Bool, true, false, List, [], ◌∷◌, length, take, Option, Some, None, slice_get, sum_by, All, ◌++◌}
+use Rattle.std.specs.List.{Contains, filter_map, list_any}
+use Rattle.jcl_plan.specs.declared.entry.JobLine.{JobLine}
+use Rattle.jcl_plan.specs.declared.entry.JobLine.TheVariants as line
+use Rattle.jcl_plan.specs.declared.fault.Fault.{Fault}
+use Rattle.jcl_plan.specs.declared.outcome.Abend.TheVariants.{User}
+use Rattle.jcl_plan.specs.declared.outcome.Fate.{Fate}
+use Rattle.jcl_plan.specs.declared.outcome.Fate.TheVariants as fate
+use Rattle.jcl_plan.specs.declared.outcome.Outcome.{Outcome}
+use Rattle.jcl_plan.specs.declared.outcome.Outcome.TheVariants as outcome
+use Rattle.jcl_plan.specs.declared.plan.DdKind.{DdKind}
+use Rattle.jcl_plan.specs.declared.plan.DdKind.TheVariants.{Cards, Dummy, Set, Sysout}
+use Rattle.jcl_plan.specs.declared.plan.JobPlan.{JobPlan}
+use Rattle.jcl_meaning.specs.declared.state.Place.{Place}
+use Rattle.jcl_meaning.specs.Agendas.{Action, Dispose, Left, Take, budget_of, path_agenda, steps_from}
+use Rattle.jcl_meaning.specs.History.{IsStepOutcome}
+use Rattle.jcl_meaning.specs.Programs.{moves_of}
+use Rattle.jcl_meaning.specs.Resolutions.{meanings_of}
+use Rattle.jcl_meaning.specs.Solo.{Ran, given, is_clean, nothing_own, run}
+use Rattle.jcl_meaning.specs.States.{Answers, Fixed, State}
+use Rattle.jcl_meaning.specs.Stores.{Store}
+use Rattle.jcl_meaning.specs.Takes.{primary_of}
+use Rattle.jcl_meaning.specs.Views.{View, view_at}
+use Rattle.cb_meaning.specs.Writable.{kind_at}
+use Rattle.world_meaning.specs.Holdings.{released}
+use Rattle.world_meaning.specs.Lenses.{seen}
+use Rattle.world_meaning.specs.Placements.{ArePlaces}
+use Rattle.world_meaning.specs.Tracks.{Conserves, is_kept_for}
+use Rattle.world_meaning.specs.Worlds.{Admitted, Config, Kept, Named, Running, Shared, going_on}
+
+-- What is fixed for a job at its admission: where its sets are placed, what its keys mean in the store as it now sees it, and the date.
+abbrev pub fixed_at : Config → Shared → ℕ → JobPlan → List Place → Fixed
+fixed_at c s job plan places = record {
+  job_tests = plan.tests.items;
+  volumes = c.volumes;
+  places = places;
+  meanings = meanings_of (seen job s.store) plan;
+  date = s.date;
+}
+
+abbrev pub first_state : Store → Answers → State
+first_state store answers = record { store = store; own = nothing_own; answers = answers }
+
+-- the solo meaning of a job along given outcomes, in a store
+abbrev pub ran_along : Fixed → JobPlan → Store → List Outcome → Ran
+ran_along fixed plan store outcomes = run fixed (path_agenda plan) (first_state store (given outcomes))
+
+-- it meets no fault, however its steps end
+abbrev pub IsSafe : Fixed → JobPlan → Store → Type 0
+IsSafe fixed plan store = (outcomes : List Outcome) → All IsStepOutcome outcomes → is_clean (ran_along fixed plan store outcomes) ≡ true
+
+-- on some path it makes a set at this place
+pub record Makes (fixed : Fixed) (plan : JobPlan) (store : Store) (p : Place) : Type 0 where
+  pub outcomes : List Outcome
+  pub within : All IsStepOutcome outcomes
+  pub made : Contains (ran_along fixed plan store outcomes).made p
+
+-- the primary that a DD asks for
+abbrev pub primary_asked : Option DdKind → ℕ
+primary_asked None = 0
+primary_asked (Some (Set p)) = primary_of p.space
+primary_asked (Some Dummy) = 0
+primary_asked (Some (Sysout class)) = 0
+primary_asked (Some (Cards cards)) = 0
+
+abbrev pub place_kept : Kept → Place
+place_kept k = record { step = k.step; dd = k.dd; serial = k.serial }
+
+pub record IsFounded (fixed : Fixed) (plan : JobPlan) (store : Store) (job : ℕ) (k : Kept) : Type 0 where
+  pub of_job : k.job ≡ job
+  pub tracks : k.tracks ≡ primary_asked (kind_at plan.steps k.step k.dd)
+  pub made : Makes fixed plan store (place_kept k)
+
+abbrev pub AreDifferent : ℕ → List Kept → Type 0
+AreDifferent job [] = Unit {0}
+AreDifferent job (k ∷ ks) = All (λ other. is_kept_for job (place_kept k) other ≡ false) ks × AreDifferent job ks
+
+-- the primary of every DD is kept on each volume where some path makes its set, and nothing else
+pub record AreKept (fixed : Fixed) (plan : JobPlan) (store : Store) (job : ℕ) (kept : List Kept) : Type 0 where
+  pub founded : All (IsFounded fixed plan store job) kept
+  pub all : (p : Place) → Makes fixed plan store p → list_any (is_kept_for job p) kept ≡ true
+  pub once : AreDifferent job kept
+
+abbrev pub tracks_kept : List Kept → ℕ
+tracks_kept kept = sum_by (λ k. k.tracks) kept
+
+-- A path to a fault: an outcome for each step before the place; of a disposition its own step's too, and at the job's end all. A step that
+-- runs shows its code, or an ABEND as U0000; another its fate.
+abbrev pub fate_shown : JobLine → Option Fate
+fate_shown (line.Step n name procedure_step f) = Some f
+fate_shown other = None
+
+abbrev pub fates_in : List JobLine → List Fate
+fates_in lines = filter_map fate_shown lines
+
+abbrev pub outcome_shown : Outcome → Outcome
+outcome_shown (outcome.Code code) = outcome.Code code
+outcome_shown (outcome.Abend a) = outcome.Abend (User 0)
+outcome_shown outcome.Bypassed = outcome.Code 0
+outcome_shown outcome.Flushed = outcome.Code 0
+
+abbrev pub path_shown : List Fate → List Outcome → List Outcome
+path_shown [] outcomes = []
+path_shown (fate.Run ∷ fates) [] = outcome.Code 0 ∷ path_shown fates []
+path_shown (fate.Run ∷ fates) (o ∷ outcomes) = outcome_shown o ∷ path_shown fates outcomes
+path_shown (fate.Bypassed ∷ fates) [] = outcome.Bypassed ∷ path_shown fates []
+path_shown (fate.Bypassed ∷ fates) (o ∷ outcomes) = outcome.Bypassed ∷ path_shown fates outcomes
+path_shown (fate.Flushed ∷ fates) [] = outcome.Flushed ∷ path_shown fates []
+path_shown (fate.Flushed ∷ fates) (o ∷ outcomes) = outcome.Flushed ∷ path_shown fates outcomes
+
+-- the step and the DD of an action, and how many steps have ended behind it
+abbrev pub IsPlace : Option Action → ℕ → ℕ → ℕ → ℕ → Type 0
+IsPlace (Some (Take n d kind)) steps step dd ended = (n ≡ step) × (d ≡ dd) × (ended ≡ step - 1)
+IsPlace (Some (Dispose n d kind)) steps step dd ended = (n ≡ step) × (d ≡ dd) × (ended ≡ step)
+IsPlace (Some (Left n d kind)) steps step dd ended = (n ≡ step) × (d ≡ dd) × (ended ≡ steps)
+IsPlace other steps step dd ended = ⊥
+
+pub record MeetsFault (fixed : Fixed) (plan : JobPlan) (store : Store) (fault : Fault) (step dd : ℕ) (path : List Outcome) : Type 0 where
+  pub outcomes : List Outcome
+  pub within : All IsStepOutcome outcomes
+  pub place : ℕ
+  pub ended : ℕ
+  pub met : Contains (ran_along fixed plan store outcomes).faults (record { place = place; fault = fault })
+  pub at : IsPlace (slice_get (path_agenda plan) place) (length plan.steps) step dd ended
+  pub shown : path ≡ path_shown (take ended (fates_in (ran_along fixed plan store outcomes).lines)) outcomes
+
+-- more views behind a step than the limit
+abbrev pub ran_to : Fixed → JobPlan → Store → ℕ → List Outcome → Ran
+ran_to fixed plan store k outcomes = run fixed (steps_from (moves_of []) 1 (take k plan.steps)) (first_state store (given outcomes))
+
+pub record IsSeenBehind (fixed : Fixed) (plan : JobPlan) (store : Store) (k : ℕ) (view : View) : Type 0 where
+  pub outcomes : List Outcome
+  pub within : All IsStepOutcome outcomes
+  pub without_fault : is_clean (ran_to fixed plan store k outcomes) ≡ true
+  pub seen : view ≡ view_at plan k fixed.date (ran_to fixed plan store k outcomes).state
+
+abbrev pub Differ : List View → Type 0
+Differ [] = Unit {0}
+Differ (v ∷ vs) = All (λ other. v ≢ other) vs × Differ vs
+
+pub record HasMoreViews (fixed : Fixed) (plan : JobPlan) (store : Store) (k limit : ℕ) : Type 0 where
+  pub views : List View
+  pub seen : All (IsSeenBehind fixed plan store k) views
+  pub different : Differ views
+  pub more : limit < length views
+
+-- some DD is for a set
+abbrev pub is_for_set : DdKind → Bool
+is_for_set (Set p) = true
+is_for_set Dummy = false
+is_for_set (Sysout class) = false
+is_for_set (Cards cards) = false
+
+abbrev pub names_a_set : JobPlan → Bool
+names_a_set plan = list_any (λ step. list_any (λ d. is_for_set d.kind) step.dds) plan.steps
+
+abbrev pub admitted : Running → List JobLine → JobPlan → Fixed → Bool → Option Running
+admitted r lines plan fixed assured = going_on r lines (Admitted plan (record { fixed = fixed; assured = assured }) 0 nothing_own)
+
+-- a job that may fail runs with checks, or is REFUSED, as the command line says
+pub data MayFail (c : Config) (old : Shared) (r : Running) (plan : JobPlan) (fixed : Fixed) (told : JobLine)
+    (lines : List JobLine) (new : Shared) (runs : Option Running) : Type 0 where
+  risky : c.refuses ≡ false → lines ≡ told ∷ [] → new ≡ old → runs ≡ admitted r lines plan fixed false → MayFail c old r plan fixed told lines new runs
+  refused : (free : List ℕ → ℕ) → c.refuses ≡ true → lines ≡ told ∷ line.Refused ∷ [] → new ≡ released c old r.job free → Conserves old new → runs ≡ None →
+      MayFail c old r plan fixed told lines new runs
+
+-- ASSURED t TRACKS b ACTIONS, WAIT SPACE serial, RISK Fn STEP s DD d PATH p, TOOMANY STEP s; and UNCHECKED of a job that names a set, as long as
+-- nothing analyses it
+pub data Answered (c : Config) (old : Shared) (r : Running) (plan : JobPlan) (fixed : Fixed)
+    (lines : List JobLine) (new : Shared) (runs : Option Running) : Type 0 where
+  assured : (kept : List Kept) (free : List ℕ → ℕ) → IsSafe fixed plan (seen r.job old.store) → AreKept fixed plan (seen r.job old.store) r.job kept →
+      lines ≡ line.Assured (tracks_kept kept) (budget_of plan c.programs) ∷ [] →
+      new ≡ record old { kept = old.kept ++ kept; free = free } → Conserves old new →
+      runs ≡ admitted r lines plan fixed true → Answered c old r plan fixed lines new runs
+  no_space : (serial : List ℕ) → Contains c.volumes serial → lines ≡ line.WaitSpace serial ∷ [] → new ≡ old → runs ≡ going_on r lines (Named plan) →
+      Answered c old r plan fixed lines new runs
+  risk : (fault : Fault) (step dd : ℕ) (path : List Outcome) → MeetsFault fixed plan (seen r.job old.store) fault step dd path →
+      MayFail c old r plan fixed (line.Risk fault step dd path) lines new runs → Answered c old r plan fixed lines new runs
+  too_many : (step : ℕ) → 1 ≤ step → step ≤ length plan.steps → HasMoreViews fixed plan (seen r.job old.store) step c.most_views →
+      MayFail c old r plan fixed (line.TooMany step) lines new runs → Answered c old r plan fixed lines new runs
+  unchecked : names_a_set plan ≡ true → lines ≡ line.Unchecked ∷ [] → new ≡ old → runs ≡ admitted r lines plan fixed false →
+      Answered c old r plan fixed lines new runs
+
+-- The placement is chosen, and what the job's relative names mean is found, at the line that is written here.
+pub record Admits (c : Config) (old : Shared) (r : Running) (plan : JobPlan) (lines : List JobLine) (new : Shared) (runs : Option Running) : Type 0 where
+  pub places : List Place
+  pub placed : ArePlaces c plan places
+  pub answers : Answered c old r plan (fixed_at c old r.job plan places) lines new runs

@@ -1,0 +1,30 @@
+-- The devices, and the writers: a device's end writes nothing; WRITER.
+use Rattle.std.specs.Prelude.{◌≡◌, ◌≢◌, ℕ, not, List, [], ◌∷◌, filter, All}
+use Rattle.std.specs.List.{Contains}
+use Rattle.std.specs.Str.{bytes_eq}
+use Rattle.jcl_plan.specs.declared.entry.Entry.{Entry}
+use Rattle.jcl_plan.specs.declared.entry.Entry.TheVariants as entry
+use Rattle.jcl_plan.specs.declared.entry.Written.{Written}
+use Rattle.jcl_plan.specs.declared.fault.Cause.TheVariants.{A}
+use Rattle.machine_meaning.specs.declared.machine.SpoolSet.{SpoolSet}
+use Rattle.machine_meaning.specs.Spools.{HasNoSet, Takes}
+use Rattle.world_meaning.specs.Turns.{is_busy}
+use Rattle.world_meaning.specs.Worlds.{Operation, World}
+use Rattle.std.specs.Prelude.{true, false, Some}
+
+-- the operation on the volume is over
+abbrev pub without_operation : List Operation → List ℕ → List Operation
+without_operation operations serial = filter (λ o. not (bytes_eq o.serial serial)) operations
+
+pub data EndsDevice (old : World) (serial : List ℕ) (lines : List Entry) (new : World) : Type 0 where
+  no_volume : All (λ v. v ≢ serial) old.config.volumes → lines ≡ entry.Refused (A 3) ∷ [] → new ≡ old → EndsDevice old serial lines new
+  idle : Contains old.config.volumes serial → is_busy old.shared.operations (Some serial) ≡ false → lines ≡ entry.Refused (A 4) ∷ [] → new ≡ old →
+      EndsDevice old serial lines new
+  ended : Contains old.config.volumes serial → is_busy old.shared.operations (Some serial) ≡ true → lines ≡ [] →
+      new ≡ record old { shared = record old.shared { operations = without_operation old.shared.operations serial } } → EndsDevice old serial lines new
+
+-- WRITER c nnnn text: the first line of the writer's class, if there is one
+pub data Writes (old : World) (class : ℕ) (lines : List Entry) (new : World) : Type 0 where
+  nothing_written : HasNoSet old.shared.spool class → lines ≡ [] → new ≡ old → Writes old class lines new
+  wrote : (job : ℕ) (line : Written) (left : List SpoolSet) → Takes old.shared.spool class job line left →
+      lines ≡ entry.Writer class job line ∷ [] → new ≡ record old { shared = record old.shared { spool = left } } → Writes old class lines new

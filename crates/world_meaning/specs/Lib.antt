@@ -1,0 +1,17 @@
+pub mod Lenses
+pub mod Worlds
+pub mod Tracks
+pub mod Records
+pub mod Placements
+pub mod Readings
+pub mod Selections
+pub mod Holdings
+pub mod Admissions
+pub mod Turns
+pub mod Devices
+pub mod Cancels
+pub mod Zaps
+pub mod Displays
+pub mod Transitions
+pub mod Starts
+pub mod Headlines

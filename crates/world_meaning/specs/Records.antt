@@ -1,0 +1,51 @@
+-- The records of the queue: how they are taken and given back, and what may differ in them at any time.
+use Rattle.std.specs.Prelude.{◌≡◌, ℕ, zero, ◌+◌, Bool, false, ◌==◌, List, [], ◌∷◌, ◌++◌, length, filter, take, drop, if◌then◌else◌, suc}
+use Rattle.std.specs.List.{list_any}
+use Rattle.cb_meaning.specs.declared.layout.Field.{Field}
+use Rattle.cb_meaning.specs.declared.layout.Layout.{Layout}
+use Rattle.cb_meaning.specs.Fields.{byte_at, is_in}
+use Rattle.cb_meaning.specs.Spelled.{Records, jct, sct, siot, status_bytes}
+use Rattle.cb_meaning.specs.Walks.{is_free, owner_of}
+use Rattle.world_meaning.specs.Worlds.{Shared}
+
+-- the numbers from one on
+abbrev pub numbers_from : ℕ → ℕ → List ℕ
+numbers_from n zero = []
+numbers_from n (suc count) = n ∷ numbers_from (n + 1) count
+
+-- the records of a job, whether or not its chains reach them; the lowest first
+abbrev pub owned_by : Layout → Records → ℕ → List ℕ
+owned_by l q job = filter (λ n. owner_of q n == job) (numbers_from 1 l.most_records)
+
+-- given back from the highest number to the lowest, so that the lowest is taken first
+abbrev pub given_back : Layout → Records → ℕ → Records
+given_back l q job = record q { free = owned_by l q job ++ q.free }
+
+-- a record of a job with a part overwritten
+abbrev pub overwritten : List ℕ → ℕ → List ℕ → List ℕ
+overwritten r offset bytes = take offset r ++ (bytes ++ drop (offset + length bytes) r)
+
+abbrev pub with_record : Records → ℕ → List ℕ → Records
+with_record q n r = record q { at = λ m. if m == n then r else q.at m }
+
+-- What is open in a record: the link, and the status bytes of those that have some.
+abbrev pub has_status : ℕ → Bool
+has_status kind = list_any (λ k. k == kind) (jct ∷ sct ∷ siot ∷ [])
+
+abbrev pub open_fields : Layout → List ℕ → List Field
+open_fields l r = l.link ∷ (if has_status (byte_at r 0) then status_bytes ∷ [] else [])
+
+pub record AgreeBut (fields : List Field) (r s : List ℕ) : Type 0 where
+  pub size : length s ≡ length r
+  pub bytes : (k : ℕ) → list_any (λ f. is_in f k) fields ≡ false → byte_at s k ≡ byte_at r k
+
+-- the same records but for what is open: that, and all that stands in free records
+pub record SameRecords (l : Layout) (old new : Records) : Type 0 where
+  pub free : new.free ≡ old.free
+  pub used : (n : ℕ) → is_free old n ≡ false → AgreeBut (open_fields l (old.at n)) (old.at n) (new.at n)
+
+-- the same but for what is open
+pub record Reopened (l : Layout) (old new : Shared) : Type 0 where
+  pub records : Records
+  pub same : SameRecords l old.records records
+  pub rest : new ≡ record old { records = records }

@@ -1,0 +1,7 @@
+pub mod Machines
+pub mod Names
+pub mod Devices
+pub mod Growths
+pub mod Cancels
+pub mod Generations
+pub mod Zaps
