@@ -5,3 +5,4 @@ pub mod Growths
 pub mod Cancels
 pub mod Generations
 pub mod Zaps
+pub mod Wrong
