@@ -6,3 +6,4 @@ pub mod Cancels
 pub mod Generations
 pub mod Zaps
 pub mod Wrong
+pub mod Rules

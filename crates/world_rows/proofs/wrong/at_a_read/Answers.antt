@@ -1,4 +1,4 @@
-use Rattle.std.proofs.Common.{◌≡◌, ◌≢◌, ℕ, Bool, true, false, lit≤, refl, sym, ap, ◌∙◌, List, [], ◌∷◌, Option, Some, None}
+use Rattle.std.proofs.Common.{◌≡◌, Bool, true, false, lit≤, refl, sym, ap, ◌∙◌, List, [], ◌∷◌, Option, Some, None}
 use Rattle.jcl_plan.specs.declared.entry.Entry.{Entry}
 use Rattle.jcl_plan.specs.declared.entry.JobLine.{JobLine}
 use Rattle.jcl_plan.specs.declared.entry.JobLine.TheVariants as line
@@ -13,7 +13,6 @@ use Rattle.world_meaning.specs.Turns.{Advanced, Advances, advance, advanced, act
 use Rattle.world_meaning.specs.Worlds.{Running, Shared, World, of_job}
 use Rattle.world_rows.specs.Devices.{fixed, own, reader, start}
 use Rattle.world_rows.specs.Machines.{serial, stands_at}
-use Rattle.world_rows.specs.Wrong.{WritesNot}
 use Rattle.world_rows.proofs.Firsts.{GoesSo, goes_so}
 use Rattle.world_rows.proofs.wrong.at_a_read.Goals as goal
 

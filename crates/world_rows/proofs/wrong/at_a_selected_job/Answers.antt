@@ -1,11 +1,11 @@
-use Rattle.std.proofs.Common.{◌≡◌, subst, ℕ, lit≤, refl, sym, ap, ◌∙◌, List, [], ◌∷◌, Option, Some, None}
+use Rattle.std.proofs.Common.{◌≡◌, subst, ℕ, lit≤, refl, sym, ◌∙◌, List, [], ◌∷◌, Option, Some, None}
 use Rattle.jcl_plan.specs.declared.entry.Entry.{Entry}
 use Rattle.jcl_plan.specs.declared.entry.Entry.TheVariants as entry
 use Rattle.jcl_plan.specs.declared.entry.JobLine.{JobLine}
 use Rattle.jcl_plan.specs.declared.entry.JobLine.TheVariants as line
 use Rattle.cb_meaning.specs.Walks.{first_fault, walk_cards, walk_dds, walk_steps}
 use Rattle.world_meaning.specs.declared.event.Event.TheVariants as event
-use Rattle.world_meaning.specs.Holdings.{Holds, ReadsRecords, blocked, broken, held, read}
+use Rattle.world_meaning.specs.Holdings.{ReadsRecords, blocked, broken, held, read}
 use Rattle.world_meaning.specs.Readings.{Denoting}
 use Rattle.world_meaning.specs.Transitions.{Transition}
 use Rattle.world_meaning.specs.Worlds.{Running, Selected, Shared, World, of_job}

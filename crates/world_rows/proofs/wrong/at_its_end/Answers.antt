@@ -1,10 +1,9 @@
-use Rattle.std.proofs.Common.{◌≡◌, ℕ, Bool, true, false, lit≤, refl, sym, ap, ◌∙◌, List, [], Option, Some, None}
-use Rattle.jcl_plan.specs.declared.entry.Entry.{Entry}
+use Rattle.std.proofs.Common.{◌≡◌, Bool, true, false, lit≤, refl, sym, ap, ◌∙◌, List, [], Option, Some, None}
 use Rattle.jcl_plan.specs.declared.entry.JobLine.{JobLine}
 use Rattle.jcl_meaning.specs.Acts.{act}
 use Rattle.jcl_meaning.specs.Solo.{nothing_own}
 use Rattle.world_meaning.specs.Turns.{Advanced, Advances, advance, advanced, acts, ends, is_over, must_wait, waits}
-use Rattle.world_meaning.specs.Worlds.{Running, Shared, World}
+use Rattle.world_meaning.specs.Worlds.{Running, Shared}
 use Rattle.world_rows.specs.Devices.{fixed}
 use Rattle.world_rows.specs.Machines.{stands_at}
 use Rattle.world_rows.specs.Names.{reader}
