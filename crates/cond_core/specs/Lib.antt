@@ -1,0 +1,3 @@
+pub mod Breaks
+pub mod Classes
+pub mod Fates
