@@ -1,0 +1,118 @@
+//! The record of a step: SCT.
+ghost use Rattle.std.specs.Prelude.{◌≡◌, ◌≢◌, MatchOption, ◌+◌, ◌*◌, ◌<◌};
+ghost use Rattle.cb_meaning.specs.Fields.{byte_at, field, number_at, part};
+ghost use Rattle.cb_meaning.specs.Spelled.{sct};
+ghost use Rattle.cb_records.specs.Writes.{FitsRecord};
+
+use crate::rec::Rec;
+use cb_meaning::layout::{Field, Layout};
+
+/// A record that is an SCT, read by a layout.
+#[derive(Clone, Copy, Debug)]
+pub struct SctView<'a> {
+    pub bytes: &'a Rec,
+    pub layout: &'a Layout,
+    ghost of_kind: { byte_at bytes.now 0 ≡ sct },
+    ghost fits: { FitsRecord layout.now },
+}
+
+impl<'a> SctView<'a> {
+    /// The view of an SCT, or none of another kind.
+    pub fn of(bytes: &'a Rec, layout: &'a Layout) -> Option<SctView<'a>>
+        requires { FitsRecord layout.now }
+        ensures { MatchOption result (byte_at bytes.now 0 ≢ sct) (λ v. (v.bytes.now ≡ bytes.now) × (v.layout.now ≡ layout.now)) }
+    {
+        if bytes.kind() == 2 {
+            Some(SctView { bytes, layout })
+        } else {
+            None
+        }
+    }
+
+    /// The number of the next SCT, 0 of the last.
+    pub fn next(&self) -> u32
+        ensures { result ≡ number_at self.now.bytes.now self.now.layout.now.next_step }
+    {
+        self.bytes.number(self.layout.next_step)
+    }
+
+    /// The number of the first SIOT, 0 without any.
+    pub fn first_dd(&self) -> u32
+        ensures { result ≡ number_at self.now.bytes.now self.now.layout.now.first_dd }
+    {
+        self.bytes.number(self.layout.first_dd)
+    }
+
+    /// How many DDs the step has.
+    pub fn dds(&self) -> u32
+        ensures { result ≡ number_at self.now.bytes.now self.now.layout.now.dds }
+    {
+        self.bytes.number(self.layout.dds)
+    }
+
+    /// 0, 1 for EVEN, 2 for ONLY.
+    pub fn after_abend(&self) -> u8
+        ensures { result ≡ byte_at self.now.bytes.now 14 }
+    {
+        self.bytes.byte(14)
+    }
+
+    /// How many tests the step has.
+    pub fn test_count(&self) -> u8
+        ensures { result ≡ byte_at self.now.bytes.now 15 }
+    {
+        self.bytes.byte(15)
+    }
+
+    /// The name of the step, with blanks behind it.
+    pub fn name(&self) -> &'a [u8]
+        ensures { result.now ≡ part self.now.bytes.now 16 8 }
+    {
+        self.bytes.text(Field { at: 16, width: 8 })
+    }
+
+    /// The name of the procedure's step, with blanks behind it.
+    pub fn procedure_step(&self) -> &'a [u8]
+        ensures { result.now ≡ part self.now.bytes.now 24 8 }
+    {
+        self.bytes.text(Field { at: 24, width: 8 })
+    }
+
+    /// The name of the program, with blanks behind it.
+    pub fn program(&self) -> &'a [u8]
+        ensures { result.now ≡ part self.now.bytes.now 32 8 }
+    {
+        self.bytes.text(Field { at: 32, width: 8 })
+    }
+
+    /// The operator of a test, by its number; the tests count from 0.
+    pub fn test_operator(&self, i: u8) -> u8
+        requires { i < 8 }
+        ensures { result ≡ byte_at self.now.bytes.now (40 + 5 * i) }
+    {
+        self.bytes.byte(40 + 5 * i)
+    }
+
+    /// The code of a test.
+    pub fn test_code(&self, i: u8) -> u16
+        requires { i < 8 }
+        ensures { result ≡ number_at self.now.bytes.now (field (41 + 5 * i) 2) }
+    {
+        self.bytes.short(41 + 5 * i)
+    }
+
+    /// The step that a test names, 0 where it looks at all earlier ones.
+    pub fn test_step(&self, i: u8) -> u16
+        requires { i < 8 }
+        ensures { result ≡ number_at self.now.bytes.now (field (43 + 5 * i) 2) }
+    {
+        self.bytes.short(43 + 5 * i)
+    }
+
+    /// The status of the step, which is the scheduler's own.
+    pub fn status_bytes(&self) -> &'a [u8]
+        ensures { result.now ≡ part self.now.bytes.now 168 8 }
+    {
+        self.bytes.text(Field { at: 168, width: 8 })
+    }
+}
