@@ -1,0 +1,9 @@
+mod Cards
+mod Columns
+mod Continuations
+mod Decks
+mod Examples
+mod Fronts
+mod InStream
+mod Laws
+mod Lines

@@ -1,0 +1,2 @@
+pub mod CardLaws
+pub mod WrittenCards

@@ -1,0 +1,26 @@
+//! Laws of the readers of texts: what is spelled reads back. They have no code: a law is a function that does nothing, and its contract is
+//! the law.
+#![tactic(auto)]
+
+ghost use Rattle.reader_laws.specs.CardLaws.{DeckReadsBack, NullStatementEnds, ShortLinesAreFilled, StatementReadsBack};
+
+/// A statement that is written as cards reads back: its operand over as many cards as it takes, comments behind it and on a card of their
+/// own, and its data.
+pub fn statement_reads_back()
+    ensures { StatementReadsBack }
+{}
+
+/// A deck of statements that are written as cards reads back, where data stand behind an EXEC statement.
+pub fn deck_reads_back()
+    ensures { DeckReadsBack }
+{}
+
+/// What stands behind a null statement is not read.
+pub fn null_statement_ends()
+    ensures { NullStatementEnds }
+{}
+
+/// A line of less than 80 columns reads as one that is filled with blanks.
+pub fn short_lines_are_filled()
+    ensures { ShortLinesAreFilled }
+{}
