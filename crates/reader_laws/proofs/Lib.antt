@@ -6,4 +6,7 @@ mod Examples
 mod Fronts
 mod InStream
 mod Laws
+mod Names
+mod Numbers
+mod Quotes
 mod Lines

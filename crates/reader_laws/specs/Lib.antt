@@ -1,2 +1,4 @@
 pub mod CardLaws
+pub mod Spelled
+pub mod TextLaws
 pub mod WrittenCards

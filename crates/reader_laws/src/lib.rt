@@ -3,6 +3,7 @@
 #![tactic(auto)]
 
 ghost use Rattle.reader_laws.specs.CardLaws.{DeckReadsBack, NullStatementEnds, ShortLinesAreFilled, StatementReadsBack};
+ghost use Rattle.reader_laws.specs.TextLaws.{NamesReadBack, NumberReadsBack, QuotedReadsBack};
 
 /// A statement that is written as cards reads back: its operand over as many cards as it takes, comments behind it and on a card of their
 /// own, and its data.
@@ -23,4 +24,19 @@ pub fn null_statement_ends()
 /// A line of less than 80 columns reads as one that is filled with blanks.
 pub fn short_lines_are_filled()
     ensures { ShortLinesAreFilled }
+{}
+
+/// A text in apostrophes, each of its own written twice, is that text; it is one place of an operand, is read, and may stand on a card.
+pub fn quoted_reads_back()
+    ensures { QuotedReadsBack }
+{}
+
+/// A number in decimal reads back where it lies within limits, whatever zeros stand before it; one outside them does not.
+pub fn number_reads_back()
+    ensures { NumberReadsBack }
+{}
+
+/// A name has no fault, and a data set name that was joined of components is those.
+pub fn names_read_back()
+    ensures { NamesReadBack }
 {}
