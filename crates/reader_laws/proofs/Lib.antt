@@ -3,10 +3,15 @@ mod Columns
 mod Continuations
 mod Decks
 mod Examples
+mod Fields
 mod Fronts
 mod InStream
 mod Laws
+mod Lines
 mod Names
 mod Numbers
 mod Quotes
-mod Lines
+mod Said
+mod SessionExamples
+mod Sessions
+mod TextLines

@@ -19,13 +19,13 @@ by_first : (p : ℕ → Bool) (d c : ℕ) (rest : Bool) → p d ≡ true → (re
 by_first p d c rest h others (inl e) = subst (λ (x : ℕ). p x ≡ true) (eqb-true d c e) h
 by_first p d c rest h others (inr e) = others e
 
-among_passes : (p : ℕ → Bool) (characters : List ℕ) (c : ℕ) → list_all p characters ≡ true → is_among characters c ≡ true → p c ≡ true
+pub among_passes : (p : ℕ → Bool) (characters : List ℕ) (c : ℕ) → list_all p characters ≡ true → is_among characters c ≡ true → p c ≡ true
 among_passes p [] c h k = absurd cc
 among_passes p (d ∷ characters) c h k =
     let halves = and_parts (p d) (list_all p characters) h in
     by_first p d c (is_among characters c) halves.0 (among_passes p characters c halves.1) (or_cases (d == c) (is_among characters c) k)
 
-all_among : (p : ℕ → Bool) (characters text : List ℕ) → list_all p characters ≡ true → list_all (is_among characters) text ≡ true → list_all p text ≡ true
+pub all_among : (p : ℕ → Bool) (characters text : List ℕ) → list_all p characters ≡ true → list_all (is_among characters) text ≡ true → list_all p text ≡ true
 all_among p characters [] h k = refl
 all_among p characters (c ∷ text) h k =
     let halves = and_parts (is_among characters c) (list_all (is_among characters) text) k in
@@ -38,7 +38,7 @@ record IsOf (kind : ℕ → Bool) (text : List ℕ) : Type 0 where
   begins : begins_badly text ≡ false
   consists : list_all kind text ≡ true
 
-not_zero : (n : ℕ) → (suc n == 0) ≡ false
+pub not_zero : (n : ℕ) → (suc n == 0) ≡ false
 not_zero n = grind (arith)
 
 not_long : (n : ℕ) → nat_le n 7 ≡ true → nat_lt 8 (suc n) ≡ false
@@ -57,7 +57,7 @@ of_kind kind others (c ∷ cs) h k e =
       consists = ap (λ (b : Bool). b && list_all kind cs) (among_passes kind first_characters c h first.0) ∙ all_among kind others cs k rest.0;
     }
 
-none_other : (kind : ℕ → Bool) (text : List ℕ) → list_all kind text ≡ true → has_other_than kind text ≡ false
+pub none_other : (kind : ℕ → Bool) (text : List ℕ) → list_all kind text ≡ true → has_other_than kind text ≡ false
 none_other kind [] h = refl
 none_other kind (c ∷ text) h =
     let halves = and_parts (kind c) (list_all kind text) h in
@@ -66,7 +66,7 @@ none_other kind (c ∷ text) h =
 no_fault : (a b c d : Bool) → a ≡ false → b ≡ false → c ≡ false → d ≡ false → first_fault a b c d ≡ None
 no_fault a b c d h k l m = λ i. first_fault (h i) (k i) (l i) (m i)
 
-neither : (a b : Bool) → a ≡ false → b ≡ false → (a || b) ≡ false
+pub neither : (a b : Bool) → a ≡ false → b ≡ false → (a || b) ≡ false
 neither a b h k = ap (λ (x : Bool). x || b) h ∙ k
 
 pub name_is : (text : List ℕ) → is_name text ≡ true → name8_fault text ≡ None
@@ -94,7 +94,7 @@ components_are part (next ∷ parts) h =
     slice_split_at (λ c. c == 46) part 46 (joined (next ∷ parts)) (no_period part halves.0) refl
     ∙ ap (λ (rest : List (List ℕ)). part ∷ rest) (components_are next parts halves.1)
 
-none_of : (p q : List ℕ → Bool) (parts : List (List ℕ)) → ((part : List ℕ) → q part ≡ true → p part ≡ false) → list_all q parts ≡ true →
+pub none_of : (p q : List ℕ → Bool) (parts : List (List ℕ)) → ((part : List ℕ) → q part ≡ true → p part ≡ false) → list_all q parts ≡ true →
     list_any p parts ≡ false
 none_of p q [] each h = refl
 none_of p q (part ∷ parts) each h =

@@ -46,7 +46,7 @@ one_more n digits h s = record {
 pub spelled : (n : ℕ) → n < 2 ^ 64 → Spells n (decimal n)
 spelled n h = decimal_by_steps Spells one_digit one_more n h
 
-more_zeros : (zeros n : ℕ) (digits : List ℕ) → Spells n digits → Spells n (replicate zeros 48 ++ digits)
+pub more_zeros : (zeros n : ℕ) (digits : List ℕ) → Spells n digits → Spells n (replicate zeros 48 ++ digits)
 more_zeros zero n digits s = s
 more_zeros (suc zeros) n digits s =
     let t = more_zeros zeros n digits s in

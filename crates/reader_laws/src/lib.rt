@@ -3,6 +3,7 @@
 #![tactic(auto)]
 
 ghost use Rattle.reader_laws.specs.CardLaws.{DeckReadsBack, NullStatementEnds, ShortLinesAreFilled, StatementReadsBack};
+ghost use Rattle.reader_laws.specs.SessionLaws.{SessionReadsBack};
 ghost use Rattle.reader_laws.specs.TextLaws.{NamesReadBack, NumberReadsBack, QuotedReadsBack};
 
 /// A statement that is written as cards reads back: its operand over as many cards as it takes, comments behind it and on a card of their
@@ -39,4 +40,9 @@ pub fn number_reads_back()
 /// A name has no fault, and a data set name that was joined of components is those.
 pub fn names_read_back()
     ensures { NamesReadBack }
+{}
+
+/// A session that is spelled from statements reads back as these, each with the number of its first line.
+pub fn session_reads_back()
+    ensures { SessionReadsBack }
 {}

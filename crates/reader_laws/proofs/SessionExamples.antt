@@ -1,0 +1,63 @@
+-- A session as it is spelled, and that what is asked of its statements is met.
+use Rattle.std.proofs.Common.{◌≡◌, ◌++◌, ℕ, true, false, List, [], ◌∷◌, All, arith, refl}
+use Rattle.std.specs.Prelude.{codes}
+use Rattle.std.specs.Fmt.{digits}
+use Rattle.std.proofs.lemmas.List.Elements.{All-cons, All-nil}
+use Rattle.machine_meaning.specs.declared.event.Event.TheVariants as event
+use Rattle.session_text.specs.declared.statement.Says.{Says}
+use Rattle.session_text.specs.declared.statement.Says.TheVariants as says
+use Rattle.reader_laws.specs.SpelledSessions.{IsSaid, Spelled, text_of}
+
+abbrev in_form : Says → Spelled
+in_form s = record { form = record { more_blanks = 0; blanks_behind = 0; zeros = 0; short = true; returns = false }; says = s }
+
+abbrev wide : Says → Spelled
+wide s = record { form = record { more_blanks = 1; blanks_behind = 2; zeros = 1; short = false; returns = true }; says = s }
+
+abbrev cards : List (List ℕ)
+cards = codes "//ONE JOB 1" ∷ codes "" ∷ codes "./ ENDED" ∷ []
+
+abbrev volume : Spelled
+volume = in_form (says.Volume (codes "VOL001") 100)
+
+abbrev unit : Spelled
+unit = in_form (says.Unit (codes "3330") (codes "VOL001" ∷ codes "VOL-2" ∷ []))
+
+abbrev initiator : Spelled
+initiator = in_form (says.Initiator 1 (codes "AB"))
+
+abbrev deck : Spelled
+deck = in_form (says.Events (event.Read cards) 1)
+
+abbrev turn : Spelled
+turn = in_form (says.Events (event.Turn 15) 1)
+
+abbrev write : Spelled
+write = wide (says.Events (event.Write 65) 12)
+
+abbrev session : List Spelled
+session = volume ∷ unit ∷ initiator ∷ deck ∷ turn ∷ write ∷ []
+
+abbrev line : List ℕ → List ℕ → List ℕ
+line text more = text ++ (10 ∷ more)
+
+abbrev block : List ℕ → List ℕ
+block more = line (codes "./ READ") (line (codes "//ONE JOB 1") (line [] (line (codes "./ ENDED") (line (codes "./ END") more))))
+
+spelled : text_of session ≡
+    line (codes "./ VOLUME VOL001 100") (line (codes "./ UNIT 3330 VOL001,VOL-2") (line (codes "./ INIT 1 AB")
+    (block (line (codes "./ TURN 15") (codes "./  WRITE  A*012  " ++ (13 ∷ 10 ∷ []))))))
+unfolding digits
+spelled = refl
+
+abbrev Sayable : Spelled → Type 0
+Sayable s = IsSaid s.says
+
+it_is_said : All Sayable session
+it_is_said =
+    All-cons Sayable volume (unit ∷ initiator ∷ deck ∷ turn ∷ write ∷ []) (refl, omega arith)
+    (All-cons Sayable unit (initiator ∷ deck ∷ turn ∷ write ∷ []) (refl, refl, refl)
+    (All-cons Sayable initiator (deck ∷ turn ∷ write ∷ []) (omega arith, refl)
+    (All-cons Sayable deck (turn ∷ write ∷ []) (refl, refl)
+    (All-cons Sayable turn (write ∷ []) (omega arith, omega arith, omega arith, omega arith)
+    (All-cons Sayable write [] (refl, omega arith, omega arith) (All-nil Sayable))))))

@@ -1,0 +1,210 @@
+-- Statements of a session, one after another.
+use Rattle.std.proofs.Common.{◌≡◌, ◌≤◌, ◌+◌, ◌++◌, ℕ, Bool, true, false, cond, List, [], ◌∷◌, Option, Some, None, All, length, refl, sym, ap, ◌∙◌, arith, append_assoc, length-append}
+use Rattle.std.specs.Prelude.{not, ◌&&◌, suc, codes}
+use Rattle.std.specs.List.{flat_map, join_with_byte, list_all, list_any}
+use Rattle.std.specs.Option.{is_none}
+use Rattle.std.proofs.lemmas.Bool.{and_parts}
+use Rattle.std.proofs.lemmas.List.Elements.{All-head, All-tail}
+use Rattle.std.proofs.lemmas.List.Folds.{list_all-append}
+use Rattle.std.proofs.Math.Seq.{take-append_seam}
+use Rattle.jname_core.specs.Decimals.{number_within}
+use Rattle.jname_core.specs.Faults.{is_no_serial}
+use Rattle.machine_meaning.specs.declared.event.Event.TheVariants as event
+use Rattle.session_text.specs.declared.statement.Ending.TheVariants.{Whole}
+use Rattle.session_text.specs.declared.statement.LineSays.{LineSays}
+use Rattle.session_text.specs.declared.statement.Says.{Says}
+use Rattle.session_text.specs.declared.statement.Says.TheVariants as says
+use Rattle.session_text.specs.declared.statement.Statement.{Statement}
+use Rattle.session_text.specs.Fields.{class_of, times_in}
+use Rattle.session_text.specs.Lines.{lines_of as rows_of}
+use Rattle.session_text.specs.Statements.{bad, behind_end, block_to, by_line, initiator_with, is_end, is_end_by, read_with, says_of, statement_at, statements_from, statements_of, turns_with, unit_with, volume_with, writes_with}
+use Rattle.reader_laws.specs.Spelled.{component_characters, name_characters}
+use Rattle.reader_laws.specs.SpelledSessions.{Form, IsSaid, Spelled, block_of, fields_of, is_card, is_of_line, line_with, lines_of, number, numbered, text_of, times}
+use Rattle.reader_laws.proofs.Fields.{is_false, position_is, spaced_are}
+use Rattle.reader_laws.proofs.Numbers.{within_is}
+use Rattle.reader_laws.proofs.Said.{class_good, class_is, class_no_star, is_good_field, line_of_line, line_says, listed_is, no_bad_serial, number_good, number_no_star, serial_is, serials_good, times_are, times_good, unit_is, word_good}
+use Rattle.reader_laws.proofs.TextLines.{lines_are}
+
+three : (a b c : Bool) → a ≡ true → b ≡ true → c ≡ true → (a && (b && (c && true))) ≡ true
+three a b c h k l = λ i. h i && (k i && (l i && true))
+
+two : (a b : Bool) → a ≡ true → b ≡ true → (a && (b && true)) ≡ true
+two a b h k = λ i. h i && (k i && true)
+
+-- the fields of what can be said are fields
+fields_good : (form : Form) (s : Says) → IsSaid s → list_all is_good_field (fields_of form s) ≡ true
+fields_good form (says.Volume serial tracks) h =
+    let k : tracks ≤ 65535 = h.1 in
+    three true (is_good_field serial) (is_good_field (number form tracks)) refl (word_good 6 component_characters serial refl h.0)
+    (number_good form tracks (omega arith))
+fields_good form (says.Unit name []) h = absurd cc
+fields_good form (says.Unit name (serial ∷ serials)) h =
+    three true (is_good_field name) _ refl (word_good 8 name_characters name refl h.0) (serials_good serial serials h.2)
+fields_good form (says.Initiator n classes) h =
+    let k : n ≤ 65535 = h.0 in
+    three true (is_good_field (number form n)) (is_good_field classes) refl (number_good form n (omega arith)) (word_good 8
+    (codes "ABCDEFGHIJKLMNO") classes refl h.1)
+fields_good form (says.Events (event.Read cards) n) h = refl
+fields_good form (says.Events (event.Turn i) n) h =
+    let low : i ≤ 15 = h.1 in
+    two true (is_good_field (times form (number form i) n)) refl (times_good form (number form i) n (number_good form i (omega arith)) h.3)
+fields_good form (says.Events (event.Write class) n) h =
+    two true (is_good_field (times form (class ∷ []) n)) refl (times_good form (class ∷ []) n (class_good class h.0) h.2)
+fields_good form (says.Refused fault) h = absurd h
+
+-- what a statement's line says by itself
+abbrev line_of : Says → LineSays
+line_of (says.Events (event.Read cards) n) = LineSays.Opens None
+line_of s = LineSays.One s
+
+chosen_says : (b : Bool) (s other : LineSays) → b ≡ true → cond b s other ≡ s
+chosen_says true s other h = refl
+chosen_says false s other h = absurd cc
+
+said : (form : Form) (s : Says) → IsSaid s → says_of (line_with form (fields_of form s)) ≡ line_of s
+said form (says.Volume serial tracks) h =
+    let k : tracks ≤ 65535 = h.1 in
+    line_says form (codes "VOLUME") (serial ∷ number form tracks ∷ []) (fields_good form (says.Volume serial tracks) h)
+    ∙ ap (λ (n : Option ℕ). LineSays.One (volume_with serial n)) (within_is form.zeros 0 65535 tracks (omega arith) (omega arith) k)
+    ∙ ap (λ (b : Bool). LineSays.One (cond b bad (says.Volume serial tracks))) (serial_is serial h.0)
+said form (says.Unit name []) h = absurd cc
+said form (says.Unit name (serial ∷ serials)) h =
+    let all : List (List ℕ) = serial ∷ serials in
+    line_says form (codes "UNIT") (name ∷ join_with_byte 44 all ∷ []) (fields_good form (says.Unit name (serial ∷ serials)) h)
+    ∙ ap (λ (found : List (List ℕ)). LineSays.One (unit_with name found)) (listed_is serial serials h.2)
+    ∙ ap (λ (b : Bool). LineSays.One (cond (b && not (list_any is_no_serial all)) (says.Unit name all) bad)) (ap is_none (unit_is name h.0))
+    ∙ ap (λ (b : Bool). LineSays.One (cond (not b) (says.Unit name all) bad)) (no_bad_serial all h.2)
+said form (says.Initiator n classes) h =
+    let k : n ≤ 65535 = h.0 in
+    line_says form (codes "INIT") (number form n ∷ classes ∷ []) (fields_good form (says.Initiator n classes) h)
+    ∙ ap (λ (m : Option ℕ). LineSays.One (initiator_with m classes)) (within_is form.zeros 0 65535 n (omega arith) (omega arith) k)
+said form (says.Events (event.Read cards) n) h = line_says form (codes "READ") [] refl
+said form (says.Events (event.Turn i) n) h =
+    let low : 1 ≤ i = h.0 in
+    let high : i ≤ 15 = h.1 in
+    let t = times_are form (number form i) n (number_no_star form i (omega arith)) h.2 h.3 in
+    let text : List ℕ = times form (number form i) n in
+    line_says form (codes "TURN") (text ∷ []) (fields_good form (says.Events (event.Turn i) n) h)
+    ∙ ap (λ (before : List ℕ). LineSays.One (turns_with (number_within 1 15 before) (times_in text))) t.before_is
+    ∙ ap (λ (m : Option ℕ). LineSays.One (turns_with m (times_in text))) (within_is form.zeros 1 15 i (omega arith) low high)
+    ∙ ap (λ (m : Option ℕ). LineSays.One (turns_with (Some i) m)) t.times_is
+said form (says.Events (event.Write class) n) h =
+    let t = times_are form (class ∷ []) n (class_no_star class h.0) h.1 h.2 in
+    let text : List ℕ = times form (class ∷ []) n in
+    line_says form (codes "WRITE") (text ∷ []) (fields_good form (says.Events (event.Write class) n) h)
+    ∙ ap (λ (before : List ℕ). LineSays.One (writes_with (class_of before) (times_in text))) t.before_is
+    ∙ ap (λ (b : Bool). LineSays.One (writes_with (cond b (Some class) None) (times_in text))) (class_is class h.0)
+    ∙ ap (λ (m : Option ℕ). LineSays.One (writes_with (Some class) m)) t.times_is
+said form (says.Refused fault) h = absurd h
+
+-- a block, to its END
+abbrev end_of : Form → List ℕ
+end_of form = line_with form (codes "END" ∷ [])
+
+end_is : (form : Form) → is_end (end_of form) ≡ true
+end_is form = ap (λ (fields : List (List ℕ)). is_end_by fields) (spaced_are form (codes "./") (codes "END" ∷ []) refl refl)
+
+no_ends : (cards : List (List ℕ)) → list_all is_card cards ≡ true → list_all (λ row. not (is_end row)) cards ≡ true
+no_ends [] h = refl
+no_ends (card ∷ cards) h =
+    let halves = and_parts (is_card card) (list_all is_card cards) h in
+    ap (λ (b : Bool). b && list_all (λ row. not (is_end row)) cards) (and_parts (list_all is_of_line card) (not (is_end card)) halves.0).1
+    ∙ no_ends cards halves.1
+
+cards_of_line : (cards : List (List ℕ)) → list_all is_card cards ≡ true → list_all (list_all is_of_line) cards ≡ true
+cards_of_line [] h = refl
+cards_of_line (card ∷ cards) h =
+    let halves = and_parts (is_card card) (list_all is_card cards) h in
+    ap (λ (b : Bool). b && list_all (list_all is_of_line) cards) (and_parts (list_all is_of_line card) (not (is_end card)) halves.0).0
+    ∙ cards_of_line cards halves.1
+
+-- the statements behind a block's END
+behind : (n : ℕ) (cards : List (List ℕ)) (end : List ℕ) (rest : List (List ℕ)) → list_all (λ row. not (is_end row)) cards ≡ true → is_end end ≡ true →
+    behind_end Whole n (cards ++ end ∷ rest) ≡ statements_from Whole (n + length cards + 1) rest
+behind n [] end rest h k =
+    let place : n + 1 ≡ n + 0 + 1 = omega arith in
+    ap (λ (b : Bool). cond b (statements_from Whole (n + 1) rest) (behind_end Whole (n + 1) rest)) k ∙ ap (λ (m : ℕ). statements_from Whole m rest) place
+behind n (card ∷ cards) end rest h k =
+    let halves = and_parts (not (is_end card)) (list_all (λ row. not (is_end row)) cards) h in
+    let place : n + 1 + length cards + 1 ≡ n + suc (length cards) + 1 = omega arith in
+    ap (λ (b : Bool). cond b (statements_from Whole (n + 1) (cards ++ end ∷ rest)) (behind_end Whole (n + 1) (cards ++ end ∷ rest))) (is_false
+    (is_end card) halves.0)
+    ∙ behind (n + 1) cards end rest halves.1 k
+    ∙ ap (λ (m : ℕ). statements_from Whole m rest) place
+
+-- one statement, and the rows behind it
+one_line : (n : ℕ) (row : List ℕ) (s : Says) (rest : List (List ℕ)) → says_of row ≡ LineSays.One s →
+    statements_from Whole n (row ∷ rest) ≡ statement_at n s ∷ statements_from Whole (n + 1) rest
+one_line n row s rest h = ap (λ (l : LineSays). by_line l Whole n rest (statements_from Whole (n + 1) rest) (behind_end Whole (n + 1) rest)) h
+
+one_block : (n : ℕ) (row : List ℕ) (cards : List (List ℕ)) (end : List ℕ) (rest : List (List ℕ)) → says_of row ≡ LineSays.Opens None →
+    list_all (λ r. not (is_end r)) cards ≡ true → is_end end ≡ true →
+    statements_from Whole n (row ∷ (cards ++ end ∷ rest))
+    ≡ statement_at n (says.Events (event.Read cards) 1) ∷ statements_from Whole (n + 1 + length cards + 1) rest
+one_block n row cards end rest h all k =
+    let rows : List (List ℕ) = cards ++ end ∷ rest in
+    ap (λ (l : LineSays). by_line l Whole n rows (statements_from Whole (n + 1) rows) (behind_end Whole (n + 1) rows)) h
+    ∙ ap (λ (place : Option ℕ). block_to place Whole n None rows (behind_end Whole (n + 1) rows)) (position_is is_end cards end rest all k)
+    ∙ ap (λ (found : List (List ℕ)). statement_at n (read_with None found) ∷ behind_end Whole (n + 1) rows) (take-append_seam cards (end ∷ rest))
+    ∙ ap (λ (others : List Statement). statement_at n (says.Events (event.Read cards) 1) ∷ others) (behind (n + 1) cards end rest all k)
+
+statement_is : (n : ℕ) (form : Form) (s : Says) (rest : List (List ℕ)) → IsSaid s →
+    statements_from Whole n (lines_of form s ++ rest) ≡ statement_at n s ∷ statements_from Whole (n + length (lines_of form s)) rest
+statement_is n form (says.Volume serial tracks) rest h =
+    let s : Says = says.Volume serial tracks in one_line n (line_with form (fields_of form s)) s rest (said form s h)
+statement_is n form (says.Unit name serials) rest h =
+    let s : Says = says.Unit name serials in one_line n (line_with form (fields_of form s)) s rest (said form s h)
+statement_is n form (says.Initiator m classes) rest h =
+    let s : Says = says.Initiator m classes in one_line n (line_with form (fields_of form s)) s rest (said form s h)
+statement_is n form (says.Events (event.Read cards) m) rest h =
+    let s : Says = says.Events (event.Read cards) m in
+    let row : List ℕ = line_with form (fields_of form s) in
+    let sum : length (cards ++ end_of form ∷ []) ≡ length cards + 1 = length-append cards (end_of form ∷ []) in
+    let place : n + 1 + length cards + 1 ≡ n + suc (length (cards ++ end_of form ∷ [])) = omega arith in
+    ap (λ (rows : List (List ℕ)). statements_from Whole n (row ∷ rows)) (append_assoc cards (end_of form ∷ []) rest)
+    ∙ one_block n row cards (end_of form) rest (said form s h) (no_ends cards h.1) (end_is form)
+    ∙ λ i. statement_at n (says.Events (event.Read cards) (sym h.0 i)) ∷ statements_from Whole (place i) rest
+statement_is n form (says.Events (event.Turn i) m) rest h =
+    let s : Says = says.Events (event.Turn i) m in one_line n (line_with form (fields_of form s)) s rest (said form s h)
+statement_is n form (says.Events (event.Write class) m) rest h =
+    let s : Says = says.Events (event.Write class) m in one_line n (line_with form (fields_of form s)) s rest (said form s h)
+statement_is n form (says.Refused fault) rest h = absurd h
+
+-- lines of statements are lines
+block_is : (form : Form) (s : Says) → IsSaid s → list_all (list_all is_of_line) (block_of form s) ≡ true
+block_is form (says.Volume serial tracks) h = refl
+block_is form (says.Unit name serials) h = refl
+block_is form (says.Initiator n classes) h = refl
+block_is form (says.Events (event.Read cards) n) h =
+    list_all-append (list_all is_of_line) cards (end_of form ∷ [])
+    ∙ ap (λ (b : Bool). b && (list_all is_of_line (end_of form) && true)) (cards_of_line cards h.1)
+    ∙ ap (λ (b : Bool). b && true) (line_of_line form (codes "END" ∷ []) refl)
+block_is form (says.Events (event.Turn i) n) h = refl
+block_is form (says.Events (event.Write class) n) h = refl
+block_is form (says.Refused fault) h = absurd h
+
+lines_good : (form : Form) (s : Says) → IsSaid s → list_all (list_all is_of_line) (lines_of form s) ≡ true
+lines_good form s h =
+    ap (λ (b : Bool). b && list_all (list_all is_of_line) (block_of form s)) (line_of_line form (fields_of form s) (fields_good form s h)) ∙ block_is form s h
+
+abbrev Sayable : Spelled → Type 0
+Sayable s = IsSaid s.says
+
+abbrev rows : List Spelled → List (List ℕ)
+rows session = flat_map (λ s. lines_of s.form s.says) session
+
+rows_are : (session : List Spelled) → All Sayable session → rows_of Whole (text_of session) ≡ rows session
+rows_are [] all = refl
+rows_are (s ∷ session) all =
+    lines_are s.form.returns (lines_of s.form s.says) (text_of session) (lines_good s.form s.says (All-head Sayable s session all))
+    ∙ ap (λ (others : List (List ℕ)). lines_of s.form s.says ++ others) (rows_are session (All-tail Sayable s session all))
+
+numbered_are : (n : ℕ) (session : List Spelled) → All Sayable session → statements_from Whole n (rows session) ≡ numbered n session
+numbered_are n [] all = refl
+numbered_are n (s ∷ session) all =
+    statement_is n s.form s.says (rows session) (All-head Sayable s session all)
+    ∙ ap (λ (others : List Statement). statement_at n s.says ∷ others) (numbered_are (n + length (lines_of s.form s.says)) session
+    (All-tail Sayable s session all))
+
+pub session_is : (session : List Spelled) → All (λ s. IsSaid s.says) session → statements_of Whole (text_of session) ≡ numbered 1 session
+session_is session all = ap (statements_from Whole 1) (rows_are session all) ∙ numbered_are 1 session all
