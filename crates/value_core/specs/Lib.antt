@@ -1,0 +1,11 @@
+pub mod Reads
+pub mod References
+pub mod SetNames
+pub mod Dispositions
+pub mod Units
+pub mod VolumeNames
+pub mod Spaces
+pub mod Labels
+pub mod Conditions
+pub mod Parms
+pub mod Examples
