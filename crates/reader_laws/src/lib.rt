@@ -3,6 +3,7 @@
 #![tactic(auto)]
 
 ghost use Rattle.reader_laws.specs.CardLaws.{DeckReadsBack, NullStatementEnds, ShortLinesAreFilled, StatementReadsBack};
+ghost use Rattle.reader_laws.specs.OperandLaws.{OperandReadsBack, ValuesReadBack};
 ghost use Rattle.reader_laws.specs.SessionLaws.{SessionReadsBack};
 ghost use Rattle.reader_laws.specs.TextLaws.{NamesReadBack, NumberReadsBack, QuotedReadsBack};
 
@@ -30,6 +31,17 @@ pub fn short_lines_are_filled()
 /// A text in apostrophes, each of its own written twice, is that text; it is one place of an operand, is read, and may stand on a card.
 pub fn quoted_reads_back()
     ensures { QuotedReadsBack }
+{}
+
+/// A value of characters, texts in apostrophes and values in parentheses is one place and is read; values with commas between them, alone
+/// or in parentheses, are their places.
+pub fn values_read_back()
+    ensures { ValuesReadBack }
+{}
+
+/// An operand of positional values and keywords reads back, without a fault.
+pub fn operand_reads_back()
+    ensures { OperandReadsBack }
 {}
 
 /// A number in decimal reads back where it lies within limits, whatever zeros stand before it; one outside them does not.
