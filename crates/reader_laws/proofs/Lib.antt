@@ -18,5 +18,6 @@ mod Quotes
 mod Said
 mod SessionExamples
 mod Sessions
+mod Statements
 mod TextLines
 mod Values

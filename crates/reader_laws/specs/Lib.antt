@@ -4,5 +4,7 @@ pub mod SessionLaws
 pub mod Spelled
 pub mod SpelledOperands
 pub mod SpelledSessions
+pub mod SpelledStatements
+pub mod StatementLaws
 pub mod TextLaws
 pub mod WrittenCards

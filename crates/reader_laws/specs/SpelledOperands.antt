@@ -80,3 +80,8 @@ operand positional keywords = record {
   keywords = map (λ k. record { key = k.key; value = Some (spelled k.value) }) keywords;
   faults = [];
 }
+
+-- a value of characters alone
+abbrev pub of_characters : List ℕ → Value
+of_characters [] = End
+of_characters (c ∷ text) = Character c (of_characters text)

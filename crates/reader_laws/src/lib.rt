@@ -5,6 +5,7 @@
 ghost use Rattle.reader_laws.specs.CardLaws.{DeckReadsBack, NullStatementEnds, ShortLinesAreFilled, StatementReadsBack};
 ghost use Rattle.reader_laws.specs.OperandLaws.{OperandReadsBack, ValuesReadBack};
 ghost use Rattle.reader_laws.specs.SessionLaws.{SessionReadsBack};
+ghost use Rattle.reader_laws.specs.StatementLaws.{DdsReadBack, JobReadsBack, ProgramReadsBack};
 ghost use Rattle.reader_laws.specs.TextLaws.{NamesReadBack, NumberReadsBack, QuotedReadsBack};
 
 /// A statement that is written as cards reads back: its operand over as many cards as it takes, comments behind it and on a card of their
@@ -57,4 +58,19 @@ pub fn names_read_back()
 /// A session that is spelled from statements reads back as these, each with the number of its first line.
 pub fn session_reads_back()
     ensures { SessionReadsBack }
+{}
+
+/// A JOB statement with its accounting, its programmer, a class, a priority and the class of its listing reads back as that card.
+pub fn job_reads_back()
+    ensures { JobReadsBack }
+{}
+
+/// An EXEC statement that names a program reads back.
+pub fn program_reads_back()
+    ensures { ProgramReadsBack }
+{}
+
+/// DD statements of DUMMY, of data in the stream, of SYSOUT and of an unnamed set read back, with a name or without.
+pub fn dds_read_back()
+    ensures { DdsReadBack }
 {}
