@@ -11,6 +11,7 @@ use Rattle.jcl_plan.specs.declared.entry.JobLine.{JobLine}
 use Rattle.jcl_plan.specs.declared.entry.JobLine.TheVariants as line
 use Rattle.jcl_plan.specs.declared.plan.JobPlan.{JobPlan}
 use Rattle.jcl_meaning.specs.Agendas.{agenda, budget_of}
+use Rattle.jcl_meaning.specs.NoSets.{HasNoSets}
 use Rattle.machine_meaning.specs.declared.machine.Initiator.{Initiator}
 use Rattle.machine_meaning.specs.declared.machine.Progress.{Progress}
 use Rattle.machine_meaning.specs.declared.machine.Running.{Running}
@@ -21,27 +22,20 @@ use Rattle.machine_meaning.specs.Spools.{sets_of, with_sets}
 use Rattle.machine_meaning.specs.Transitions.{Acts, Admits, Advances, GoesOn, Holds, acted, assured, ended, gone_on, held, wants_of}
 use Rattle.machine_meaning.specs.Turns.{Advanced, advanced, first_progress, progress_after}
 use Rattle.machine_meaning.specs.Worlds.{World, of_job}
-use Rattle.init_core.specs.declared.initiator.Turned.{Turned}
-use Rattle.init_core.specs.declared.initiator.Turned.TheVariants.{On, Over}
-use Rattle.init_core.specs.Initiators.{GoesOn as JobGoesOn, HasTurned, Leaves, TurnsTo}
+use Rattle.init_core.specs.Initiators.{EndsFrom, GoesOn as JobGoesOn, GoesOnFrom}
 use Rattle.init_core.specs.Steps.{HasActed, with_turn as now}
-use Rattle.init_core.specs.NoSets.{HasNoSets, RunsNoSets}
-use Rattle.init_core.specs.Todos.{HasAdvanced, listed}
+use Rattle.init_core.specs.Deeds.{HasAdvanced}
 use Rattle.init_core.proofs.Safety.{is_safe}
 use Rattle.init_core.proofs.Setless.{no_names}
 
+-- the initiator goes on with its job, or is idle
 abbrev runs_now : Initiator → Option Running → Initiator
 runs_now x r = record x { running = r }
 
--- the job goes on with these lines in this stage
-on_is : (old : World) (place : ℕ) (x x_now : Initiator) (r r_now : Running) (left : List SpoolSet) (lines entries : List Entry) (told : List JobLine) (stage : Stage) →
-    JobGoesOn r told stage r_now entries → Leaves (On entries) r_now x x_now old.spool left lines → now old place x_now left ≡ gone_on old place x r told stage
-on_is old place x x_now r r_now left lines entries told stage g l =
-    (λ i. now old place (l.1 i) (l.2 i)) ∙ ap (λ q. now old place (runs_now x (Some q)) old.spool) g.now
-
-on_lines : (old : World) (x x_now : Initiator) (r r_now : Running) (left : List SpoolSet) (lines entries : List Entry) (told : List JobLine) (stage : Stage) →
-    JobGoesOn r told stage r_now entries → Leaves (On entries) r_now x x_now old.spool left lines → lines ≡ of_job r.job told
-on_lines old x x_now r r_now left lines entries told stage g l = l.0 ∙ g.entries_are
+on_is : (old : World) (place : ℕ) (x : Initiator) (r r_now : Running) (left : List SpoolSet) (told : JobLine) (stage : Stage) (entries : List Entry) →
+    JobGoesOn r told stage r_now entries → left ≡ old.spool → now old place (runs_now x (Some r_now)) left ≡ gone_on old place x r (told ∷ []) stage
+on_is old place x r r_now left told stage entries g l =
+    (λ i. now old place (runs_now x (Some r_now)) (l i)) ∙ ap (λ q. now old place (runs_now x (Some q)) old.spool) g.now
 
 -- a job without sets wants no name
 no_wants : (plan : JobPlan) → HasNoSets plan → wants_of plan ≡ []
@@ -72,12 +66,12 @@ admitted_now old place x r lines new h programs l n =
     (n ∙ ap (λ ps. gone_on old place x r (line.Assured 0 (budget_of r.plan ps) ∷ []) (Admitted (first_progress r.plan ps))) (sym programs))
 
 -- the progress behind the actions of a turn
-after_is : (a : Advanced) (told : Option JobLine) (next : Progress) → HasAdvanced a told next → progress_after a ≡ next
+after_is : (a : Advanced) (told : JobLine) (next : Progress) → HasAdvanced a told next → progress_after a ≡ next
 after_is a told next h = λ i. record { done = h.number i; outcomes = (h.state i).answers.outcomes; own = (h.state i).own }
 
-acted_now : (old : World) (place : ℕ) (x : Initiator) (r : Running) (a : Advanced) (told : Option JobLine) (next : Progress) (lines : List Entry) (new : World) → old.programs ≡ [] →
-    HasAdvanced a told next → next.done < length (agenda r.plan []) → lines ≡ of_job r.job (listed told) →
-    new ≡ gone_on old place x r (listed told) (Admitted next) → Advances old place x r a lines new
+acted_now : (old : World) (place : ℕ) (x : Initiator) (r : Running) (a : Advanced) (told : JobLine) (next : Progress) (lines : List Entry) (new : World) → old.programs ≡ [] →
+    HasAdvanced a told next → next.done < length (agenda r.plan []) → lines ≡ of_job r.job (told ∷ []) →
+    new ≡ gone_on old place x r (told ∷ []) (Admitted next) → Advances old place x r a lines new
 acted_now old place x r a told next lines new programs h less l n =
     acted (ap (λ ps. nat_le (length (agenda r.plan ps)) a.done) programs ∙ ap (nat_le (length (agenda r.plan []))) h.number ∙ not_within)
     (l ∙ ap (of_job r.job) (sym h.lines))
@@ -86,9 +80,9 @@ acted_now old place x r a told next lines new programs h less l n =
     not_within : nat_le (length (agenda r.plan [])) next.done ≡ false
     not_within = lt-leb (length (agenda r.plan [])) next.done less
 
-ended_now : (old : World) (place : ℕ) (x : Initiator) (r : Running) (a : Advanced) (told : Option JobLine) (next : Progress) (lines : List Entry) (new : World) → old.programs ≡ [] → old.holds ≡ [] →
-    HasAdvanced a told next → length (agenda r.plan []) ≤ next.done → lines ≡ of_job r.job (listed told) →
-    new ≡ now old place (runs_now x None) (with_sets old.spool (sets_of r.job r.plan.message_class (r.listing ++ listed told) next.own.outputs)) → Advances old place x r a lines new
+ended_now : (old : World) (place : ℕ) (x : Initiator) (r : Running) (a : Advanced) (told : JobLine) (next : Progress) (lines : List Entry) (new : World) → old.programs ≡ [] → old.holds ≡ [] →
+    HasAdvanced a told next → length (agenda r.plan []) ≤ next.done → lines ≡ of_job r.job (told ∷ []) →
+    new ≡ now old place (runs_now x None) (with_sets old.spool (sets_of r.job r.plan.message_class (r.listing ++ told ∷ []) next.own.outputs)) → Advances old place x r a lines new
 ended_now old place x r a told next lines new programs holds h most l n =
     ended (ap (λ ps. nat_le (length (agenda r.plan ps)) a.done) programs ∙ ap (nat_le (length (agenda r.plan []))) h.number ∙ within)
     (l ∙ ap (of_job r.job) (sym h.lines))
@@ -100,31 +94,37 @@ ended_now old place x r a told next lines new programs holds h most l n =
     none : old.holds ≡ without_job r.job old.holds
     none = holds ∙ sym (ap (without_job r.job) holds)
 
--- a turn of a job, by its stage
-by_stage : (old : World) (place : ℕ) (x x_now : Initiator) (r r_now : Running) (stage : Stage) (t : Turned) (left : List SpoolSet) (lines : List Entry) → HasNoSets r.plan →
-    old.programs ≡ [] → old.holds ≡ [] → TurnsTo r stage r_now t → Leaves t r_now x x_now old.spool left lines → GoesOn old place x r stage lines (now old place x_now left)
-by_stage old place x x_now r r_now Selected (On entries) left lines h programs holds t l =
-    held_now old place x r lines (now old place x_now left) h holds (on_lines old x x_now r r_now left lines entries _ _ t l) (on_is old place x x_now r r_now left lines entries _ _ t l)
-by_stage old place x x_now r r_now Named (On entries) left lines h programs holds t l =
-    admitted_now old place x r lines (now old place x_now left) h programs (on_lines old x x_now r r_now left lines entries _ _ t l) (on_is old place x x_now r r_now left lines entries _ _ t l)
-by_stage old place x x_now r r_now (Admitted p) (On entries) left lines h programs holds t l =
-    subst (λ ps. Advances old place x r (advanced old.volumes ps r.plan p) lines (now old place x_now left)) (sym programs)
-    (acted_now old place x r (advanced old.volumes [] r.plan p) t.line t.next lines (now old place x_now left) programs (t.advances old.volumes) t.steps.0
-    (on_lines old x x_now r r_now left lines entries _ _ t.steps.1 l) (on_is old place x x_now r r_now left lines entries _ _ t.steps.1 l))
-by_stage old place x x_now r r_now Selected (Over entries sets) left lines h programs holds t l = absurd t
-by_stage old place x x_now r r_now Named (Over entries sets) left lines h programs holds t l = absurd t
-by_stage old place x x_now r r_now (Admitted p) (Over entries sets) left lines h programs holds t l =
-    subst (λ ps. Advances old place x r (advanced old.volumes ps r.plan p) lines (now old place x_now left)) (sym programs)
-    (ended_now old place x r (advanced old.volumes [] r.plan p) t.line t.next lines (now old place x_now left) programs holds (t.advances old.volumes) t.steps.0
-    (l.0 ∙ t.steps.1) ((λ i. now old place (l.1 i) (l.2 i)) ∙ ap (λ s. now old place (runs_now x None) (with_sets old.spool s)) t.steps.2))
+-- a turn of a job that goes on, by its stage
+on_by_stage : (old : World) (place : ℕ) (x : Initiator) (r r_now : Running) (stage : Stage) (left : List SpoolSet) (lines : List Entry) → HasNoSets r.plan →
+    old.programs ≡ [] → old.holds ≡ [] → GoesOnFrom r stage r_now lines → left ≡ old.spool → GoesOn old place x r stage lines (now old place (runs_now x (Some r_now)) left)
+on_by_stage old place x r r_now Selected left lines h programs holds t l =
+    held_now old place x r lines (now old place (runs_now x (Some r_now)) left) h holds t.entries_are (on_is old place x r r_now left _ _ lines t l)
+on_by_stage old place x r r_now Named left lines h programs holds t l =
+    admitted_now old place x r lines (now old place (runs_now x (Some r_now)) left) h programs t.entries_are (on_is old place x r r_now left _ _ lines t l)
+on_by_stage old place x r r_now (Admitted p) left lines h programs holds t l =
+    subst (λ ps. Advances old place x r (advanced old.volumes ps r.plan p) lines (now old place (runs_now x (Some r_now)) left)) (sym programs)
+    (acted_now old place x r (advanced old.volumes [] r.plan p) t.told t.next lines (now old place (runs_now x (Some r_now)) left) programs (t.advances old.volumes) t.more
+    t.goes_on.entries_are (on_is old place x r r_now left _ _ lines t.goes_on l))
+
+-- of one that is over
+over_by_stage : (old : World) (place : ℕ) (x : Initiator) (r : Running) (stage : Stage) (left : List SpoolSet) (lines : List Entry) →
+    old.programs ≡ [] → old.holds ≡ [] → EndsFrom r stage old.spool left lines → GoesOn old place x r stage lines (now old place (runs_now x None) left)
+over_by_stage old place x r Selected left lines programs holds t = absurd t
+over_by_stage old place x r Named left lines programs holds t = absurd t
+over_by_stage old place x r (Admitted p) left lines programs holds t =
+    subst (λ ps. Advances old place x r (advanced old.volumes ps r.plan p) lines (now old place (runs_now x None) left)) (sym programs)
+    (ended_now old place x r (advanced old.volumes [] r.plan p) line.End t.next lines (now old place (runs_now x None) left) programs holds (t.advances old.volumes) t.past
+    t.entries_are (ap (now old place (runs_now x None)) t.left_is))
 
 -- an initiator with a job
-goes_on : (old : World) (place : ℕ) (x x_now : Initiator) (left : List SpoolSet) (lines : List Entry) → old.programs ≡ [] → old.holds ≡ [] → RunsNoSets x.running →
-    HasTurned x x_now old.spool left lines → Acts old place x x.running lines (now old place x_now left)
-goes_on old place x x_now left lines programs holds h t =
-    subst (λ runs. Acts old place x runs lines (now old place x_now left)) (sym t.runs)
-    (by_stage old place x x_now t.before t.after t.before.stage t.turned left lines (subst RunsNoSets t.runs h) programs holds t.turns t.leaves)
+pub acted_on : (x : Initiator) (r r_now : Running) (spool left : List SpoolSet) (lines : List Entry) → x.running ≡ Some r → HasNoSets r.plan →
+    GoesOnFrom r r.stage r_now lines → left ≡ spool → HasActed x (record x { running = Some r_now }) spool left lines
+acted_on x r r_now spool left lines is none t l = λ world place programs holds same.
+    subst (λ runs. Acts world place x runs lines (now world place (runs_now x (Some r_now)) left)) (sym is)
+    (on_by_stage world place x r r_now r.stage left lines none programs holds t (l ∙ sym same))
 
-pub has_acted : (x x_now : Initiator) (spool left : List SpoolSet) (lines : List Entry) → RunsNoSets x.running → HasTurned x x_now spool left lines → HasActed x x_now spool left lines
-has_acted x x_now spool left lines h t = λ world place programs holds same.
-    goes_on world place x x_now left lines programs holds h (subst (λ s. HasTurned x x_now s left lines) (sym same) t)
+pub acted_last : (x : Initiator) (r : Running) (spool left : List SpoolSet) (lines : List Entry) → x.running ≡ Some r →
+    EndsFrom r r.stage spool left lines → HasActed x (record x { running = None }) spool left lines
+acted_last x r spool left lines is t = λ world place programs holds same.
+    subst (λ runs. Acts world place x runs lines (now world place (runs_now x None) left)) (sym is)
+    (over_by_stage world place x r r.stage left lines programs holds (subst (λ s. EndsFrom r r.stage s left lines) (sym same) t))

@@ -9,10 +9,9 @@ use Rattle.jcl_plan.specs.declared.plan.StepPlan.{StepPlan}
 use Rattle.jcl_meaning.specs.declared.program.Move.{Move}
 use Rattle.jcl_meaning.specs.Agendas.{Action, agenda, disposes_from, step_actions, steps_from, takes_from}
 use Rattle.jcl_meaning.specs.Programs.{is_iefbr14, moves_of}
-use Rattle.init_core.specs.declared.actions.Todo.TheVariants as todo
-use Rattle.init_core.specs.declared.actions.Todo.{Todo}
-use Rattle.init_core.specs.NoSets.{HasNoSets}
-use Rattle.init_core.specs.Todos.{IsDue, action_of, with_dd}
+use Rattle.init_core.specs.declared.places.Todo.TheVariants as todo
+use Rattle.jcl_meaning.specs.NoSets.{HasNoSets}
+use Rattle.init_core.specs.Places.{action_of, with_dd}
 use Rattle.init_core.proofs.Setless.{lefts_none}
 
 -- in one of two lists
@@ -90,7 +89,7 @@ actions_from n steps = steps_from (moves_of []) n steps ++ Action.Over ∷ []
 pub actions_all : (plan : JobPlan) → HasNoSets plan → agenda plan [] ≡ actions_from 1 plan.steps
 actions_all plan h = ap (λ l. steps_from (moves_of []) 1 plan.steps ++ (l ++ Action.Over ∷ [])) (lefts_none 1 plan.steps h)
 
-first_step : (n : ℕ) (step : StepPlan) (steps : List StepPlan) → actions_from n (step ∷ steps) ≡ step_actions n step [] ++ actions_from (n + 1) steps
+pub first_step : (n : ℕ) (step : StepPlan) (steps : List StepPlan) → actions_from n (step ∷ steps) ≡ step_actions n step [] ++ actions_from (n + 1) steps
 first_step n step steps =
     ap (λ (ms : List Move). (step_actions n step ms ++ steps_from (moves_of []) (n + 1) steps) ++ Action.Over ∷ []) (no_moves step.program)
     ∙ append_assoc (step_actions n step []) (steps_from (moves_of []) (n + 1) steps) (Action.Over ∷ [])
@@ -109,12 +108,3 @@ next_steps steps all i step e h is = ap (drop i) (sym e) ∙ at_drop_more (λ xs
 
 pub step_at : {X : Type 0} (steps all : List X) (i : ℕ) (step : X) → all ≡ steps → i < length all → step ≡ get_or all i step → slice_get steps i ≡ Some step
 step_at steps all i step e h is = ap (λ xs. slice_get xs i) (sym e) ∙ slice_get-get_or all i step h ∙ ap Some (sym is)
-
--- what is at a place of a list that is long enough
-pub due_by : (plan : JobPlan) (done rest : ℕ) (t : Todo) (actions : List Action) → slice_get (agenda plan []) done ≡ slice_get actions rest → rest < length actions →
-    slice_get actions rest ≡ action_of plan.steps t → IsDue plan done t
-due_by plan done rest t actions e h is = record {
-  action = get_or actions rest Action.Over;
-  at = e ∙ slice_get-get_or actions rest Action.Over h;
-  is = sym is ∙ slice_get-get_or actions rest Action.Over h;
-}

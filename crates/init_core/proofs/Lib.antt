@@ -1,9 +1,8 @@
 mod Setless
 mod Indexes
-mod Deeds
+mod Nexts
+mod Done
 mod Advances
-mod Spooled
+mod Telling
 mod Safety
-mod Here
-mod Turning
 mod Acting

@@ -18,7 +18,7 @@ use Rattle.jcl_meaning.specs.Solo.{later, met_first, run}
 use Rattle.jcl_meaning.specs.States.{Done, Fixed, State, cancel_due, if_runs}
 use Rattle.jcl_meaning.specs.TakeActs.{takes}
 use Rattle.machine_meaning.specs.Turns.{IsSafe, fixed_in}
-use Rattle.init_core.specs.NoSets.{HasNoSets, IsNoSet, StepHasNoSets}
+use Rattle.jcl_meaning.specs.NoSets.{HasNoSets, IsNoSet, StepHasNoSets}
 use Rattle.init_core.proofs.Indexes.{actions_all, no_moves}
 
 -- an action of a job without sets

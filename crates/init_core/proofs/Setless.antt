@@ -10,7 +10,7 @@ use Rattle.jcl_plan.specs.declared.plan.StepPlan.{StepPlan}
 use Rattle.jcl_meaning.specs.Agendas.{Action, lefts_from, lefts_in}
 use Rattle.jcl_meaning.specs.Names.{dd_names, names_of, wanted_by, with_names}
 use Rattle.jcl_meaning.specs.Plans.{passes}
-use Rattle.init_core.specs.NoSets.{HasNoSets, IsNoSet, StepHasNoSets}
+use Rattle.jcl_meaning.specs.NoSets.{HasNoSets, IsNoSet, StepHasNoSets}
 
 passes_none : (kind : DdKind) → IsNoSet kind → passes kind ≡ false
 passes_none (Sysout class) h = refl

@@ -1,87 +1,89 @@
 -- An initiator's turn as its job sees it.
-use Rattle.std.specs.Prelude.{◌≡◌, ℕ, ◌<◌, ◌≤◌, List, [], ◌∷◌, ◌++◌, length, Option, Some, None}
+use Rattle.std.specs.Prelude.{◌≡◌, ℕ, ◌<◌, ◌≤◌, List, [], ◌∷◌, ◌++◌, length}
 use Rattle.jcl_plan.specs.declared.entry.Entry.{Entry}
 use Rattle.jcl_plan.specs.declared.entry.JobLine.{JobLine}
 use Rattle.jcl_plan.specs.declared.entry.JobLine.TheVariants as line
 use Rattle.jcl_plan.specs.declared.plan.JobPlan.{JobPlan}
 use Rattle.jcl_meaning.specs.Agendas.{agenda, budget_of}
-use Rattle.machine_meaning.specs.declared.machine.Initiator.{Initiator}
-use Rattle.machine_meaning.specs.declared.machine.SpoolSet.{SpoolSet}
 use Rattle.machine_meaning.specs.declared.machine.Progress.{Progress}
 use Rattle.machine_meaning.specs.declared.machine.Running.{Running}
+use Rattle.machine_meaning.specs.declared.machine.SpoolSet.{SpoolSet}
 use Rattle.machine_meaning.specs.declared.machine.Stage.{Stage}
 use Rattle.machine_meaning.specs.declared.machine.Stage.TheVariants.{Admitted, Named, Selected}
 use Rattle.machine_meaning.specs.Spools.{sets_of, with_sets}
 use Rattle.machine_meaning.specs.Turns.{advanced, first_progress}
 use Rattle.machine_meaning.specs.Worlds.{of_job}
-use Rattle.init_core.specs.declared.initiator.Due.{Due}
-use Rattle.init_core.specs.declared.initiator.Due.TheVariants as due
-use Rattle.init_core.specs.declared.initiator.Turned.{Turned}
-use Rattle.init_core.specs.declared.initiator.Turned.TheVariants.{On, Over}
+use Rattle.init_core.specs.declared.deeds.Walk.{Walk}
+use Rattle.init_core.specs.declared.turns.Due.{Due}
+use Rattle.init_core.specs.declared.turns.Due.TheVariants as due
+use Rattle.init_core.specs.declared.turns.Turned.{Turned}
+use Rattle.init_core.specs.declared.turns.Turned.TheVariants.{On, Over}
+use Rattle.init_core.specs.declared.job.Job.{Job}
+use Rattle.init_core.specs.declared.job.JobStage.{JobStage}
+use Rattle.init_core.specs.declared.job.JobStage.TheVariants as stage
+use Rattle.init_core.specs.declared.places.Todo.{Todo}
 use Rattle.init_core.specs.declared.said.Said.{Said}
-use Rattle.init_core.specs.Said.{line_of, said_line}
-use Rattle.init_core.specs.Todos.{HasActedHere, HasAdvanced, listed}
+use Rattle.init_core.specs.Deeds.{HasAdvanced, IsDueAt, progress_of}
+use Rattle.init_core.specs.Jobs.{IsFit}
+use Rattle.init_core.specs.Places.{number_of}
+use Rattle.init_core.specs.Said.{line_of}
 
--- these lines were written, and the job is in this stage now
-pub record GoesOn (old : Running) (lines : List JobLine) (stage : Stage) (new : Running) (entries : List Entry) : Type 0 where
-  pub entries_are : entries ≡ of_job old.job lines
-  pub now : new ≡ record old { listing = old.listing ++ lines; stage = stage }
+-- this line was written, and the job is in this stage now
+pub record GoesOn (old : Running) (told : JobLine) (stage : Stage) (new : Running) (entries : List Entry) : Type 0 where
+  pub entries_are : entries ≡ of_job old.job (told ∷ [])
+  pub now : new ≡ record old { listing = old.listing ++ told ∷ []; stage = stage }
 
--- an admitted job wrote this line, and has come so far; behind its last action it is over
-abbrev pub Steps : Running → Running → Option JobLine → Progress → Turned → Type 0
-Steps old new line next (On entries) = (next.done < length (agenda old.plan [])) × GoesOn old (listed line) (Admitted next) new entries
-Steps old new line next (Over entries sets) =
-    (length (agenda old.plan []) ≤ next.done) × (entries ≡ of_job old.job (listed line)) × (sets ≡ sets_of old.job old.plan.message_class (old.listing ++ listed line) next.own.outputs) × (new ≡ old)
-
--- the job goes on, and is not over
-abbrev pub IsOn : Turned → (List Entry → Type 0) → Type 0
-IsOn (On entries) goes_on = goes_on entries
-IsOn (Over entries sets) goes_on = ⊥
-
--- an admitted job did its next actions
-pub record HasStepped (old : Running) (p : Progress) (new : Running) (t : Turned) : Type 0 where
-  pub line : Option JobLine
+-- an admitted job wrote its next line, and is not over
+pub record HasStepped (old : Running) (p : Progress) (new : Running) (entries : List Entry) : Type 0 where
+  pub told : JobLine
   pub next : Progress
-  pub advances : (volumes : List (List ℕ)) → HasAdvanced (advanced volumes [] old.plan p) line next
-  pub steps : Steps old new line next t
+  pub advances : (volumes : List (List ℕ)) → HasAdvanced (advanced volumes [] old.plan p) told next
+  pub more : next.done < length (agenda old.plan [])
+  pub goes_on : GoesOn old told (Admitted next) new entries
+
+-- it wrote its last line, and its output went to the writers
+pub record HasEnded (old : Running) (p : Progress) (spool left : List SpoolSet) (entries : List Entry) : Type 0 where
+  pub next : Progress
+  pub advances : (volumes : List (List ℕ)) → HasAdvanced (advanced volumes [] old.plan p) line.End next
+  pub past : length (agenda old.plan []) ≤ next.done
+  pub entries_are : entries ≡ of_job old.job (line.End ∷ [])
+  pub left_is : left ≡ with_sets spool (sets_of old.job old.plan.message_class (old.listing ++ line.End ∷ []) next.own.outputs)
 
 -- a turn of a job without sets, by its stage
-abbrev pub TurnsTo : Running → Stage → Running → Turned → Type 0
-TurnsTo old Selected new t = IsOn t (GoesOn old (line.Names 0 ∷ []) Named new)
-TurnsTo old Named new t = IsOn t (GoesOn old (line.Assured 0 (budget_of old.plan []) ∷ []) (Admitted (first_progress old.plan [])) new)
-TurnsTo old (Admitted p) new t = HasStepped old p new t
+abbrev pub GoesOnFrom : Running → Stage → Running → List Entry → Type 0
+GoesOnFrom old Selected new entries = GoesOn old (line.Names 0) Named new entries
+GoesOnFrom old Named new entries = GoesOn old (line.Assured 0 (budget_of old.plan [])) (Admitted (first_progress old.plan [])) new entries
+GoesOnFrom old (Admitted p) new entries = HasStepped old p new entries
 
--- the initiator and the spool after it
-abbrev pub Leaves : Turned → Running → Initiator → Initiator → List SpoolSet → List SpoolSet → List Entry → Type 0
-Leaves (On entries) r old new spool left lines = (lines ≡ entries) × (new ≡ record old { running = Some r }) × (left ≡ spool)
-Leaves (Over entries sets) r old new spool left lines = (lines ≡ entries) × (new ≡ record old { running = None }) × (left ≡ with_sets spool sets)
+abbrev pub EndsFrom : Running → Stage → List SpoolSet → List SpoolSet → List Entry → Type 0
+EndsFrom old Selected spool left entries = ⊥
+EndsFrom old Named spool left entries = ⊥
+EndsFrom old (Admitted p) spool left entries = HasEnded old p spool left entries
 
-pub record HasTurned (old new : Initiator) (spool left : List SpoolSet) (lines : List Entry) : Type 0 where
-  pub before : Running
-  pub runs : old.running ≡ Some before
-  pub after : Running
-  pub turned : Turned
-  pub turns : TurnsTo before before.stage after turned
-  pub leaves : Leaves turned after old new spool left lines
+abbrev pub TurnsTo : Running → Running → List SpoolSet → List SpoolSet → Turned → Type 0
+TurnsTo old new spool left (On entries) = GoesOnFrom old old.stage new entries × (left ≡ spool)
+TurnsTo old new spool left (Over entries) = EndsFrom old old.stage spool left entries
 
--- what is due in a stage
-abbrev pub IsDueBy : Running → Stage → Due → Type 0
-IsDueBy r Selected due.Names = Unit {0}
-IsDueBy r Named due.Admission = Unit {0}
-IsDueBy r (Admitted p) (due.Next next) = (volumes : List (List ℕ)) → HasAdvanced (advanced volumes [] r.plan p) (said_line next.said) next.progress
-IsDueBy r _ _ = ⊥
+abbrev pub StaysFit : Job → Turned → Type 0
+StaysFit new (On entries) = IsFit new
+StaysFit new (Over entries) = Unit {0}
 
--- one action wrote the job's next line, and the job goes on; or nothing is changed
-pub record HasTold (job : ℕ) (plan : JobPlan) (listing listing_now : List JobLine) (old new : Progress) (entries : List Entry) : Type 0 where
+-- what is due of a job, by its stage
+abbrev pub IsDue : Job → JobStage → Due → Type 0
+IsDue j stage.Selected due.Names = Unit {0}
+IsDue j stage.Named due.Admission = Unit {0}
+IsDue j (stage.Admitted w) (due.Action t) = IsDueAt j.plan w t
+IsDue j _ _ = ⊥
+
+abbrev pub IsActionDue : Job → JobStage → Todo → Type 0
+IsActionDue j stage.Selected t = ⊥
+IsActionDue j stage.Named t = ⊥
+IsActionDue j (stage.Admitted w) t = IsDueAt j.plan w t
+
+-- the action that is due wrote the job's next line
+pub record HasTold (job : ℕ) (plan : JobPlan) (listing listing_now : List JobLine) (old new : Walk) (entries : List Entry) : Type 0 where
   pub said : Said
   pub entries_are : entries ≡ of_job job (line_of said ∷ [])
   pub listing_is : listing_now ≡ listing ++ line_of said ∷ []
-  pub acted : HasActedHere plan old new said
-
-abbrev pub IsToldHere : ℕ → JobPlan → List JobLine → List JobLine → Progress → Progress → Option (List Entry) → Type 0
-IsToldHere job plan listing listing_now old new None = (listing_now ≡ listing) × (new ≡ old)
-IsToldHere job plan listing listing_now old new (Some entries) = HasTold job plan listing listing_now old new entries
-
-abbrev pub IsSteppedHere : Running → Stage → Running → Option (List Entry) → Type 0
-IsSteppedHere old stage new None = new ≡ old
-IsSteppedHere old stage new (Some entries) = TurnsTo old stage new (On entries)
+  pub advances : (volumes : List (List ℕ)) → HasAdvanced (advanced volumes [] plan (progress_of plan old)) (line_of said) (progress_of plan new)
+  pub more : number_of plan.steps new.todo < length (agenda plan [])

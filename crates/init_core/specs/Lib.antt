@@ -1,5 +1,6 @@
-pub mod NoSets
 pub mod Said
-pub mod Todos
+pub mod Places
+pub mod Deeds
+pub mod Jobs
 pub mod Initiators
 pub mod Steps

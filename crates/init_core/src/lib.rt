@@ -2,7 +2,9 @@
 #![tactic(auto)]
 
 mod actions;
-mod copies;
+mod deeds;
 pub mod initiator;
-mod progress;
+mod job;
+mod places;
 mod said;
+mod turns;

@@ -1,16 +1,21 @@
-//! What an action says.
+//! What a turn says.
 ghost use Rattle.std.specs.Prelude.{◌≡◌};
 ghost use Rattle.jcl_meaning.specs.EndActs.{end_line};
-ghost use Rattle.init_core.specs.Said.{line_of, said_line};
+ghost use Rattle.init_core.specs.Said.{line_of};
 
 use jcl_plan::entry::JobLine;
 use jcl_plan::outcome::{Abend, Code, Fate, Outcome};
 use jcl_plan::words::{DispWord, TakeWord};
 use jname_core::name8::Name8;
 
-/// The line of an action: of those of a job the ones that an action writes. It is written in the job's own listing and in the machine's.
+/// A line that an initiator writes of its job. It is written in the job's own listing and in the machine's.
 #[derive(Clone, Copy, Debug)]
 pub enum Said {
+    Names(usize),
+    Assured {
+        tracks: usize,
+        actions: usize,
+    },
     Step {
         step: usize,
         name: Option<Name8>,
@@ -37,6 +42,8 @@ impl Said {
         ensures { result ≡ line_of self.now }
     {
         match *self {
+            Said::Names(n) => JobLine::Names(n),
+            Said::Assured { tracks, actions } => JobLine::Assured { tracks, actions },
             Said::Step {
                 step,
                 name,
@@ -54,16 +61,6 @@ impl Said {
             Said::Disp { dd, name, word } => JobLine::Disp { dd, name, word },
             Said::End => JobLine::End,
         }
-    }
-}
-
-/// The line of what was said, if anything was.
-pub fn said_line(said: Option<Said>) -> Option<JobLine>
-    ensures { result ≡ said_line said }
-{
-    match said {
-        None => None,
-        Some(said) => Some(said.line()),
     }
 }
 

@@ -3,5 +3,4 @@
 
 pub mod config;
 pub mod event;
-pub mod listing;
 pub mod machine;

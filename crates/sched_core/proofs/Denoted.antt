@@ -15,7 +15,7 @@ use Rattle.jcl_plan.specs.declared.fault.Cause.TheVariants.{P}
 use Rattle.jcl_plan.specs.declared.fault.StatementFault.TheVariants.{LeftOut, NoSuchProcedure}
 use Rattle.jcl_plan.specs.declared.plan.JobPlan.{JobPlan}
 use Rattle.sched_core.specs.Jobs.{calls_some, dd_of, is_later, job_by_deck, job_by_statements, job_of, kind_of, plan_of, step_of}
-use Rattle.init_core.specs.NoSets.{HasNoSets, IsNoSet, StepHasNoSets}
+use Rattle.jcl_meaning.specs.NoSets.{HasNoSets, IsNoSet, StepHasNoSets}
 
 kind_none : (kind : DdCardKind) → IsNoSet (kind_of kind)
 kind_none (card.Cards cards) = tt

@@ -1,12 +1,11 @@
 -- An idle initiator selects a job.
-use Rattle.std.proofs.Common.{◌≡◌, ◌++◌, ◌∷◌, ◌≤◌, ◌<◌, ◌==◌, not, ℕ, List, [], Some, None, All, map, arith, sym, ap, ◌∙◌, subst}
+use Rattle.std.proofs.Common.{◌≡◌, ◌++◌, ◌∷◌, ◌≤◌, ◌<◌, ◌==◌, not, ℕ, List, [], Some, None, All, arith, sym, ap, ◌∙◌, subst}
 use Rattle.std.specs.Prelude.{slice_set}
 use Rattle.std.specs.List.{Contains}
-use Rattle.std.proofs.lemmas.List.Elements.{All-cons, All-contains, All-filter, All-nil, All-push, All-set, All-weaker}
+use Rattle.std.proofs.lemmas.List.Elements.{All-contains, All-filter, All-nil, All-push, All-weaker}
 use Rattle.jcl_plan.specs.declared.entry.Entry.{Entry}
 use Rattle.jcl_plan.specs.declared.entry.JobLine.{JobLine}
 use Rattle.jcl_plan.specs.declared.entry.JobLine.TheVariants as line
-use Rattle.machine_meaning.specs.declared.config.ConfiguredInitiator.{ConfiguredInitiator}
 use Rattle.machine_meaning.specs.declared.machine.Initiator.{Initiator}
 use Rattle.machine_meaning.specs.declared.machine.Stage.TheVariants.{Selected}
 use Rattle.machine_meaning.specs.declared.machine.Waiting.{Waiting}
@@ -17,7 +16,7 @@ use Rattle.machine_meaning.specs.Transitions.{Acts, selected}
 use Rattle.machine_meaning.specs.Worlds.{World, of_job}
 use Rattle.sched_core.specs.Selection.{told}
 use Rattle.sched_core.specs.Systems.{IsKept}
-use Rattle.init_core.specs.NoSets.{HasNoSets, RunsNoSets}
+use Rattle.jcl_meaning.specs.NoSets.{HasNoSets}
 
 -- the initiator with a job out of the queue
 abbrev pub with_job : Initiator → Waiting → List JobLine → Initiator
@@ -37,23 +36,23 @@ selects old place x x_read w taken job number lines idle is ej ex et en l =
 all_others : (P : Waiting → Type 0) (waiting : List Waiting) (job : ℕ) → All P waiting → All P (others_than waiting job)
 all_others P waiting job all = All-filter (λ w. not (w.job == job)) P waiting all
 
-pub kept_selected : (waiting : List Waiting) (initiators : List Initiator) (jobs events place job : ℕ) (x : Initiator) (taken w : Waiting) (listing : List JobLine) →
-    IsKept waiting initiators jobs events → Contains waiting w → taken.plan ≡ w.plan → IsKept (others_than waiting job) (slice_set initiators place (with_job x taken listing)) jobs events
-kept_selected waiting initiators jobs events place job x taken w listing k c e = record {
+pub kept_selected : (waiting : List Waiting) (jobs events job : ℕ) → IsKept waiting jobs events → IsKept (others_than waiting job) jobs events
+kept_selected waiting jobs events job k = record {
   in_queue = all_others (λ v. HasNoSets v.plan) waiting job k.in_queue;
   numbers = all_others (λ v. v.job ≤ jobs) waiting job k.numbers;
-  with_initiators = All-set (λ y. RunsNoSets y.running) initiators place (with_job x taken listing)
-      (subst HasNoSets (sym e) (All-contains (λ v. HasNoSets v.plan) waiting w k.in_queue c)) k.with_initiators;
   few_jobs = k.few_jobs;
   few_events = k.few_events;
 }
 
-pub kept_entered : (waiting new : List Waiting) (initiators : List Initiator) (jobs events job : ℕ) (w : Waiting) → IsKept waiting initiators jobs events → HasNoSets w.plan → w.job ≡ job →
-    jobs < job → job ≤ MOST_JOBS → new ≡ waiting ++ w ∷ [] → IsKept new initiators job events
-kept_entered waiting new initiators jobs events job w k none is next most e = subst (λ ws. IsKept ws initiators job events) (sym e) (record {
+-- a job that waited has no sets
+pub selected_without_sets : (waiting : List Waiting) (jobs events : ℕ) (w : Waiting) → IsKept waiting jobs events → Contains waiting w → HasNoSets w.plan
+selected_without_sets waiting jobs events w k c = All-contains (λ v. HasNoSets v.plan) waiting w k.in_queue c
+
+pub kept_entered : (waiting new : List Waiting) (jobs events job : ℕ) (w : Waiting) → IsKept waiting jobs events → HasNoSets w.plan → w.job ≡ job →
+    jobs < job → job ≤ MOST_JOBS → new ≡ waiting ++ w ∷ [] → IsKept new job events
+kept_entered waiting new jobs events job w k none is next most e = subst (λ ws. IsKept ws job events) (sym e) (record {
   in_queue = All-push (λ v. HasNoSets v.plan) waiting w k.in_queue none;
   numbers = All-push (λ v. v.job ≤ job) waiting w (All-weaker (λ v. v.job ≤ jobs) (λ v. v.job ≤ job) (λ v h. below v.job h) waiting k.numbers) (at_most w.job is);
-  with_initiators = k.with_initiators;
   few_jobs = most;
   few_events = k.few_events;
 })
@@ -64,15 +63,10 @@ kept_entered waiting new initiators jobs events job w k none is next most e = su
     at_most : (n : ℕ) → n ≡ job → n ≤ job
     at_most n h = omega arith
 
-idle_none : (configured : List ConfiguredInitiator) → All (λ x. RunsNoSets x.running) (map idle configured)
-idle_none [] = All-nil (λ x. RunsNoSets x.running)
-idle_none (x ∷ configured) = All-cons (λ y. RunsNoSets y.running) (idle x) (map idle configured) tt (idle_none configured)
-
-pub kept_start : (waiting : List Waiting) (configured : List ConfiguredInitiator) → waiting ≡ [] → IsKept waiting (map idle configured) 0 0
-kept_start waiting configured e = subst (λ ws. IsKept ws (map idle configured) 0 0) (sym e) (record {
+pub kept_start : (waiting : List Waiting) → waiting ≡ [] → IsKept waiting 0 0
+kept_start waiting e = subst (λ ws. IsKept ws 0 0) (sym e) (record {
   in_queue = All-nil (λ v. HasNoSets v.plan);
   numbers = All-nil (λ v. v.job ≤ 0);
-  with_initiators = idle_none configured;
   few_jobs = omega arith;
   few_events = omega arith;
 })

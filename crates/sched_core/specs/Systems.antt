@@ -13,7 +13,7 @@ use Rattle.machine_meaning.specs.Worlds.{World, IsAt, of_job}
 use Rattle.sched_core.specs.declared.system.ApplyFault.{ApplyFault}
 use Rattle.sched_core.specs.declared.system.ApplyFault.TheVariants.{Refused, Memory}
 use Rattle.sched_core.specs.Jobs.{job_of}
-use Rattle.init_core.specs.NoSets.{HasNoSets, RunsNoSets}
+use Rattle.jcl_meaning.specs.NoSets.{HasNoSets}
 
 -- what was done is allowed; a refusal is shown as its line; where memory was wanting nothing changed
 abbrev pub Answers : Result (List Entry) ApplyFault → World → World → (List Entry → World → Type 0) → Type 0
@@ -26,10 +26,9 @@ abbrev pub RefusesFirst : Result (List Entry) ApplyFault → (List Entry → Wor
 RefusesFirst result allows = (cause : Cause) (new : World) → allows (entry.Refused cause ∷ []) new → result ≡ Err (Refused cause)
 
 -- what holds of a machine between events
-pub record IsKept (waiting : List Waiting) (initiators : List Initiator) (jobs events : ℕ) : Type 0 where
+pub record IsKept (waiting : List Waiting) (jobs events : ℕ) : Type 0 where
   pub in_queue : All (λ w. HasNoSets w.plan) waiting
   pub numbers : All (λ w. w.job ≤ jobs) waiting
-  pub with_initiators : All (λ x. RunsNoSets x.running) initiators
   pub few_jobs : jobs ≤ MOST_JOBS
   pub few_events : events ≤ MOST_EVENTS
 

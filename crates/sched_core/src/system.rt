@@ -7,12 +7,12 @@ ghost use Rattle.machine_meaning.specs.declared.machine.TheConstants.{MOST_JOBS}
 ghost use Rattle.machine_meaning.specs.Transitions.{Does, Reads, Transition, Turns, Writes, waits};
 ghost use Rattle.sched_core.specs.Jobs.{job_of};
 ghost use Rattle.sched_core.specs.Systems.{ActsAt, Answers, IsDriven, IsIdleAt, IsPlaceOf, IsTakenIn, RefusesFirst, RunsAt};
-ghost use Rattle.init_core.specs.NoSets.{HasNoSets};
+ghost use Rattle.jcl_meaning.specs.NoSets.{HasNoSets};
 
 use crate::config::Config;
 use crate::jobs::job_of;
 use crate::queue::Backlog;
-use init_core::initiator::act;
+use init_core::initiator::Initiator;
 use jcl_parse::refusal::ReadError;
 use jcl_plan::entry::{Entry, JobLine};
 use jcl_plan::fault::Cause;
@@ -20,7 +20,7 @@ use jcl_plan::plan::JobPlan;
 use jname_core::serial::Serial;
 use machine_meaning::config::{ConfiguredInitiator, ConfiguredVolume};
 use machine_meaning::event::Event;
-use machine_meaning::machine::{Initiator, MOST_EVENTS, MOST_JOBS, Running, Stage, Waiting};
+use machine_meaning::machine::{MOST_EVENTS, MOST_JOBS, Waiting};
 use plain::listed::Listed;
 use plain::text::Text;
 use spool_core::spool::Spool;
@@ -77,7 +77,7 @@ impl Model for System {
 
     ghost view = { λ s. record { volumes = s.volumes; programs = []; initiators = s.initiators.items; waiting = s.waiting; holds = []; spool = s.spool; jobs = s.jobs; events = s.events } };
 
-    ghost invariant = { λ s. IsKept s.waiting s.initiators.items s.jobs s.events };
+    ghost invariant = { λ s. IsKept s.waiting s.jobs s.events };
 }
 
 fn one(alloc: Global, entry: Entry) -> Result<Listed<Entry>, AllocError>
@@ -94,7 +94,7 @@ fn place_of(initiators: &[Initiator], number: u8) -> Option<usize>
     ensures none { IfNone result (All (λ x. x.number ≢ number) initiators.now) }
 {
     for (place, x) in initiators.iter().enumerate() {
-        if x.number == number {
+        if x.number() == number {
             return Some(place);
         }
     }
@@ -118,12 +118,7 @@ fn idle_of(alloc: Global, configured: &[ConfiguredInitiator]) -> Result<Vec<Init
 {
     let mut initiators = Vec::new(alloc);
     for x in configured {
-        let initiator = Initiator {
-            number: x.number,
-            classes: x.classes,
-            running: None,
-        };
-        initiators.push(initiator)?;
+        initiators.push(Initiator::idle(x.number, x.classes))?;
     }
     Ok(initiators)
 }
@@ -188,7 +183,7 @@ impl System {
         let Some(place) = place_of(self.initiators.as_slice(), number) else {
             return Err(ApplyFault::Refused(Cause::A(1)));
         };
-        if self.initiators[place].running.is_some() {
+        if self.initiators[place].has_job() {
             self.go_on(place)
         } else {
             self.select(place)
@@ -200,7 +195,7 @@ impl System {
         requires { RunsAt self.old place }
         ensures { Answers result self.old self.new (ActsAt self.old place) }
     {
-        let lines = act(self.alloc, &mut self.initiators[place], &mut self.spool)?;
+        let lines = self.initiators[place].act(self.alloc, &mut self.spool)?;
         Ok(lines)
     }
 
@@ -209,8 +204,8 @@ impl System {
         requires { IsIdleAt self.old place }
         ensures { Answers result self.old self.new (ActsAt self.old place) }
     {
-        let number = self.initiators[place].number;
-        let classes = self.initiators[place].classes;
+        let number = self.initiators[place].number();
+        let classes = self.initiators[place].classes();
         let Some(job) = self.waiting.selected(classes.as_slice()) else {
             return Ok(Listed::empty(self.alloc));
         };
@@ -218,12 +213,14 @@ impl System {
         let Some(w) = self.waiting.take(job, JobLine::Selected(number))? else {
             unreachable!();
         };
-        self.initiators[place].running = Some(Running {
-            job: w.job,
-            plan: w.plan,
-            listing: w.listing,
-            stage: Stage::Selected,
-        });
+        let Waiting {
+            job,
+            class: _,
+            priority: _,
+            plan,
+            listing,
+        } = w;
+        self.initiators[place].start(job, plan, listing);
         Ok(lines)
     }
 

@@ -1,6 +1,6 @@
 -- A set is entered under a key that had none.
 use Rattle.std.proofs.Common.{◌≡◌, ℕ, true, false, cond, List, [], ◌∷◌, ◌++◌, None, Some, All, filter, get_or, sym, ap, ◌∙◌, unwrap_or, append_assoc}
-use Rattle.std.proofs.lemmas.List.{map-append}
+use Rattle.std.proofs.lemmas.List.{append-nil, map-append}
 use Rattle.std.proofs.lemmas.List.Elements.{All-append, All-cons, All-nil}
 use Rattle.std.proofs.lemmas.List.Quantifiers.{all_pairs_push}
 use Rattle.slab.specs.Slab.{Slab, Updates, get}
@@ -31,11 +31,12 @@ module _ (old new : Slab SpoolSet) (places : List Place) (place : Place) (set : 
     apart = all_pairs_push (λ (p q : Place). p.key ≡ q.key → ⊥) places place stand.apart apart;
   }
 
-  pub sets_entered : (rest items whole : List SpoolSet) → items ≡ set ∷ rest → sets_at old places ++ filter has_lines items ≡ whole → sets_at new (places ++ place ∷ []) ++ filter has_lines rest ≡ whole
-  sets_entered rest items whole is so_far =
-      ap (λ l. l ++ filter has_lines rest) (map-append (λ (p : Place). set_under new p.key) places (place ∷ [])) ∙
-      ap (λ l. (l ++ set_under new place.key ∷ []) ++ filter has_lines rest) (same_sets old new place.key places in_slab.others apart) ∙
-      ap (λ s. (sets_at old places ++ s ∷ []) ++ filter has_lines rest) now_set ∙
-      append_assoc (sets_at old places) (set ∷ []) (filter has_lines rest) ∙
-      ap (λ b. sets_at old places ++ cond b (set ∷ filter has_lines rest) (filter has_lines rest)) (sym some) ∙
-      ap (λ l. sets_at old places ++ filter has_lines l) (sym is) ∙ so_far
+  pub sets_entered : sets_at new (places ++ place ∷ []) ≡ sets_at old places ++ filter has_lines (set ∷ [])
+  sets_entered =
+      map-append (λ (p : Place). set_under new p.key) places (place ∷ []) ∙
+      ap (λ l. l ++ set_under new place.key ∷ []) (same_sets old new place.key places in_slab.others apart) ∙
+      ap (λ s. sets_at old places ++ s ∷ []) now_set ∙
+      ap (λ b. sets_at old places ++ cond b (set ∷ []) []) (sym some)
+
+pub none_entered : (sets : List SpoolSet) (set : SpoolSet) → has_lines set ≡ false → sets ≡ sets ++ filter has_lines (set ∷ [])
+none_entered sets set none = sym (append-nil sets) ∙ ap (λ b. sets ++ cond b (set ∷ []) []) (sym none)

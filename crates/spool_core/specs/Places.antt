@@ -1,7 +1,7 @@
 -- Where the sets of a spool lie, in the order in which they entered.
-use Rattle.std.specs.Prelude.{◌≡◌, ◌≢◌, ℕ, true, List, [], take, map, All, AllPairs, slice_get, Some}
+use Rattle.std.specs.Prelude.{◌≡◌, ◌≢◌, ℕ, ◌+◌, ◌≤◌, true, List, [], take, map, All, AllPairs, slice_get, Some}
 use Rattle.std.specs.Option.{unwrap_or}
-use Rattle.slab.specs.Slab.{Slab, get}
+use Rattle.slab.specs.Slab.{HasRoomFor, Slab, get, slab_len}
 use Rattle.machine_meaning.specs.declared.machine.SpoolSet.{SpoolSet}
 use Rattle.machine_meaning.specs.Spools.{has_lines}
 use Rattle.spool_core.specs.declared.spool.Place.{Place}
@@ -31,3 +31,11 @@ pub record IsFirst (places : List Place) (class index : ℕ) : Type 0 where
   pub at : slice_get places index ≡ Some place
   pub of_class : place.class ≡ class
   pub none_before : All (λ p. p.class ≢ class) (take index places)
+
+-- so many sets more may be entered without memory, where the list of places has this length and this room
+abbrev pub HasRoom : Slab SpoolSet → ℕ → ℕ → ℕ → Type 0
+HasRoom sets len room n = HasRoomFor sets n × (len + n ≤ room)
+
+-- at most one was entered, where there was room for it
+abbrev pub TakesRoom : Slab SpoolSet → Slab SpoolSet → Type 0
+TakesRoom sets sets_now = (slab_len sets_now ≤ slab_len sets + 1) × (sets_now.capacity ≡ sets.capacity)

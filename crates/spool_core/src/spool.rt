@@ -1,67 +1,16 @@
 //! The spool.
-ghost use Rattle.std.specs.Prelude.{◌≡◌, ◌≢◌, ◌∷◌, [], All, IfNone, IfSome, OnErr, OnOk};
-ghost use Rattle.machine_meaning.specs.Spools.{HasNoSet, Takes, has_lines, with_sets};
-ghost use Rattle.spool_core.specs.Places.{IsFirst};
+ghost use Rattle.std.specs.Prelude.{◌≡◌, ◌≢◌, ◌+◌, ◌≤◌, ◌∷◌, ◌++◌, [], All, IfNone, IfSome, OnErr, OnOk, filter, length, map, vec_capacity};
+ghost use Rattle.machine_meaning.specs.Spools.{HasNoSet, Takes, has_lines, output_set, sets_of, with_sets};
+ghost use Rattle.spool_core.specs.Places.{HasRoom, IsFirst, Stand, TakesRoom, sets_at};
 
-use jcl_plan::entry::Written;
-use machine_meaning::machine::SpoolSet;
+use crate::queued::Queued;
+use jcl_meaning::state::Output;
+use jcl_plan::entry::{JobLine, Written};
 use plain::listed::Listed;
 use slab::Slab;
 use std::alloc::{AllocError, Global};
-use std::collections::VecDeque;
 use std::marker::Model;
-
-/// A set, the lines of which are taken one after another.
-#[derive(Debug, Drop)]
-struct Queued {
-    class: u8,
-    job: u16,
-    lines: VecDeque<Written>,
-}
-
-impl Model for Queued {
-    ghost use Rattle.machine_meaning.specs.declared.machine.SpoolSet.{SpoolSet};
-
-    ghost Value = { SpoolSet };
-
-    ghost view = { λ q. record { class = q.class; job = q.job; lines = q.lines.items } };
-}
-
-impl Queued {
-    fn new(set: SpoolSet) -> Queued
-        ensures { result ≡ set }
-    {
-        let SpoolSet { class, job, lines } = set;
-        Queued {
-            class,
-            job,
-            lines: VecDeque::from(lines.into_vec()),
-        }
-    }
-
-    fn class(&self) -> u8
-        ensures { result ≡ self.now.class }
-    {
-        self.class
-    }
-
-    fn has_lines(&self) -> bool
-        ensures { result ≡ has_lines self.now }
-    {
-        !self.lines.is_empty()
-    }
-
-    /// Takes the first line.
-    fn pop(&mut self) -> Option<(u16, Written)>
-        ensures some { IfSome result (λ r. (self.old.lines ≡ r.1 ∷ self.new.lines) × (r.0 ≡ self.old.job) × (self.new ≡ record self.old { lines = self.new.lines })) }
-        ensures none { IfNone result (self.old.lines ≡ []) }
-    {
-        match self.lines.pop_front() {
-            None => None,
-            Some(line) => Some((self.job, line)),
-        }
-    }
-}
+use std::mem::replace;
 
 /// The class of a set, and the key under which it lies.
 #[derive(Clone, Copy, Debug)]
@@ -73,6 +22,7 @@ struct Place {
 /// Sets of lines, in the order in which their jobs ended.
 #[derive(Debug, Drop)]
 pub struct Spool {
+    alloc: Global,
     sets: Slab<Queued>,
     places: Vec<Place>,
 }
@@ -94,27 +44,39 @@ impl Spool {
         ensures { result ≡ [] }
     {
         Spool {
+            alloc,
             sets: Slab::new(alloc),
             places: Vec::new(alloc),
         }
     }
 
-    /// Puts what a job gives behind the others. An `Err` changes nothing.
-    pub fn enter(&mut self, sets: Listed<SpoolSet>) -> Result<(), AllocError>
-        ensures ok { OnOk result (self.new ≡ with_sets self.old sets) }
+    /// Takes over what a job that is over gives to the writers: its listing with this last line, and its SYSOUT sets, behind the others. Each goes over with
+    /// its memory. An `Err` changes nothing.
+    pub fn enter(
+        &mut self,
+        job: u16,
+        class: u8,
+        listing: &mut Listed<JobLine>,
+        last: JobLine,
+        outputs: &mut Listed<Output>,
+    ) -> Result<(), AllocError>
+        ensures ok { OnOk result (self.new ≡ with_sets self.old (sets_of job class (listing.old ++ last ∷ []) outputs.old)) }
         ensures err { OnErr result (self.new ≡ self.old) }
+        ensures listing { OnErr result (listing.new ≡ listing.old) }
+        ensures outputs { OnErr result (outputs.new ≡ outputs.old) }
     {
-        let sets = sets.into_vec();
-        self.sets.reserve(sets.len())?;
-        self.places.reserve(sets.len())?;
-        for set in sets {
-            let queued = Queued::new(set);
-            if queued.has_lines() {
-                let class = queued.class();
-                let key = self.sets.insert_reserved(queued);
-                self.places.push_reserved(Place { class, key });
-            }
-        }
+        let Some(count) = outputs.len().checked_add(1) else {
+            return Err(AllocError);
+        };
+        let alloc = self.alloc;
+        self.sets.reserve(count)?;
+        self.places.reserve(count)?;
+        listing.push(last)?;
+        let lines = replace(listing, Listed::empty(alloc));
+        let queued = Queued::listing(job, class, lines);
+        put(&mut self.sets, &mut self.places, queued);
+        let outputs = replace(outputs, Listed::empty(alloc));
+        put_outputs(&mut self.sets, &mut self.places, job, outputs);
         Ok(())
     }
 
@@ -139,6 +101,36 @@ impl Spool {
         self.sets.remove(key);
         self.places.remove(index);
         Some(taken)
+    }
+}
+
+/// Puts a set behind the others, if it has lines.
+fn put(sets: &mut Slab<Queued>, places: &mut Vec<Place>, queued: Queued)
+    requires stand { Stand sets.old places.old.items }
+    requires room { HasRoom sets.old (length places.old.items) (vec_capacity places.old) 1 }
+    ensures stand { Stand sets.new places.new.items }
+    ensures entered { sets_at sets.new places.new.items ≡ sets_at sets.old places.old.items ++ filter has_lines (queued ∷ []) }
+    ensures sets { TakesRoom sets.old sets.new }
+    ensures places { length places.new.items ≤ length places.old.items + 1 }
+    ensures room { vec_capacity places.new ≡ vec_capacity places.old }
+{
+    if queued.has_lines() {
+        let class = queued.class();
+        let key = sets.insert_reserved(queued);
+        places.push_reserved(Place { class, key });
+    }
+}
+
+/// Puts the SYSOUT sets of a job behind the others.
+fn put_outputs(sets: &mut Slab<Queued>, places: &mut Vec<Place>, job: u16, outputs: Listed<Output>)
+    requires stand { Stand sets.old places.old.items }
+    requires room { HasRoom sets.old (length places.old.items) (vec_capacity places.old) (length outputs) }
+    ensures stand { Stand sets.new places.new.items }
+    ensures entered { sets_at sets.new places.new.items ≡ sets_at sets.old places.old.items ++ filter has_lines (map (output_set job) outputs) }
+{
+    for output in outputs.into_vec() {
+        let queued = Queued::output(job, output);
+        put(sets, places, queued);
     }
 }
 

@@ -1,23 +1,32 @@
 //! The order of the lines, in cases worked out by hand.
 use crate::spool::Spool;
+use jcl_meaning::state::Output;
 use jcl_plan::entry::{JobLine, Written};
-use machine_meaning::machine::SpoolSet;
 use plain::listed::Listed;
 use std::alloc::{AllocError, Global};
 use std::test::Fail;
 
-/// A set of one line for each mark: a capital letter is a record, another mark a line of a listing.
-fn set(alloc: Global, class: u8, job: u16, marks: &[u8]) -> Result<SpoolSet, AllocError> {
+/// A line for each mark.
+fn listing(alloc: Global, marks: &[u8]) -> Result<Listed<JobLine>, AllocError> {
     let mut lines = Listed::empty(alloc);
     for mark in marks {
-        let line = if mark.is_ascii_uppercase() {
-            Written::Record([*mark; 80])
-        } else {
-            Written::Line(JobLine::Selected(*mark))
-        };
-        lines.push(line)?;
+        lines.push(JobLine::Selected(*mark))?;
     }
-    Ok(SpoolSet { class, job, lines })
+    Ok(lines)
+}
+
+/// A record for each mark.
+fn output(alloc: Global, class: u8, marks: &[u8]) -> Result<Output, AllocError> {
+    let mut records = Listed::empty(alloc);
+    for mark in marks {
+        records.push([*mark; 80])?;
+    }
+    Ok(Output {
+        step: 1,
+        dd: 1,
+        class,
+        records,
+    })
 }
 
 /// Whose line is taken, and its mark.
@@ -36,19 +45,19 @@ fn lines_are_taken_by_class_in_the_order_in_which_jobs_ended(rt: HostRuntime) ->
     let alloc = rt.alloc();
     let mut spool = Spool::new(alloc);
     assert_eq!(rt; take(&mut spool, b'A'), None);
-    let seven = vec![in alloc;
-        set(alloc, b'A', 7, &[1, 2])?,
-        set(alloc, b'B', 7, b"PQ")?,
-        set(alloc, b'A', 7, b"R")?,
-    ]?;
-    spool.enter(Listed::new(seven))?;
+    let mut lines = listing(alloc, &[1])?;
+    let mut outputs = Listed::new(vec![in alloc;
+        output(alloc, b'B', b"PQ")?,
+        output(alloc, b'A', b"R")?,
+    ]?);
+    spool.enter(7, b'A', &mut lines, JobLine::Selected(2), &mut outputs)?;
     assert_eq!(rt; take(&mut spool, b'A'), Some((7, 1)));
-    let three = vec![in alloc;
-        set(alloc, b'B', 3, &[3])?,
-        set(alloc, b'A', 3, &[])?,
-        set(alloc, b'A', 3, b"S")?,
-    ]?;
-    spool.enter(Listed::new(three))?;
+    let mut lines = listing(alloc, &[])?;
+    let mut outputs = Listed::new(vec![in alloc;
+        output(alloc, b'A', &[])?,
+        output(alloc, b'A', b"S")?,
+    ]?);
+    spool.enter(3, b'B', &mut lines, JobLine::Selected(3), &mut outputs)?;
     for (class, taken) in [
         (b'B', Some((7, b'P'))),
         (b'A', Some((7, 2))),
@@ -69,12 +78,14 @@ fn lines_are_taken_by_class_in_the_order_in_which_jobs_ended(rt: HostRuntime) ->
 fn a_set_entered_in_the_place_of_another_is_the_last(rt: HostRuntime) -> Result<(), Fail> {
     let alloc = rt.alloc();
     let mut spool = Spool::new(alloc);
-    let first = vec![in alloc; set(alloc, b'A', 1, b"P")?, set(alloc, b'A', 1, b"Q")?]?;
-    spool.enter(Listed::new(first))?;
-    assert_eq!(rt; take(&mut spool, b'A'), Some((1, b'P')));
-    let second = vec![in alloc; set(alloc, b'A', 2, b"R")?]?;
-    spool.enter(Listed::new(second))?;
-    for taken in [Some((1, b'Q')), Some((2, b'R')), None] {
+    let mut lines = listing(alloc, &[])?;
+    let mut outputs = Listed::new(vec![in alloc; output(alloc, b'A', b"Q")?]?);
+    spool.enter(1, b'A', &mut lines, JobLine::Selected(4), &mut outputs)?;
+    assert_eq!(rt; take(&mut spool, b'A'), Some((1, 4)));
+    let mut lines = listing(alloc, &[])?;
+    let mut outputs = Listed::empty(alloc);
+    spool.enter(2, b'A', &mut lines, JobLine::Selected(5), &mut outputs)?;
+    for taken in [Some((1, b'Q')), Some((2, 5)), None] {
         assert_eq!(rt; take(&mut spool, b'A'), taken);
     }
     Ok(())

@@ -1,7 +1,6 @@
-use Rattle.std.proofs.Common.{◌≡◌, ◌∙◌, ◌++◌, ◌∷◌, ◌<◌, [], All, ap}
+use Rattle.std.proofs.Common.{◌∙◌, ◌++◌, ◌∷◌, ◌<◌, [], All, ap}
 use Rattle.std.specs.BTreeMap.{values}
 use Rattle.std.specs.Map.{values_of}
-use Rattle.machine_meaning.specs.declared.machine.Waiting.{Waiting}
 use Rattle.queue_core.proofs.Numbered.{below_all, entered_last, values_last}
 use Rattle.sched_core.proofs.Queueing.{entered, in_queue, number_of, undone}
 use Rattle.sched_core.proofs.queue.Backlog.enter.Goals as goal

@@ -1,9 +1,7 @@
-use Rattle.std.proofs.Common.{◌≡◌, All, take, sym, subst, arith}
+use Rattle.std.proofs.Common.{All, take, subst, arith}
 use Rattle.std.specs.BTreeMap.{values}
 use Rattle.std.proofs.lemmas.List.{get_or_default, take_all}
-use Rattle.machine_meaning.specs.declared.machine.Waiting.{Waiting}
 use Rattle.machine_meaning.specs.Queues.{HasNone}
-use Rattle.sched_core.specs.Selection.{SelectsJob}
 use Rattle.sched_core.proofs.Queueing.{first_waits, none_waits}
 use Rattle.sched_core.proofs.Selections.{all_more, found_at}
 use Rattle.sched_core.proofs.queue.Backlog.selected.Goals as goal

@@ -29,11 +29,11 @@ invariant_of-self-2 c =
     let first : IsFirst c.self.inside.places.items c.args.class c.in-Some.index = rw (← c.as_slice.ensures.value) c.in-Some.ensures.some in
     let p : Pops c.self.inside.sets c.self.inside.places.items c.args.class c.in-Some.index c.index.result.now c.in-Some-get_mut.set.now c.pop.new.self c.in-Some-pop.taken.0 c.in-Some-pop.taken.1 =
     pops c.self.invariant first c.index.ensures c.in-Some-get_mut.ensures.value c.in-Some-pop.ensures.some in
-    rw c.remove-2.ensures.items (stands_last p c.remove.new.self c.remove.ensures.updates)
+    rw c.remove-3.ensures.items (stands_last p c.remove.new.self c.remove.ensures.updates)
 
 pub returns-clause-some : goal.returns-clause-some
 returns-clause-some c =
     let first : IsFirst c.self.inside.places.items c.args.class c.in-Some.index = rw (← c.as_slice.ensures.value) c.in-Some.ensures.some in
     let p : Pops c.self.inside.sets c.self.inside.places.items c.args.class c.in-Some.index c.index.result.now c.in-Some-get_mut.set.now c.pop.new.self c.in-Some-pop.taken.0 c.in-Some-pop.taken.1 =
     pops c.self.invariant first c.index.ensures c.in-Some-get_mut.ensures.value c.in-Some-pop.ensures.some in
-    rw (← c.self.view_is, c.remove-2.ensures.items) (taken_last p c.remove.new.self c.remove.ensures.updates (sym c.if-has_lines.ensures))
+    rw (← c.self.view_is, c.remove-3.ensures.items) (taken_last p c.remove.new.self c.remove.ensures.updates (sym c.if-has_lines.ensures))
