@@ -14,7 +14,7 @@ use Rattle.jcl_plan.specs.declared.fault.Cause.{Cause}
 use Rattle.jcl_plan.specs.declared.fault.Cause.TheVariants.{P}
 use Rattle.jcl_plan.specs.declared.fault.StatementFault.TheVariants.{LeftOut, NoSuchProcedure}
 use Rattle.jcl_plan.specs.declared.plan.JobPlan.{JobPlan}
-use Rattle.sched_core.specs.Jobs.{calls_some, dd_of, is_later, job_by_deck, job_by_statements, job_of, kind_of, plan_of, step_of}
+use Rattle.sched_core.specs.Jobs.{calls_some, dd_of, is_unsupported, job_by_deck, job_by_statements, job_of, kind_of, plan_of, step_of}
 use Rattle.jcl_meaning.specs.NoSets.{HasNoSets, IsNoSet, StepHasNoSets}
 
 kind_none : (kind : DdCardKind) → IsNoSet (kind_of kind)
@@ -49,7 +49,7 @@ by_tests false true deck plan e = absurd (subst is_ok (sym e) tt)
 by_tests false false deck plan e = subst HasNoSets (ap (or_plan plan) e) (plan_none deck)
 
 by_deck : (deck : Result Deck Cause) (plan : JobPlan) → job_by_deck deck ≡ Ok plan → HasNoSets plan
-by_deck (Ok deck) plan e = by_tests (calls_some deck.steps) (is_later deck.steps) deck plan e
+by_deck (Ok deck) plan e = by_tests (calls_some deck.steps) (is_unsupported deck.steps) deck plan e
 by_deck (Err cause) plan e = absurd (subst is_ok (sym e) tt)
 
 by_statements : (statements : Result (List Statement) CardFault) (plan : JobPlan) → job_by_statements statements ≡ Ok plan → HasNoSets plan

@@ -39,14 +39,14 @@ is_set card.Dummy = false
 is_set (card.Sysout class) = false
 is_set card.UnnamedSet = true
 
-abbrev pub is_later_dd : DdCard → Bool
-is_later_dd dd = is_none dd.name || is_set dd.kind
+abbrev pub is_unsupported_dd : DdCard → Bool
+is_unsupported_dd dd = is_none dd.name || is_set dd.kind
 
-abbrev pub has_later_dd : List DeckStep → Bool
-has_later_dd steps = list_any (λ step. list_any is_later_dd step.dds) steps
+abbrev pub has_unsupported_dd : List DeckStep → Bool
+has_unsupported_dd steps = list_any (λ step. list_any is_unsupported_dd step.dds) steps
 
-abbrev pub is_later : List DeckStep → Bool
-is_later steps = nat_lt 1 (length steps) || has_later_dd steps
+abbrev pub is_unsupported : List DeckStep → Bool
+is_unsupported steps = nat_lt 1 (length steps) || has_unsupported_dd steps
 
 -- The plan of a deck that is taken: `job_in` refuses the others below, so that what stands here for a set and for a called procedure is
 -- never looked at.
@@ -84,7 +84,7 @@ plan_of deck = record {
 }
 
 abbrev pub job_in : Deck → Result JobPlan Cause
-job_in deck = if calls_some deck.steps then Err (P NoSuchProcedure) else (if is_later deck.steps then Err (P LeftOut) else Ok (plan_of deck))
+job_in deck = if calls_some deck.steps then Err (P NoSuchProcedure) else (if is_unsupported deck.steps then Err (P LeftOut) else Ok (plan_of deck))
 
 abbrev pub job_by_deck : Result Deck Cause → Result JobPlan Cause
 job_by_deck (Ok deck) = job_in deck

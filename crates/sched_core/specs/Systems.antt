@@ -21,6 +21,12 @@ Answers (Ok lines) old new allows = allows lines new
 Answers (Err (Refused cause)) old new allows = allows (entry.Refused cause ∷ []) new
 Answers (Err Memory) old new allows = new ≡ old
 
+-- a refusal changes the count of events alone
+abbrev pub KeepsIfRefused : Result (List Entry) ApplyFault → World → World → Type 0
+KeepsIfRefused (Ok lines) old new = Unit {0}
+KeepsIfRefused (Err (Refused cause)) old new = new ≡ record old { events = new.events }
+KeepsIfRefused (Err Memory) old new = Unit {0}
+
 -- what the machine refuses is refused, and told as that, whether or not memory is wanting
 abbrev pub RefusesFirst : Result (List Entry) ApplyFault → (List Entry → World → Type 0) → Type 0
 RefusesFirst result allows = (cause : Cause) (new : World) → allows (entry.Refused cause ∷ []) new → result ≡ Err (Refused cause)

@@ -2,7 +2,7 @@
 ghost use Rattle.std.specs.Prelude.{◌≡◌, IfOk, map};
 ghost use Rattle.std.specs.List.{list_any};
 ghost use Rattle.jcl_parse.specs.Reading.{Gives};
-ghost use Rattle.sched_core.specs.Jobs.{calls, calls_some, dd_of, has_later_dd, is_later, is_later_dd, is_set, job_in, job_of, kind_of, plan_of, program_of, step_of};
+ghost use Rattle.sched_core.specs.Jobs.{calls, calls_some, dd_of, has_unsupported_dd, is_unsupported, is_unsupported_dd, is_set, job_in, job_of, kind_of, plan_of, program_of, step_of};
 
 use card_core::read::{ReadError as CardError, read_statements};
 use jcl_parse::dd::{DdCard, DdCardKind};
@@ -43,29 +43,29 @@ fn is_set(kind: &DdCardKind) -> bool
     }
 }
 
-fn is_later_dd(dd: &DdCard) -> bool
-    ensures { result ≡ is_later_dd dd.now }
+fn is_unsupported_dd(dd: &DdCard) -> bool
+    ensures { result ≡ is_unsupported_dd dd.now }
 {
     dd.name.is_none() || is_set(&dd.kind)
 }
 
-fn has_later(dds: &[DdCard]) -> bool
-    ensures { result ≡ list_any is_later_dd dds.now }
+fn has_unsupported_in(dds: &[DdCard]) -> bool
+    ensures { result ≡ list_any is_unsupported_dd dds.now }
 {
-    dds.iter().any(|dd| is_later_dd(dd))
+    dds.iter().any(|dd| is_unsupported_dd(dd))
 }
 
-fn has_later_dd(steps: &[DeckStep]) -> bool
-    ensures { result ≡ has_later_dd steps.now }
+fn has_unsupported_dd(steps: &[DeckStep]) -> bool
+    ensures { result ≡ has_unsupported_dd steps.now }
 {
-    steps.iter().any(|step| has_later(step.dds.as_slice()))
+    steps.iter().any(|step| has_unsupported_in(step.dds.as_slice()))
 }
 
 /// Whether the machine does not run these steps yet.
-fn is_later(steps: &[DeckStep]) -> bool
-    ensures { result ≡ is_later steps.now }
+fn is_unsupported(steps: &[DeckStep]) -> bool
+    ensures { result ≡ is_unsupported steps.now }
 {
-    1 < steps.len() || has_later_dd(steps)
+    1 < steps.len() || has_unsupported_dd(steps)
 }
 
 fn kind_of(kind: DdCardKind) -> DdKind
@@ -154,7 +154,7 @@ fn job_in(alloc: Global, deck: Deck) -> Result<JobPlan, ReadError>
     if calls_some(deck.steps.as_slice()) {
         return Err(ReadError::Refused(Cause::P(StatementFault::NoSuchProcedure)));
     }
-    if is_later(deck.steps.as_slice()) {
+    if is_unsupported(deck.steps.as_slice()) {
         return Err(ReadError::Refused(Cause::P(StatementFault::LeftOut)));
     }
     let plan = plan_of(alloc, deck)?;

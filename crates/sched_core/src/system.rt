@@ -6,7 +6,7 @@ ghost use Rattle.jcl_plan.specs.declared.entry.JobLine.TheVariants as line;
 ghost use Rattle.machine_meaning.specs.declared.machine.TheConstants.{MOST_JOBS};
 ghost use Rattle.machine_meaning.specs.Transitions.{Does, Reads, Transition, Turns, Writes, waits};
 ghost use Rattle.sched_core.specs.Jobs.{job_of};
-ghost use Rattle.sched_core.specs.Systems.{ActsAt, Answers, IsDriven, IsIdleAt, IsPlaceOf, IsTakenIn, RefusesFirst, RunsAt};
+ghost use Rattle.sched_core.specs.Systems.{ActsAt, Answers, IsDriven, IsIdleAt, IsPlaceOf, IsTakenIn, KeepsIfRefused, RefusesFirst, RunsAt};
 ghost use Rattle.jcl_meaning.specs.NoSets.{HasNoSets};
 
 use crate::config::Config;
@@ -145,6 +145,7 @@ impl System {
     fn read(&mut self, deck: &[Text]) -> Result<Listed<Entry>, ApplyFault>
         ensures answer { Answers result self.old self.new (Reads job_of self.old deck.now) }
         ensures refusal { RefusesFirst result (Reads job_of self.old deck.now) }
+        ensures kept { KeepsIfRefused result self.old self.new }
     {
         if MOST_JOBS <= self.jobs {
             return Err(ApplyFault::Refused(Cause::A(5)));
@@ -166,7 +167,8 @@ impl System {
         requires sets { HasNoSets plan }
         requires number { job ≤ MOST_JOBS }
         requires next { self.old.jobs < job }
-        ensures { Answers result self.old self.new (IsTakenIn self.old job plan) }
+        ensures answer { Answers result self.old self.new (IsTakenIn self.old job plan) }
+        ensures kept { KeepsIfRefused result self.old self.new }
     {
         let lines = one(self.alloc, Entry::Job(job, first_line(&plan)))?;
         let w = waiting_of(self.alloc, job, plan)?;
@@ -179,6 +181,7 @@ impl System {
     fn turn(&mut self, number: u8) -> Result<Listed<Entry>, ApplyFault>
         ensures answer { Answers result self.old self.new (Turns self.old number) }
         ensures refusal { RefusesFirst result (Turns self.old number) }
+        ensures kept { KeepsIfRefused result self.old self.new }
     {
         let Some(place) = place_of(self.initiators.as_slice(), number) else {
             return Err(ApplyFault::Refused(Cause::A(1)));
@@ -193,7 +196,8 @@ impl System {
     /// An initiator goes on with its job.
     fn go_on(&mut self, place: usize) -> Result<Listed<Entry>, ApplyFault>
         requires { RunsAt self.old place }
-        ensures { Answers result self.old self.new (ActsAt self.old place) }
+        ensures answer { Answers result self.old self.new (ActsAt self.old place) }
+        ensures kept { KeepsIfRefused result self.old self.new }
     {
         let lines = self.initiators[place].act(self.alloc, &mut self.spool)?;
         Ok(lines)
@@ -202,7 +206,8 @@ impl System {
     /// An idle initiator selects a job, if one waits for it.
     fn select(&mut self, place: usize) -> Result<Listed<Entry>, ApplyFault>
         requires { IsIdleAt self.old place }
-        ensures { Answers result self.old self.new (ActsAt self.old place) }
+        ensures answer { Answers result self.old self.new (ActsAt self.old place) }
+        ensures kept { KeepsIfRefused result self.old self.new }
     {
         let number = self.initiators[place].number();
         let classes = self.initiators[place].classes();
@@ -226,7 +231,8 @@ impl System {
 
     /// A writer writes a line of its class.
     fn write(&mut self, class: u8) -> Result<Listed<Entry>, ApplyFault>
-        ensures { Answers result self.old self.new (Writes self.old class) }
+        ensures answer { Answers result self.old self.new (Writes self.old class) }
+        ensures kept { KeepsIfRefused result self.old self.new }
     {
         let mut lines = Vec::with_capacity(self.alloc, 1)?;
         let Some((job, written)) = self.spool.write(class) else {
@@ -246,6 +252,7 @@ impl System {
     fn does(&mut self, event: &Event) -> Result<Listed<Entry>, ApplyFault>
         ensures answer { Answers result self.old self.new (Does job_of self.old event.now) }
         ensures refusal { RefusesFirst result (Does job_of self.old event.now) }
+        ensures kept { KeepsIfRefused result self.old self.new }
     {
         match event {
             Event::Read(deck) => self.read(deck.as_slice()),
@@ -258,6 +265,7 @@ impl System {
     pub fn apply(&mut self, event: &Event) -> Result<Listed<Entry>, ApplyFault>
         ensures answer { Answers result self.old self.new (Transition job_of self.old event.now) }
         ensures refusal { RefusesFirst result (Transition job_of self.old event.now) }
+        ensures kept { KeepsIfRefused result self.old self.new }
     {
         if MOST_EVENTS <= self.events {
             return Err(ApplyFault::Refused(Cause::A(5)));
@@ -275,14 +283,15 @@ impl System {
         ensures step { IfOk result (λ lines. Transition job_of self.old event.now lines self.new) }
         ensures err { OnErr result (self.new ≡ self.old) }
     {
-        let mut refusal = Vec::with_capacity(self.alloc, 1)?;
+        let events = self.events;
         match self.apply(event) {
             Ok(lines) => Ok(lines),
             Err(ApplyFault::Refused(cause)) => {
-                let Ok(()) = refusal.push(Entry::Refused(cause)) else {
-                    unreachable!();
-                };
-                Ok(Listed::new(refusal))
+                let shown = one(self.alloc, Entry::Refused(cause));
+                if shown.is_err() {
+                    self.events = events;
+                }
+                shown
             }
             Err(ApplyFault::Memory) => Err(AllocError),
         }

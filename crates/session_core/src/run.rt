@@ -11,9 +11,10 @@ use crate::configure::{configure, late_fault};
 use crate::listing::{Listing, MOST_HELD, Mark};
 use crate::stream::Sink;
 use crate::{SessionEnd, SessionFault};
+use jcl_plan::entry::Entry;
 use machine_meaning::event::Event;
 use sched_core::config::Config;
-use sched_core::system::System;
+use sched_core::system::{ApplyFault, System};
 use session_text::statement::{Says, Statement};
 use std::alloc::{AllocError, Global};
 use std::io::Write;
@@ -24,8 +25,11 @@ fn run_event(system: &mut System, event: &Event, listing: &mut Listing) -> Resul
     ensures err { OnErr result (listing.new.text.items ≡ listing.old.text.items) }
     ensures marks { listing.new.marks.items ≡ listing.old.marks.items }
 {
-    let entries = system.apply_shown(event)?;
-    listing.add(entries.as_slice())
+    match system.apply(event) {
+        Ok(entries) => listing.add(entries.as_slice()),
+        Err(ApplyFault::Refused(cause)) => listing.add(&[Entry::Refused(cause)]),
+        Err(ApplyFault::Memory) => Err(AllocError),
+    }
 }
 
 /// Applies an event so many times and lists its lines. With an `Err` it lists those of the first times.

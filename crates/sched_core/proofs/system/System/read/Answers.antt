@@ -33,7 +33,7 @@ returns-in-Ok-clause-answer c =
       jobs = c.self.inside.jobs;
       events = c.self.inside.events;
     } in
-    let taken = rw (← c.self.view_is) at c.take_in.ensures in
+    let taken = rw (← c.self.view_is) at c.take_in.ensures.answer in
     rw (← c.self.view_is)
     (answers_as c.take_in.result old c.take_in.new.self (IsTakenIn old (c.self.inside.jobs + 1) c.in-Ok.plan) (Reads job_of old c.args.deck.now)
     (λ lines w t. read c.in-Ok.plan few c.in-Ok.ensures t.0 t.1) taken)

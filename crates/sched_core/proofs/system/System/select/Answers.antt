@@ -23,8 +23,8 @@ start-requires c =
     let is : c.in-Some-2.w ≡ told at.0 (line.Selected c.number-number.result) = taken at.0 at.1.first.contained at.2 in
     subst HasNoSets (sym (ap (λ (v : Waiting). v.plan) is)) (selected_without_sets c.self.inside.waiting c.self.inside.jobs c.self.inside.events at.0 c.self.invariant at.1.first.contained)
 
-pub returns : goal.returns
-returns c = rw (← c.self.view_is, c.in_ok-w.ensures.left, c.start.ensures) (λ x stands.
+pub returns-clause-answer : goal.returns-clause-answer
+returns-clause-answer c = rw (← c.self.view_is, c.in_ok-w.ensures.left, c.start.ensures) (λ x stands.
     let initiators = c.self.inside.initiators.items in
     let at : SelectsJob c.self.inside.waiting c.as_slice.result.now c.in-Some.job = c.in-Some.ensures.some in
     let taken : IsTaken c.self.inside.waiting c.in-Some.job (line.Selected c.number-number.result) (Some c.in-Some-2.w) = subst (IsTaken c.self.inside.waiting c.in-Some.job (line.Selected c.number-number.result)) c.in-Some-2.is c.in_ok-w.ensures.ok in

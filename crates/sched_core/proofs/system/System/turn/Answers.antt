@@ -13,7 +13,7 @@ returns-then-has_job-clause-answer c =
     let there : slice_get c.self.inside.initiators.items c.in-Some.place ≡ Some x = rw (← c.as_slice.ensures.value) c.in-Some.ensures.some.1 in
     let stands : IsAt c.args.self.now c.in-Some.place x = rw (← c.self.view_is) there in
     answers_as c.go_on.result c.args.self.now c.go_on.new.self (ActsAt c.args.self.now c.in-Some.place) (Turns c.args.self.now c.args.number)
-    (λ lines w h. acts c.in-Some.place x stands c.in-Some.ensures.some.2 (h x stands)) c.go_on.ensures
+    (λ lines w h. acts c.in-Some.place x stands c.in-Some.ensures.some.2 (h x stands)) c.go_on.ensures.answer
 
 pub returns-else-has_job-clause-answer : goal.returns-else-has_job-clause-answer
 returns-else-has_job-clause-answer c =
@@ -21,7 +21,7 @@ returns-else-has_job-clause-answer c =
     let there : slice_get c.self.inside.initiators.items c.in-Some.place ≡ Some x = rw (← c.as_slice.ensures.value) c.in-Some.ensures.some.1 in
     let stands : IsAt c.args.self.now c.in-Some.place x = rw (← c.self.view_is) there in
     answers_as c.select.result c.args.self.now c.select.new.self (ActsAt c.args.self.now c.in-Some.place) (Turns c.args.self.now c.args.number)
-    (λ lines w h. acts c.in-Some.place x stands c.in-Some.ensures.some.2 (h x stands)) c.select.ensures
+    (λ lines w h. acts c.in-Some.place x stands c.in-Some.ensures.some.2 (h x stands)) c.select.ensures.answer
 
 pub returns-then-has_job-clause-refusal : goal.returns-then-has_job-clause-refusal
 returns-then-has_job-clause-refusal c = λ cause new refused.
