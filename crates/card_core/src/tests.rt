@@ -185,6 +185,11 @@ const CONTINUATIONS: &[(&str, &str)] = &[
         "//J JOB A,\n// B C                                                                 X\n// EXEC P\n// EXEC Q",
         "J|JOB|A,B / |EXEC|Q",
     ),
+    // 72 of the last of two, and no comment behind it
+    (
+        "//J JOB A,\n// B C                                                                 X\n//S EXEC P\n//T EXEC Q",
+        "J|JOB|A,B / S|EXEC|P / T|EXEC|Q",
+    ),
     // column 73 is not read
     (
         "//J JOB A B                                                             X\n// EXEC P",
