@@ -1,5 +1,6 @@
 -- What a write leaves as it was.
-use Rattle.std.proofs.Common.{◌≡◌, ℕ, suc, ◌+◌, ◌-◌, ◌<◌, true, false, ◌||◌, ◌==◌, List, [], ◌∷◌, length, drop, get_or, min, arith, refl, sym, ◌∙◌, ap, inl, inr, subst, length-drop}
+use Rattle.std.proofs.Common.{◌≡◌, ℕ, suc, ◌+◌, ◌-◌, ◌<◌, true, false, ◌||◌, ◌==◌, List, [], ◌∷◌}
+use Rattle.std.proofs.Common.{length, drop, get_or, min, arith, refl, sym, ◌∙◌, ap, inl, inr, subst, length-drop}
 use Rattle.std.specs.List.{list_any}
 use Rattle.std.proofs.lemmas.Bool.{and_from, and_left, and_parts, and_right, cases_Bool, le-ltb, lt-leb, or_left}
 use Rattle.std.proofs.lemmas.Grind.{same_number_lists}
@@ -46,6 +47,8 @@ zeros_stay f named k (x ∷ xs) (y ∷ ys) e others covered h =
     ] in
     and_from _ _ front (zeros_stay f named (k + 1) xs ys (omega arith) (λ m j at without. others m (suc j) (omega arith) without) covered parts.1)
 
-pub unused_stay_zero : (f : Field) (named : List Field) (old new : List ℕ) → ChangesOnly f old new → IsCovered f named → is_zero_but named old ≡ true → is_zero_but named new ≡ true
+pub unused_stay_zero : (f : Field) (named : List Field) (old new : List ℕ) → ChangesOnly f old new → IsCovered f named → is_zero_but named old ≡ true →
+    is_zero_but named new ≡ true
 unused_stay_zero f named old new change covered h =
-    zeros_stay f named 0 old new change.size (λ m j at without. let P : ℕ → Type 0 = λ n. get_or new n 0 ≡ get_or old n 0 in subst P (omega arith) (change.others m without)) covered h
+    zeros_stay f named 0 old new change.size (λ m j at without. let P : ℕ →
+      Type 0 = λ n. get_or new n 0 ≡ get_or old n 0 in subst P (omega arith) (change.others m without)) covered h

@@ -17,4 +17,5 @@ abbrev pub IsCovered : Field → List Field → Type 0
 IsCovered f named = (k : ℕ) → is_in f k ≡ true → list_any (λ g. is_in g k) named ≡ true
 
 abbrev pub UnusedStayZero : Type 0
-UnusedStayZero = (f : Field) (named : List Field) (old new : List ℕ) → ChangesOnly f old new → IsCovered f named → is_zero_but named old ≡ true → is_zero_but named new ≡ true
+UnusedStayZero = (f : Field) (named : List Field) (old new : List ℕ) → ChangesOnly f old new → IsCovered f named → is_zero_but named old ≡ true →
+    is_zero_but named new ≡ true

@@ -1,5 +1,6 @@
 -- Where the answer of a test changes.
-use Rattle.std.proofs.Common.{◌≡◌, ℕ, zero, suc, ◌+◌, ◌<◌, ◌⊎◌, Bool, true, false, ◌&&◌, nat_lt, [], ◌∷◌, get_or, Contains, arith, refl, sym, inl, inr, lit≤, subst}
+use Rattle.std.proofs.Common.{◌≡◌, ℕ, zero, suc, ◌+◌, ◌<◌, ◌⊎◌, Bool, true, false, ◌&&◌}
+use Rattle.std.proofs.Common.{nat_lt, [], ◌∷◌, get_or, Contains, arith, refl, sym, inl, inr, lit≤, subst}
 use Rattle.std.proofs.lemmas.Bool.Decides.{nat_tests}
 use Rattle.std.proofs.lemmas.Bool.{and_parts, lt-ltb}
 use Rattle.std.proofs.lemmas.List.Elements.{Contains-append_cases, Contains-append_left, Contains-append_right}
@@ -28,18 +29,21 @@ is_break_at o code e = Contains-append_left _ _ code (listed (changes_at o) code
 pub is_break_behind : (o : Operator) (code : ℕ) → changes_behind o ≡ true → code < 4095 → Contains (breaks_at o code) (code + 1)
 is_break_behind o code e h = Contains-append_right _ _ (code + 1) (listed (changes_behind o && nat_lt code 4095) (code + 1) (rw (e, lt-ltb code 4095 h) refl))
 
-pub break_cases : (o : Operator) (code r : ℕ) → Contains (breaks_at o code) r → ((changes_at o ≡ true) × (r ≡ code)) ⊎ ((changes_behind o ≡ true) × (r ≡ code + 1))
+pub break_cases : (o : Operator) (code r : ℕ) → Contains (breaks_at o code) r →
+    ((changes_at o ≡ true) × (r ≡ code)) ⊎ ((changes_behind o ≡ true) × (r ≡ code + 1))
 break_cases o code r h =
     elim (Contains-append_cases (listed_if (changes_at o) code) (listed_if (changes_behind o && nat_lt code 4095) (code + 1)) r h) [
       | inl left ↦ inl (of_listed (changes_at o) code r left)
-      | inr right ↦ let parts = of_listed (changes_behind o && nat_lt code 4095) (code + 1) r right in inr ((and_parts (changes_behind o) (nat_lt code 4095) parts.0).0, parts.1)
+      | inr right ↦ let parts = of_listed (changes_behind o && nat_lt code 4095) (code + 1) r right in
+          inr ((and_parts (changes_behind o) (nat_lt code 4095) parts.0).0, parts.1)
     ]
 
 -- between breaks the answer stays
 pub alike_before : (o : Operator) (code c : ℕ) → c < 4095 → ¬ (Contains (breaks_at o code) (c + 1)) → holds o code c ≡ holds o code (c + 1)
 alike_before o code c h none = by_operator o (λ e at. none (rw at (is_break_at o code e))) (λ e at. none (rw at (is_break_behind o code e (omega (arith, at)))))
   where
-    by_operator : (o : Operator) → (changes_at o ≡ true → c + 1 ≡ code → ⊥) → (changes_behind o ≡ true → c + 1 ≡ code + 1 → ⊥) → holds o code c ≡ holds o code (c + 1)
+    by_operator : (o : Operator) → (changes_at o ≡ true → c + 1 ≡ code → ⊥) → (changes_behind o ≡ true → c + 1 ≡ code + 1 → ⊥) →
+        holds o code c ≡ holds o code (c + 1)
     by_operator Gt at behind = let apart : c + 1 ≡ code → ⊥ = at refl in grind (arith, nat_tests)
     by_operator Ge at behind = let apart : c + 1 ≡ code + 1 → ⊥ = behind refl in grind (arith, nat_tests)
     by_operator Eq at behind = let apart : c + 1 ≡ code → ⊥ = at refl in let over : c + 1 ≡ code + 1 → ⊥ = behind refl in grind (arith, nat_tests)
@@ -68,5 +72,6 @@ pub apart_before : (o : Operator) (code c : ℕ) → Contains (breaks_at o code)
 apart_before o code c h same =
     elim (break_cases o code (c + 1) h) [
       | inl at ↦ (let P : ℕ → Type 0 = λ n. holds o n c ≡ holds o n (c + 1) in apart_at o c at.0 (subst P (sym at.1) same))
-      | inr behind ↦ (let is : c ≡ code = omega (arith, behind.1) in let P : ℕ → Type 0 = λ n. holds o code n ≡ holds o code (n + 1) in apart_behind o code behind.0 (subst P is same))
+      | inr behind ↦ (let is : c ≡ code = omega (arith, behind.1) in let P : ℕ →
+          Type 0 = λ n. holds o code n ≡ holds o code (n + 1) in apart_behind o code behind.0 (subst P is same))
     ]

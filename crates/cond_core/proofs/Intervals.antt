@@ -1,11 +1,13 @@
 -- Classes between the codes at which the answer of some test changes.
-use Rattle.std.proofs.Common.{◌≡◌, ℕ, zero, suc, ◌+◌, ◌-◌, ◌<◌, ◌≤◌, ◌⊎◌, true, false, List, [], ◌∷◌, ◌++◌, length, take, get_or, slice_get, Some, All, Contains, arith, refl, sym, ◌∙◌, ap, inl, inr, leb, subst}
+use Rattle.std.proofs.Common.{◌≡◌, ℕ, zero, suc, ◌+◌, ◌-◌, ◌<◌, ◌≤◌, ◌⊎◌, true, false, List, [], ◌∷◌, ◌++◌}
+use Rattle.std.proofs.Common.{length, take, get_or, slice_get, Some, All, Contains, arith, refl, sym, ◌∙◌, ap, inl, inr, leb, subst}
 use Rattle.std.specs.List.{flat_map}
 use Rattle.std.specs.List.Sorted.{IsPartitionedBy, IsPartitionPoint, IsStrictlyIncreasing}
 use Rattle.std.proofs.lemmas.Bool.{cases_lt, le-leb, leb-false, leb-true}
 use Rattle.std.proofs.lemmas.List.{append-nil, get_or_default, take_more}
 use Rattle.std.proofs.lemmas.Grind.{flat_map-append}
-use Rattle.std.proofs.lemmas.List.Elements.{All-cons, All-contains, All-nil, Contains-append_cases, Contains-append_left, Contains-append_right, Contains-get_or}
+use Rattle.std.proofs.lemmas.List.Elements.{All-cons, All-contains, All-nil}
+use Rattle.std.proofs.lemmas.List.Elements.{Contains-append_cases, Contains-append_left, Contains-append_right, Contains-get_or}
 use Rattle.std.proofs.lemmas.List.Kept.{AllPairs-from_increasing}
 use Rattle.jcl_plan.specs.declared.plan.Test.{Test}
 use Rattle.jcl_meaning.specs.History.{holds}
@@ -18,7 +20,8 @@ pub starts_more : (tests : List Test) (i : ℕ) (test : Test) (before behind : L
     before ≡ starts_of (take i tests) → behind ≡ before ++ breaks_of test → behind ≡ starts_of (take (i + 1) tests)
 starts_more tests i test before behind h e p q =
     let more : flat_map breaks_of (take (i + 1) tests) ≡ flat_map breaks_of (take i tests) ++ breaks_of test =
-    ap (λ ys. flat_map breaks_of ys) (take_more tests i test h ∙ ap (λ y. take i tests ++ y ∷ []) (sym e)) ∙ flat_map-append breaks_of (take i tests) (test ∷ [])
+    ap (λ ys. flat_map breaks_of ys) (take_more tests i test h ∙ ap (λ y. take i tests ++ y ∷ []) (sym e))
+    ∙ flat_map-append breaks_of (take i tests) (test ∷ [])
     ∙ ap (λ ys. flat_map breaks_of (take i tests) ++ ys) (append-nil (breaks_of test)) in
     q ∙ ap (λ ns. ns ++ breaks_of test) p ∙ ap (λ ys. 0 ∷ ys) (sym more)
 
@@ -28,7 +31,8 @@ in_breaks [] k c d h there = absurd (omega arith)
 in_breaks (t ∷ tests) zero c d h there = Contains-append_left (breaks_of t) (flat_map breaks_of tests) c there
 in_breaks (t ∷ tests) (suc k) c d h there = Contains-append_right (breaks_of t) (flat_map breaks_of tests) c (in_breaks tests k c d (omega arith) there)
 
-pub from_breaks : (tests : List Test) (c : ℕ) → Contains (flat_map breaks_of tests) c → (k : ℕ) × (k < length tests) × ((d : Test) → Contains (breaks_of (get_or tests k d)) c)
+pub from_breaks : (tests : List Test) (c : ℕ) → Contains (flat_map breaks_of tests) c → (k : ℕ) × (k < length tests) × ((d : Test) →
+    Contains (breaks_of (get_or tests k d)) c)
 from_breaks [] c h = absurd (omega (arith, h.1))
 from_breaks (t ∷ tests) c h =
     elim (Contains-append_cases (breaks_of t) (flat_map breaks_of tests) c h) [
@@ -52,21 +56,25 @@ from_starts tests c positive h =
 
 -- codes that no start stands between agree
 agree_next : (tests : List Test) (c : ℕ) → c < 4095 → ¬ (Contains (starts_of tests) (c + 1)) → Agree tests c (c + 1)
-agree_next tests c h none = λ k d p. alike_before (get_or tests k d).operator (get_or tests k d).code c h (λ there. none (in_starts tests (c + 1) (in_breaks tests k (c + 1) d p there)))
+agree_next tests c h none = λ k d p. alike_before (get_or tests k d).operator (get_or tests k d).code c h (λ there. none (in_starts tests (c + 1)
+    (in_breaks tests k (c + 1) d p there)))
 
-pub agree_above : (tests : List Test) (low n : ℕ) → low + n ≤ 4095 → ((c : ℕ) → low < c → c ≤ low + n → ¬ (Contains (starts_of tests) c)) → Agree tests low (low + n)
+pub agree_above : (tests : List Test) (low n : ℕ) → low + n ≤ 4095 → ((c : ℕ) → low < c → c ≤ low + n → ¬ (Contains (starts_of tests) c)) →
+    Agree tests low (low + n)
 agree_above tests low zero h none = let P : ℕ → Type 0 = λ m. Agree tests low m in subst P (omega arith) (λ k d p. refl)
 agree_above tests low (suc n) h none = λ k d p.
     agree_above tests low n (omega arith) (λ c l m. none c l (omega arith)) k d p
     ∙ (let next : Agree tests (low + n) (low + n + 1) = agree_next tests (low + n) (omega arith) (none (low + n + 1) (omega arith) (omega arith)) in
-    let P : ℕ → Type 0 = λ m. holds (get_or tests k d).operator (get_or tests k d).code (low + n) ≡ holds (get_or tests k d).operator (get_or tests k d).code m in
+    let P : ℕ → Type 0 = λ m. holds (get_or tests k d).operator (get_or tests k d).code (low + n) ≡ holds (get_or tests k d).operator (get_or tests k
+    d).code m in
     subst P (omega arith) (next k d p))
 
 -- a start but 0 is not like the code before it
 pub start_is_apart : (tests : List Test) (c : ℕ) → Contains (starts_of tests) (c + 1) → Agree tests c (c + 1) → ⊥
 start_is_apart tests c h agreed = at_break tests c (from_breaks tests (c + 1) (from_starts tests (c + 1) (omega arith) h)) agreed
   where
-    at_break : (tests : List Test) (c : ℕ) → (k : ℕ) × (k < length tests) × ((d : Test) → Contains (breaks_of (get_or tests k d)) (c + 1)) → Agree tests c (c + 1) → ⊥
+    at_break : (tests : List Test) (c : ℕ) → (k : ℕ) × (k < length tests) × ((d : Test) → Contains (breaks_of (get_or tests k d)) (c + 1)) →
+        Agree tests c (c + 1) → ⊥
     at_break [] c at agreed = omega (arith, at.1)
     at_break (t ∷ rest) c at agreed = let x = get_or (t ∷ rest) at.0 t in apart_before x.operator x.code c (at.2 t) (agreed at.0 t at.1)
 
@@ -145,7 +153,8 @@ class_there reps code h zero_in =
         omega arith
 
 -- a code agrees with the representative of its class
-agree_with_least : (tests : List Test) (reps : List ℕ) → ((c : ℕ) → Contains (starts_of tests) c → Contains reps c) → (r c : ℕ) → IsInClass reps r c → Agree tests r c
+agree_with_least : (tests : List Test) (reps : List ℕ) → ((c : ℕ) → Contains (starts_of tests) c → Contains reps c) → (r c : ℕ) → IsInClass reps r c →
+    Agree tests r c
 agree_with_least tests reps keeps r c h =
     let P : ℕ → Type 0 = λ m. Agree tests r m in
     let low : r ≤ c = h.from_least in
@@ -165,7 +174,13 @@ classes_of_starts tests reps rise keeps adds_none codes =
       are_codes = codes;
       in_one_class = λ code h. class_there reps code h zero_in;
       agree = λ r c d of_c of_d k x p. sym (agree_with_least tests reps keeps r c of_c k x p) ∙ agree_with_least tests reps keeps r d of_d k x p;
-      represent_themselves = λ k d p. record { is_code = codes k d p; begun = Contains-get_or reps k d p; from_least = omega arith; none_between = λ j e q low. low };
+      represent_themselves = λ k d p. record {
+        is_code = codes k d p;
+        begun = Contains-get_or reps k d p;
+        from_least = omega arith;
+        none_between =
+            λ j e q low. low;
+      };
       are_apart = λ k d p positive. is_apart (get_or reps k d) positive (adds_none (get_or reps k d) (Contains-get_or reps k d p));
     }
   where
@@ -180,7 +195,8 @@ classes_of_starts tests reps rise keeps adds_none codes =
 pub parted : (reps : List ℕ) (code : ℕ) → IsStrictlyIncreasing reps → IsPartitionedBy (λ r. leb r code) reps
 parted reps code rise i j d h p low =
     elim (cases_lt i j) [
-      | inl before ↦ (let below = AllPairs-from_increasing reps rise i j d before p in let most = leb-true (get_or reps j d) code low in le-leb (get_or reps i d) code (omega arith))
+      | inl before ↦ (let below = AllPairs-from_increasing reps rise i j d before p in let most = leb-true (get_or reps j d) code low in
+          le-leb (get_or reps i d) code (omega arith))
       | inr same ↦ (let is : i ≡ j = omega arith in let P : ℕ → Type 0 = λ m. leb (get_or reps m d) code ≡ true in subst P (sym is) low)
     ]
 

@@ -1,2 +1,3 @@
+pub mod Alike
 pub mod Changes
 pub mod Intervals

@@ -8,4 +8,5 @@ use Rattle.jcl_meaning.specs.declared.state.Ended.{Ended}
 use Rattle.jcl_meaning.specs.History.{abended, fate_of, some_satisfied}
 
 abbrev pub fate_after : Bool → List Test → List Ended → StepPlan → Fate
-fate_after faulted job_tests ended step = fate_of faulted (some_satisfied ended job_tests) step.after_abend (abended ended) (some_satisfied ended step.tests.items)
+fate_after faulted job_tests ended step = fate_of faulted (some_satisfied ended job_tests) step.after_abend (abended ended) (some_satisfied ended
+    step.tests.items)

@@ -1,3 +1,4 @@
 pub mod Breaks
 pub mod Classes
 pub mod Fates
+pub mod Laws

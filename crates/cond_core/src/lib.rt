@@ -3,5 +3,6 @@
 
 pub mod classes;
 pub mod history;
+pub mod laws;
 #[cfg(test)]
 mod tests;

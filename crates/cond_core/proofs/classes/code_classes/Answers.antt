@@ -14,7 +14,8 @@ made c =
     let moved = c.sort_unstable.ensures.permutation in
     let items = c.in_ok-representatives.ensures.items in
     let rise : IsStrictlyIncreasing c.dedup.new.self.items = rw is (IsStrictlyIncreasing-dedup _ c.sort_unstable.ensures.sorted) in
-    let codes : All (λ r. r ≤ 4095) c.dedup.new.self.items = rw is (All-dedup _ (λ r. r ≤ 4095) _ (All-permutation (λ r. r ≤ 4095) _ _ moved c.in_ok-representatives.ensures.codes)) in
+    let codes : All (λ r. r ≤ 4095) c.dedup.new.self.items = rw is (All-dedup _ (λ r. r ≤ 4095) _ (All-permutation (λ r. r ≤ 4095) _ _ moved
+    c.in_ok-representatives.ensures.codes)) in
     classes_of_starts c.args.tests.now c.dedup.new.self.items rise
     (λ x h. rw is (Contains-dedup_nat _ x (Contains-permutation _ _ x moved (rw items h))))
     (λ x h. rw items at (Contains-permutation _ _ x (IsPermutation-sym _ _ moved) (Contains-from_dedup _ _ x (rw is at h))))
