@@ -31,4 +31,4 @@ first_filled w n text h p =
     let is : w ≡ length text + k = omega arith in
     let most : k ≤ n - length text = omega arith in
     ap (λ m. take m (filled n text)) is ∙ take-append-add text (replicate (n - length text) 32) k ∙ ap (λ ys. text ++ ys) (take-replicate {X =
-      ℕ} k (n - length text) 32 most)
+    ℕ} k (n - length text) 32 most)

@@ -51,4 +51,4 @@ pub unused_stay_zero : (f : Field) (named : List Field) (old new : List ℕ) →
     is_zero_but named new ≡ true
 unused_stay_zero f named old new change covered h =
     zeros_stay f named 0 old new change.size (λ m j at without. let P : ℕ →
-      Type 0 = λ n. get_or new n 0 ≡ get_or old n 0 in subst P (omega arith) (change.others m without)) covered h
+    Type 0 = λ n. get_or new n 0 ≡ get_or old n 0 in subst P (omega arith) (change.others m without)) covered h
