@@ -58,7 +58,9 @@ fn has_unsupported_in(dds: &[DdCard]) -> bool
 fn has_unsupported_dd(steps: &[DeckStep]) -> bool
     ensures { result ≡ has_unsupported_dd steps.now }
 {
-    steps.iter().any(|step| has_unsupported_in(step.dds.as_slice()))
+    steps
+        .iter()
+        .any(|step| has_unsupported_in(step.dds.as_slice()))
 }
 
 /// Whether the machine does not run these steps yet.

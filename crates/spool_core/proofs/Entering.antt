@@ -1,11 +1,11 @@
 -- A set is entered under a key that had none.
 use Rattle.std.proofs.Common.{◌≡◌, ℕ, true, false, cond, List, [], ◌∷◌, ◌++◌, None, Some, All, filter, get_or, sym, ap, ◌∙◌, unwrap_or, append_assoc}
 use Rattle.std.proofs.lemmas.List.{append-nil, map-append}
-use Rattle.std.proofs.lemmas.List.Elements.{All-append, All-cons, All-nil}
+use Rattle.std.proofs.lemmas.List.Elements.{All-append, All-cons, All-nil, filter-append}
 use Rattle.std.proofs.lemmas.List.Quantifiers.{all_pairs_push}
 use Rattle.slab.specs.Slab.{Slab, Updates, get}
 use Rattle.machine_meaning.specs.declared.machine.SpoolSet.{SpoolSet}
-use Rattle.machine_meaning.specs.Spools.{has_lines}
+use Rattle.machine_meaning.specs.Spools.{has_lines, with_sets}
 use Rattle.spool_core.specs.declared.spool.Place.{Place}
 use Rattle.spool_core.specs.Places.{HasSet, Stand, no_set, set_under, sets_at}
 use Rattle.spool_core.proofs.Keeping.{Apart, same_sets, still_filled}
@@ -40,3 +40,10 @@ module _ (old new : Slab SpoolSet) (places : List Place) (place : Place) (set : 
 
 pub none_entered : (sets : List SpoolSet) (set : SpoolSet) → has_lines set ≡ false → sets ≡ sets ++ filter has_lines (set ∷ [])
 none_entered sets set none = sym (append-nil sets) ∙ ap (λ b. sets ++ cond b (set ∷ []) []) (sym none)
+
+-- what a job gives is entered
+pub job_entered : (first mid last spool : List SpoolSet) (set : SpoolSet) (more : List SpoolSet) → first ≡ spool → mid ≡ first ++ filter has_lines (set ∷ []) →
+    last ≡ mid ++ filter has_lines more → last ≡ with_sets spool (set ∷ more)
+job_entered first mid last spool set more is mid_is last_is =
+    last_is ∙ ap (λ l. l ++ filter has_lines more) (mid_is ∙ ap (λ l. l ++ filter has_lines (set ∷ [])) is)
+    ∙ append_assoc spool (filter has_lines (set ∷ [])) (filter has_lines more) ∙ ap (λ l. spool ++ l) (sym (filter-append has_lines (set ∷ []) more))

@@ -1,3 +1,4 @@
 mod Keeping
 mod Entering
+mod Filled
 mod Taking

@@ -1,5 +1,5 @@
 -- Where the sets of a spool lie, in the order in which they entered.
-use Rattle.std.specs.Prelude.{◌≡◌, ◌≢◌, ℕ, ◌+◌, ◌≤◌, true, List, [], take, map, All, AllPairs, slice_get, Some}
+use Rattle.std.specs.Prelude.{◌≡◌, ◌≢◌, ℕ, ◌+◌, ◌<◌, ◌≤◌, ◌==◌, ◌&&◌, Bool, true, List, [], length, filter, map, All, AllPairs, get_or, slice_get, Some, false}
 use Rattle.std.specs.Option.{unwrap_or}
 use Rattle.slab.specs.Slab.{HasRoomFor, Slab, get, slab_len}
 use Rattle.machine_meaning.specs.declared.machine.SpoolSet.{SpoolSet}
@@ -15,6 +15,14 @@ set_under sets key = unwrap_or (get sets key) no_set
 abbrev pub sets_at : Slab SpoolSet → List Place → List SpoolSet
 sets_at sets places = map (λ (p : Place). set_under sets p.key) places
 
+-- the places whose sets are not written out
+abbrev pub filled_places : List Place → List Place
+filled_places places = filter (λ (p : Place). p.filled) places
+
+-- a set of the class lies there
+abbrev pub is_of : ℕ → Place → Bool
+is_of class p = p.filled && p.class == class
+
 -- under the key lies a set of the class with lines
 pub record HasSet (sets : Slab SpoolSet) (place : Place) : Type 0 where
   pub of_class : (set_under sets place.key).class ≡ place.class
@@ -25,12 +33,20 @@ pub record Stand (sets : Slab SpoolSet) (places : List Place) : Type 0 where
   pub filled : All (HasSet sets) places
   pub apart : AllPairs (λ p q. p.key ≢ q.key) places
 
+-- no set of the class lies before this place
+abbrev pub NoneBefore : ℕ → ℕ → List Place → Type 0
+NoneBefore class from places = (k : ℕ) (d : Place) → k < from → k < length places → is_of class (get_or places k d) ≡ false
+
 -- the first place of a class
 pub record IsFirst (places : List Place) (class index : ℕ) : Type 0 where
   pub place : Place
   pub at : slice_get places index ≡ Some place
-  pub of_class : place.class ≡ class
-  pub none_before : All (λ p. p.class ≢ class) (take index places)
+  pub of_class : is_of class place ≡ true
+  pub none_before : NoneBefore class index places
+
+-- where the queue of each class begins
+abbrev pub AreStarts : List ℕ → List Place → Type 0
+AreStarts starts places = (class : ℕ) (d : ℕ) → class < length starts → (get_or starts class d ≤ length places) × NoneBefore class (get_or starts class d) places
 
 -- so many sets more may be entered without memory, where the list of places has this length and this room
 abbrev pub HasRoom : Slab SpoolSet → ℕ → ℕ → ℕ → Type 0

@@ -1,7 +1,8 @@
 //! The spool.
-ghost use Rattle.std.specs.Prelude.{◌≡◌, ◌≢◌, ◌+◌, ◌≤◌, ◌∷◌, ◌++◌, [], All, IfNone, IfSome, OnErr, OnOk, filter, length, map, vec_capacity};
+ghost use Rattle.std.specs.Prelude.{ℕ, List, ◌≡◌, ◌+◌, ◌≤◌, ◌∷◌, ◌++◌, [], IfNone, IfSome, OnErr, OnOk, filter, length, map, vec_capacity};
 ghost use Rattle.machine_meaning.specs.Spools.{HasNoSet, Takes, has_lines, output_set, sets_of, with_sets};
-ghost use Rattle.spool_core.specs.Places.{HasRoom, IsFirst, Stand, TakesRoom, sets_at};
+ghost use Rattle.spool_core.specs.declared.spool.Place.{Place};
+ghost use Rattle.spool_core.specs.Places.{AreStarts, HasRoom, IsFirst, NoneBefore, Stand, TakesRoom, filled_places, sets_at};
 
 use crate::queued::Queued;
 use jcl_meaning::state::Output;
@@ -12,12 +13,16 @@ use std::alloc::{AllocError, Global};
 use std::marker::Model;
 use std::mem::replace;
 
-/// The class of a set, and the key under which it lies.
+/// The class of a set, the key under which it lies, and whether it is still there: it is written out else.
 #[derive(Clone, Copy, Debug)]
 struct Place {
     class: u8,
     key: usize,
+    filled: bool,
 }
+
+/// The classes, by their byte.
+const CLASSES: usize = 256;
 
 /// Sets of lines, in the order in which their jobs ended.
 #[derive(Debug, Drop)]
@@ -25,18 +30,21 @@ pub struct Spool {
     alloc: Global,
     sets: Slab<Queued>,
     places: Vec<Place>,
+    /// Of each class a place before which none of its sets lies: where its queue begins, when it was last looked at.
+    starts: Vec<usize>,
 }
 
 impl Model for Spool {
     ghost use Rattle.std.specs.Prelude.{List};
     ghost use Rattle.machine_meaning.specs.declared.machine.SpoolSet.{SpoolSet};
-    ghost use Rattle.spool_core.specs.Places.{Stand, sets_at};
+    ghost use Rattle.spool_core.specs.declared.spool.Place.{Place};
+    ghost use Rattle.spool_core.specs.Places.{AreStarts, Stand, filled_places, sets_at};
 
     ghost Value = { List SpoolSet };
 
-    ghost view = { λ s. sets_at s.sets s.places.items };
+    ghost view = { λ s. sets_at s.sets (filled_places s.places.items) };
 
-    ghost invariant = { λ s. Stand s.sets s.places.items };
+    ghost invariant = { λ s. Stand s.sets (filled_places s.places.items) × AreStarts s.starts.items s.places.items };
 }
 
 impl Spool {
@@ -47,6 +55,7 @@ impl Spool {
             alloc,
             sets: Slab::new(alloc),
             places: Vec::new(alloc),
+            starts: Vec::new(alloc),
         }
     }
 
@@ -69,6 +78,7 @@ impl Spool {
             return Err(AllocError);
         };
         let alloc = self.alloc;
+        make_starts(&mut self.starts)?;
         self.sets.reserve(count)?;
         self.places.reserve(count)?;
         listing.push(last)?;
@@ -85,9 +95,13 @@ impl Spool {
         ensures some { IfSome result (λ r. Takes self.old class r.0 r.1 self.new) }
         ensures none { IfNone result (HasNoSet self.old class × (self.new ≡ self.old)) }
     {
-        let Some(index) = index_of(self.places.as_slice(), class) else {
+        let from = start_of(self.starts.as_slice(), class);
+        let Some(index) = index_of(self.places.as_slice(), class, from) else {
+            let behind = self.places.len();
+            set_start(&mut self.starts, class, behind);
             return None;
         };
+        set_start(&mut self.starts, class, index);
         let key = self.places[index].key;
         let Some(set) = self.sets.get_mut(key) else {
             unreachable!();
@@ -99,17 +113,48 @@ impl Spool {
             return Some(taken);
         }
         self.sets.remove(key);
-        self.places.remove(index);
+        self.places[index].filled = false;
         Some(taken)
+    }
+}
+
+/// Has a start for each class. An `Err` leaves some.
+fn make_starts(starts: &mut Vec<usize>) -> Result<(), AllocError>
+    ensures { (places : List Place) → AreStarts starts.old.items places → AreStarts starts.new.items places }
+{
+    for class in starts.len()..CLASSES {
+        let _ = class;
+        starts.push(0)?;
+    }
+    Ok(())
+}
+
+/// Where the search for a class begins.
+fn start_of(starts: &[usize], class: u8) -> usize
+    ensures { (places : List Place) → AreStarts starts.now places → NoneBefore class result places }
+{
+    match starts.get(usize::from(class)) {
+        None => 0,
+        Some(start) => *start,
+    }
+}
+
+/// From here on it begins at this place.
+fn set_start(starts: &mut Vec<usize>, class: u8, start: usize)
+    ensures { (places : List Place) → start ≤ length places → NoneBefore class start places → AreStarts starts.old.items places → AreStarts starts.new.items places }
+{
+    if usize::from(class) < starts.len() {
+        starts[usize::from(class)] = start;
     }
 }
 
 /// Puts a set behind the others, if it has lines.
 fn put(sets: &mut Slab<Queued>, places: &mut Vec<Place>, queued: Queued)
-    requires stand { Stand sets.old places.old.items }
+    requires stand { Stand sets.old (filled_places places.old.items) }
     requires room { HasRoom sets.old (length places.old.items) (vec_capacity places.old) 1 }
-    ensures stand { Stand sets.new places.new.items }
-    ensures entered { sets_at sets.new places.new.items ≡ sets_at sets.old places.old.items ++ filter has_lines (queued ∷ []) }
+    ensures stand { Stand sets.new (filled_places places.new.items) }
+    ensures entered { sets_at sets.new (filled_places places.new.items) ≡ sets_at sets.old (filled_places places.old.items) ++ filter has_lines (queued ∷ []) }
+    ensures starts { (starts : List ℕ) → AreStarts starts places.old.items → AreStarts starts places.new.items }
     ensures sets { TakesRoom sets.old sets.new }
     ensures places { length places.new.items ≤ length places.old.items + 1 }
     ensures room { vec_capacity places.new ≡ vec_capacity places.old }
@@ -117,16 +162,21 @@ fn put(sets: &mut Slab<Queued>, places: &mut Vec<Place>, queued: Queued)
     if queued.has_lines() {
         let class = queued.class();
         let key = sets.insert_reserved(queued);
-        places.push_reserved(Place { class, key });
+        places.push_reserved(Place {
+            class,
+            key,
+            filled: true,
+        });
     }
 }
 
 /// Puts the SYSOUT sets of a job behind the others.
 fn put_outputs(sets: &mut Slab<Queued>, places: &mut Vec<Place>, job: u16, outputs: Listed<Output>)
-    requires stand { Stand sets.old places.old.items }
+    requires stand { Stand sets.old (filled_places places.old.items) }
     requires room { HasRoom sets.old (length places.old.items) (vec_capacity places.old) (length outputs) }
-    ensures stand { Stand sets.new places.new.items }
-    ensures entered { sets_at sets.new places.new.items ≡ sets_at sets.old places.old.items ++ filter has_lines (map (output_set job) outputs) }
+    ensures stand { Stand sets.new (filled_places places.new.items) }
+    ensures entered { sets_at sets.new (filled_places places.new.items) ≡ sets_at sets.old (filled_places places.old.items) ++ filter has_lines (map (output_set job) outputs) }
+    ensures starts { (starts : List ℕ) → AreStarts starts places.old.items → AreStarts starts places.new.items }
 {
     for output in outputs.into_vec() {
         let queued = Queued::output(job, output);
@@ -134,15 +184,18 @@ fn put_outputs(sets: &mut Slab<Queued>, places: &mut Vec<Place>, job: u16, outpu
     }
 }
 
-/// Where the first place of a class stands.
-fn index_of(places: &[Place], class: u8) -> Option<usize>
+/// Where the first place of a class stands, behind those before which there is none.
+fn index_of(places: &[Place], class: u8, from: usize) -> Option<usize>
+    requires { NoneBefore class from places.now }
     ensures some { IfSome result (IsFirst places.now class) }
-    ensures none { IfNone result (All (λ p. p.class ≢ class) places.now) }
+    ensures none { IfNone result (NoneBefore class (length places.now) places.now) }
 {
-    for (index, place) in places.iter().enumerate() {
-        if place.class == class {
+    let mut index = from;
+    while index < places.len() {
+        if places[index].filled && places[index].class == class {
             return Some(index);
         }
+        index += 1;
     }
     None
 }

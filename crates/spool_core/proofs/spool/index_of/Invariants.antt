@@ -1,5 +1,9 @@
-use Rattle.std.proofs.Common.{◌≢◌, All, take}
+use Rattle.std.proofs.Common.{◌-◌, length}
+use Rattle.spool_core.specs.Places.{NoneBefore}
 use Rattle.spool_core.proofs.spool.index_of.Given as goal
 
 abbrev pub invariant-loop-index : goal.invariant-loop-index
-invariant-loop-index l = All (λ p. p.class ≢ l.class) (take l.index l.places)
+invariant-loop-index l = NoneBefore l.class l.index l.places
+
+abbrev pub decreases-loop-index : goal.decreases-loop-index
+decreases-loop-index l = length l.places - l.index
