@@ -38,7 +38,7 @@ struct Place {
 }
 
 /// The cards of these lines.
-fn cards_of(alloc: Global, lines: &[Card]) -> Result<Vec<DataCard>, ReadError>
+fn cards_of(alloc: Global, lines: &[Card<'_>]) -> Result<Vec<DataCard>, ReadError>
     ensures { Gives (λ v. v.items) result (cards_of lines.now) }
 {
     let mut cards = Vec::new(alloc);
@@ -108,7 +108,7 @@ fn statements(alloc: Global, cards: &[DataCard]) -> Result<Vec<Statement>, ReadE
 }
 
 /// The statements of a deck, to the null statement or the last card.
-pub fn read_statements(alloc: Global, cards: &[Card]) -> Result<Vec<Statement>, ReadError>
+pub fn read_statements(alloc: Global, cards: &[Card<'_>]) -> Result<Vec<Statement>, ReadError>
     ensures { Gives (λ v. v.items) result (statements_of cards.now) }
 {
     let cards = cards_of(alloc, cards)?;

@@ -1,9 +1,10 @@
 //! What cards are and what they say.
+use plain::lent::Lent;
 use plain::listed::Listed;
 use plain::text::Text;
 
 /// A line of a deck as it was read; it is taken as filled with blanks to 80 columns.
-pub type Card = Text;
+pub type Card<'a> = Lent<'a>;
 
 /// A data card: all 80 columns.
 pub type DataCard = [u8; 80];

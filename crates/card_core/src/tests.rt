@@ -1,16 +1,16 @@
 //! Decks at the edges of the rules, and what they are.
 use crate::read::{ReadError, read_statements};
 use crate::statement::{Card, DataCard, Statement};
-use plain::text::Text;
+use plain::lent::Lent;
 use std::alloc::{AllocError, Global};
 use std::process::Abort;
 use std::test::Fail;
 
 /// The lines of a text as cards.
-fn deck_of(alloc: Global, text: &str) -> Result<Vec<Card>, AllocError> {
+fn deck_of<'a>(alloc: Global, text: &'a str) -> Result<Vec<Card<'a>>, AllocError> {
     let mut deck = Vec::new(alloc);
     for line in text.split('\n') {
-        deck.push(Text::copy_of(alloc, line.as_bytes())?)?;
+        deck.push(Lent::new(line.as_bytes()))?;
     }
     Ok(deck)
 }
@@ -42,7 +42,7 @@ fn show_statement(out: &mut Vec<u8>, statement: &Statement) -> Result<(), AllocE
 }
 
 /// Shows the statements of a deck with ` / ` between them, or its fault as `Cn`.
-fn shown(alloc: Global, deck: &[Card]) -> Result<Vec<u8>, ReadError> {
+fn shown(alloc: Global, deck: &[Card<'_>]) -> Result<Vec<u8>, ReadError> {
     let mut out = Vec::new(alloc);
     match read_statements(alloc, deck) {
         Ok(statements) => {

@@ -3,14 +3,16 @@
 -- to its end tells B5 where its count differs. (This profile)
 use Rattle.std.specs.Prelude.{ℕ, suc, zero, ◌+◌, ◌*◌, ◌-◌, Bool, true, false, not, ◌&&◌, ◌||◌, ◌==◌, nat_le, nat_lt, min, bit_and, List, [], ◌∷◌, ◌++◌, take, drop, length, slice_index_or, Option, Some, None, is_none, Result, Ok, Err, if◌then◌else◌}
 use Rattle.std.specs.List.{list_all, list_any}
+use Rattle.jname_core.specs.Characters.{is_job_class, is_letter_or_digit}
 use Rattle.jname_core.specs.Faults.{ds_name_fault, is_no_serial, name8_fault}
 use Rattle.jname_core.specs.Generations.{has_generation_form}
+use Rattle.jcl_plan.specs.declared.outcome.TheConstants.{GREATEST_CODE}
 use Rattle.jcl_plan.specs.Texts.{trimmed}
 use Rattle.cb_meaning.specs.declared.layout.Field.{Field}
 use Rattle.cb_meaning.specs.declared.layout.Layout.{Layout}
 use Rattle.cb_meaning.specs.Fields.{byte_at, field, is_zero_but, number_at, number_of, part}
 use Rattle.cb_meaning.specs.Spelled.{Records, card_fields, card_record, common, jct, jct_fields, jfcb, jfcb_fields, sct, sct_fields, siot, status_bytes}
-use Rattle.cb_meaning.specs.Writable.{greatest_code, is_job_class, is_output_class, most_dds, most_tracks}
+use Rattle.cb_meaning.specs.Writable.{most_dds, most_tracks}
 
 -- the faults of one record, of which the lowest is told
 abbrev pub told_if : ℕ → Bool → List ℕ
@@ -74,7 +76,7 @@ in_parts zero width bytes = []
 in_parts (suc n) width bytes = take width bytes ∷ in_parts n width (drop width bytes)
 
 abbrev pub is_bad_test : List ℕ → Bool
-is_bad_test t = nat_lt (byte_at t 0) 1 || nat_lt 6 (byte_at t 0) || nat_lt greatest_code (number_of (part t 1 2))
+is_bad_test t = nat_lt (byte_at t 0) 1 || nat_lt 6 (byte_at t 0) || nat_lt GREATEST_CODE (number_of (part t 1 2))
 
 -- a test of a step that is not earlier than the k-th
 abbrev pub looks_forward : ℕ → List ℕ → Bool
@@ -92,7 +94,7 @@ jct_faults l r =
     told_if 6 (not (is_name (part r 16 8)))
     ++ told_if 8 (nat_lt 8 (byte_at r 24) || list_any is_bad_test (take (byte_at r 24) (jct_tests r)))
     ++ told_if 11 (not (byte_at r 8 == l.number))
-    ++ told_if 12 (not (is_job_class (byte_at r 9)) || nat_lt 13 (byte_at r 10) || not (is_output_class (byte_at r 11))
+    ++ told_if 12 (not (is_job_class (byte_at r 9)) || nat_lt 13 (byte_at r 10) || not (is_letter_or_digit (byte_at r 11))
     || not (are_zero (drop (byte_at r 24) (jct_tests r))) || not (is_zero_but (jct_fields l) r))
 
 -- SCT of the k-th step
@@ -161,7 +163,7 @@ siot_faults l units steps k d r =
     told_if 6 (if continues r then not (is_blank (part r 16 8)) else not (is_name (part r 16 8)))
     ++ told_if 7 (not (is_known_kind r) || (is_set r && set_words_bad r))
     ++ told_if 9 (is_set r && byte_at r 28 == 3 && not (is_earlier_set steps k d (number_at r (field 30 2)) (number_at r (field 32 2))))
-    ++ told_if 12 (nat_lt 7 (byte_at r 24) || (continues r && d == 1) || (is_set r && set_numbers_bad units r) || (is_sysout r && not (is_output_class (byte_at r 25)))
+    ++ told_if 12 (nat_lt 7 (byte_at r 24) || (continues r && d == 1) || (is_set r && set_numbers_bad units r) || (is_sysout r && not (is_letter_or_digit (byte_at r 25)))
     || (is_known_kind r && not (is_set r) && (has_space r || releases r)) || (is_known_kind r && not (is_zero_but (siot_fields_used l r) r)))
 
 -- JFCB of a DD, whose SIOT says how its volume is found

@@ -3,7 +3,9 @@
 use Rattle.std.specs.Prelude.{◌≡◌, ℕ, ◌+◌, ◌-◌, ◌<◌, ◌≤◌, ◌⊎◌, Bool, true, ◌&&◌, ◌||◌, nat_le, List, [], ◌∷◌, length, slice_get, Option, Some, None, All}
 use Rattle.jname_core.specs.declared.key.Key.{Key}
 use Rattle.jname_core.specs.declared.key.Key.TheVariants.{Named, Relative, Temporary, Unnamed}
+use Rattle.jname_core.specs.Characters.{is_job_class, is_letter_or_digit}
 use Rattle.jname_core.specs.Grammar.{IsDsNameWithin, IsName8, IsSerial}
+use Rattle.jcl_plan.specs.declared.outcome.TheConstants.{GREATEST_CODE}
 use Rattle.jcl_plan.specs.declared.plan.DdKind.{DdKind}
 use Rattle.jcl_plan.specs.declared.plan.DdKind.TheVariants.{Cards, Dummy, Set, Sysout}
 use Rattle.jcl_plan.specs.declared.plan.DdPlan.{DdPlan}
@@ -22,30 +24,20 @@ most_dds = 64
 abbrev pub most_tracks : ℕ
 most_tracks = 4000
 
-abbrev pub greatest_code : ℕ
-greatest_code = 4095
-
--- a class of jobs is A to O, one of output a letter or a digit
-abbrev pub is_job_class : ℕ → Bool
-is_job_class c = nat_le 65 c && nat_le c 79
-
-abbrev pub is_output_class : ℕ → Bool
-is_output_class c = (nat_le 65 c && nat_le c 90) || (nat_le 48 c && nat_le c 57)
-
 abbrev pub IsName : Option (List ℕ) → Type 0
 IsName None = Unit {0}
 IsName (Some name) = IsName8 name
 
 -- a test of the JOB statement names no step, one of a step none but an earlier one
 abbrev pub IsJobTest : Test → Type 0
-IsJobTest t = (t.code ≤ greatest_code) × (t.step ≡ None)
+IsJobTest t = (t.code ≤ GREATEST_CODE) × (t.step ≡ None)
 
 abbrev pub NamesEarlier : ℕ → Option ℕ → Type 0
 NamesEarlier k None = Unit {0}
 NamesEarlier k (Some step) = (1 ≤ step) × (step < k)
 
 abbrev pub IsStepTest : ℕ → Test → Type 0
-IsStepTest k t = (t.code ≤ greatest_code) × NamesEarlier k t.step
+IsStepTest k t = (t.code ≤ GREATEST_CODE) × NamesEarlier k t.step
 
 -- a DD that is for a set, by its numbers from 1
 abbrev pub kind_at : List StepPlan → ℕ → ℕ → Option DdKind
@@ -110,7 +102,7 @@ pub record IsCard (card : List ℕ) : Type 0 where
   pub printable : All (λ c. (32 ≤ c) × (c ≤ 126)) card
 
 abbrev pub IsKindAt : ℕ → List StepPlan → ℕ → ℕ → DdKind → Type 0
-IsKindAt units steps k d (Sysout class) = is_output_class class ≡ true
+IsKindAt units steps k d (Sysout class) = is_letter_or_digit class ≡ true
 IsKindAt units steps k d Dummy = Unit {0}
 IsKindAt units steps k d (Cards cards) = All IsCard cards
 IsKindAt units steps k d (Set p) = IsSetAt units steps k d p
@@ -146,7 +138,7 @@ pub record IsWritable (most_steps units : ℕ) (plan : JobPlan) : Type 0 where
   pub name : IsName8 plan.name
   pub class : is_job_class plan.class ≡ true
   pub priority : plan.priority ≤ 13
-  pub message_class : is_output_class plan.message_class ≡ true
+  pub message_class : is_letter_or_digit plan.message_class ≡ true
   pub tests : All IsJobTest plan.tests.items
   pub some_step : 1 ≤ length plan.steps
   pub few_steps : length plan.steps ≤ most_steps

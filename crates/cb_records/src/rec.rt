@@ -127,9 +127,10 @@ impl Rec {
     }
 
     /// Writes a field's bytes.
-    fn write_part(&mut self, f: Field, bytes: &[u8])
+    pub fn write_part(&mut self, f: Field, bytes: &[u8])
         requires within { IsWithin f }
         requires size { length bytes.now ≡ f.width }
+        ensures whole { length self.new ≡ RECORD_BYTES }
         ensures value { part self.new f.at f.width ≡ bytes.now }
         ensures others { ChangesOnly f self.old self.new }
     {

@@ -96,7 +96,8 @@ fn roll(generations: &mut Vec<Generation>, new: Generation)
     requires other { serial_of generations.old.items new.number ≡ None }
     requires falling { IsFalling 10000 generations.old.items }
     requires some { 0 < vec_len generations.old }
-    ensures rolled { (low : Generation) → lowest_of generations.old.items ≡ Some low → generations.new.items ≡ inserted new (without generations.old.items low.number) }
+    ensures rolled { (low : Generation) → lowest_of generations.old.items ≡ Some low →
+        generations.new.items ≡ inserted new (without generations.old.items low.number) }
     ensures falling { IsFalling 10000 generations.new.items }
 {
     generations.pop();
@@ -130,6 +131,21 @@ pub enum GroupFault {
     Memory,
 }
 
+impl Clone for Group {
+    ghost use Rattle.std.specs.Prelude.{◌≡◌};
+
+    ghost is_clone = { λ g copy. copy ≡ g };
+
+    fn clone(&self) -> Result<Group, AllocError> {
+        let alloc = *self.generations.allocator();
+        Ok(Group {
+            limit: self.limit,
+            scratch: self.scratch,
+            generations: Vec::from_slice(alloc, self.generations.as_slice())?,
+        })
+    }
+}
+
 impl Group {
     /// A group without a generation. A limit of 0 holds none.
     pub fn new(alloc: Global, limit: u8, scratch: bool) -> Group
@@ -140,17 +156,6 @@ impl Group {
             scratch,
             generations: Vec::new(alloc),
         }
-    }
-
-    /// The same group once more.
-    pub fn copy_of(&self, alloc: Global) -> Result<Group, AllocError>
-        ensures { IfOk result (λ g. g ≡ self.now) }
-    {
-        Ok(Group {
-            limit: self.limit,
-            scratch: self.scratch,
-            generations: Vec::from_slice(alloc, self.generations.as_slice())?,
-        })
     }
 
     /// How many generations it holds at most.
@@ -237,7 +242,8 @@ impl Group {
     pub fn remove(&mut self, number: u16) -> Result<(), GroupFault>
         ensures ok { OnOk result (self.new ≡ record self.old { generations = without self.old.generations number }) }
         ensures err { OnErr result (self.new ≡ self.old) }
-        ensures answer { MatchResult result (λ _. IsSome (serial_of self.old.generations number)) (λ fault. (fault ≡ GroupFault.NoGeneration) × (serial_of self.old.generations number ≡ None)) }
+        ensures answer { MatchResult result (λ _. IsSome (serial_of self.old.generations number))
+            (λ fault. (fault ≡ GroupFault.NoGeneration) × (serial_of self.old.generations number ≡ None)) }
     {
         match place_of(self.generations.as_slice(), number) {
             Some(place) => {

@@ -100,7 +100,7 @@ fn relative_numbers_are_resolved(rt: HostRuntime) -> Result<(), Fail> {
 #[test]
 fn generations_are_found_and_removed(rt: HostRuntime) -> Result<(), Fail> {
     let mut group = full_group(rt.alloc())?;
-    let copy = group.copy_of(rt.alloc())?;
+    let copy = group.clone()?;
     assert_eq!(rt; group.find(1), Some(volume("V1")?));
     assert_eq!(rt; group.find(3), None);
     assert_eq!(rt; group.remove(3), Err(GroupFault::NoGeneration));

@@ -1,12 +1,14 @@
 -- What is done of a job's agenda: jobs without sets.
-use Rattle.std.specs.Prelude.{◌≡◌, ℕ, true, false, List, [], ◌∷◌, drop, length, map, Option, Some, None}
+use Rattle.std.specs.Prelude.{◌≡◌, ℕ, ◌-◌, true, false, List, [], ◌∷◌, drop, length, map, slice_get, Option, Some, None}
 use Rattle.jcl_plan.specs.declared.entry.JobLine.{JobLine}
 use Rattle.jcl_plan.specs.declared.outcome.Outcome.{Outcome}
+use Rattle.jcl_plan.specs.declared.plan.DdPlan.{DdPlan}
 use Rattle.jcl_plan.specs.declared.plan.JobPlan.{JobPlan}
 use Rattle.jcl_plan.specs.declared.plan.StepPlan.{StepPlan}
 use Rattle.jcl_meaning.specs.declared.state.Own.{Own}
 use Rattle.jcl_meaning.specs.declared.state.Passed.{Passed}
 use Rattle.jcl_meaning.specs.Acts.{act}
+use Rattle.jcl_meaning.specs.EndActs.{disposes}
 use Rattle.jcl_meaning.specs.Agendas.{Action}
 use Rattle.jcl_meaning.specs.Programs.{ending_of}
 use Rattle.jcl_meaning.specs.States.{Done, State}
@@ -38,6 +40,11 @@ state_with outcomes own = state_in (record { done = 0; outcomes = outcomes; own 
 pub record Did (done : Done) (line : JobLine) (left : State) : Type 0 where
   pub lines : done.lines ≡ line ∷ []
   pub state : done.state ≡ left
+
+-- a DD of a step that runs was disposed of
+abbrev pub Disposes : Own → ℕ → ℕ → DdPlan → JobLine → Own → Type 0
+Disposes old n dd d said new = (volumes : List (List ℕ)) (plan : JobPlan) (outcomes : List Outcome) →
+    Did (disposes (slice_get old.dds (dd - 1)) (fixed_in volumes plan) n dd d.name d.kind (state_with outcomes old)) said (state_with outcomes new)
 
 -- the action at a place was done
 abbrev pub IsDone : JobPlan → Todo → Own → Own → Said → Type 0

@@ -24,7 +24,7 @@ use Rattle.init_core.specs.declared.job.JobStage.TheVariants as stage
 use Rattle.init_core.specs.declared.places.Todo.{Todo}
 use Rattle.init_core.specs.declared.said.Said.{Said}
 use Rattle.init_core.specs.Deeds.{HasAdvanced, IsDueAt, progress_of}
-use Rattle.init_core.specs.Jobs.{IsFit}
+use Rattle.init_core.specs.Jobs.{IsFit, running_of}
 use Rattle.init_core.specs.Places.{number_of}
 use Rattle.init_core.specs.Said.{line_of}
 
@@ -32,6 +32,11 @@ use Rattle.init_core.specs.Said.{line_of}
 pub record GoesOn (old : Running) (told : JobLine) (stage : Stage) (new : Running) (entries : List Entry) : Type 0 where
   pub entries_are : entries ≡ of_job old.job (told ∷ [])
   pub now : new ≡ record old { listing = old.listing ++ told ∷ []; stage = stage }
+
+-- a job that names no set is admitted
+abbrev pub IsAdmitted : Job → Job → List Entry → Type 0
+IsAdmitted old new entries =
+    GoesOn (running_of old) (line.Assured 0 (budget_of old.plan [])) (Admitted (first_progress old.plan [])) (running_of new) entries
 
 -- an admitted job wrote its next line, and is not over
 pub record HasStepped (old : Running) (p : Progress) (new : Running) (entries : List Entry) : Type 0 where

@@ -11,7 +11,7 @@ ghost use Rattle.jcl_meaning.specs.States.{at_step, others};
 ghost use Rattle.jcl_meaning.specs.TakeActs.{new_dd, started, takes};
 ghost use Rattle.jcl_meaning.specs.NoSets.{IsNoSet};
 ghost use Rattle.machine_meaning.specs.Turns.{fixed_in};
-ghost use Rattle.init_core.specs.Deeds.{Did, passed_or, state_with};
+ghost use Rattle.init_core.specs.Deeds.{Did, Disposes, passed_or, state_with};
 ghost use Rattle.init_core.specs.Said.{line_of};
 
 use crate::said::{Said, end_said};
@@ -191,8 +191,7 @@ pub fn dispose(
     requires no_set { IsNoSet d.now.kind }
     requires place { 0 < dd }
     requires taken { dd ≤ length own.old.dds }
-    ensures done { IfOk result (λ said. (volumes : List (List ℕ)) (plan : JobPlan) (outcomes : List Outcome) →
-        Did (disposes (slice_get own.old.dds (dd - 1)) (fixed_in volumes plan) n dd d.now.name d.now.kind (state_with outcomes own.old)) (line_of said) (state_with outcomes own.new)) }
+    ensures done { IfOk result (λ said. Disposes own.old n dd d.now (line_of said) own.new) }
     ensures own { OnOk result (own.new ≡ record own.old { outputs = own.new.outputs }) }
     ensures err { OnErr result (own.new ≡ own.old) }
 {
@@ -201,7 +200,7 @@ pub fn dispose(
     };
     match &d.kind {
         DdKind::Sysout(class) => {
-            let records = Listed::copy_of(alloc, x.spooled.as_slice())?;
+            let records = x.spooled.clone()?;
             let said = spool(own, n, dd, &d.name, *class, records)?;
             Ok(said)
         }

@@ -76,7 +76,7 @@ impl Initiator {
         });
     }
 
-    /// A turn of its job: its lines in the listing, and what a job that is over gives to the writers. With an `Err`, which is want of memory, nothing is changed.
+    /// A turn of its job: its lines in the listing, and what a job that is over gives to the writers. An `Err`, which is want of memory, changes nothing.
     pub fn act(&mut self, alloc: Global, spool: &mut Spool) -> Result<Listed<Entry>, AllocError>
         requires { self.old.running ≢ None }
         ensures ok { IfOk result (HasActed self.old self.new spool.old spool.new) }

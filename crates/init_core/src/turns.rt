@@ -8,7 +8,7 @@ ghost use Rattle.machine_meaning.specs.Turns.{first_progress};
 ghost use Rattle.init_core.specs.declared.job.JobStage.TheVariants as stage;
 ghost use Rattle.init_core.specs.declared.places.Todo.TheVariants.{Over};
 ghost use Rattle.init_core.specs.Deeds.{IsDueAt, Stands};
-ghost use Rattle.init_core.specs.Initiators.{EndsFrom, GoesOn, GoesOnFrom, HasTold, IsActionDue, IsDue, StaysFit, TurnsTo};
+ghost use Rattle.init_core.specs.Initiators.{EndsFrom, GoesOn, IsAdmitted, GoesOnFrom, HasTold, IsActionDue, IsDue, StaysFit, TurnsTo};
 ghost use Rattle.init_core.specs.Jobs.{IsFit, running_of, stage_of};
 ghost use Rattle.init_core.specs.Said.{line_of};
 
@@ -83,7 +83,7 @@ fn first_walk(alloc: Global, plan: &JobPlan) -> Walk
 /// A job without sets is admitted.
 fn admit(alloc: Global, r: &mut Job) -> Result<Listed<Entry>, AllocError>
     requires { IsFit r.old }
-    ensures ok { IfOk result (GoesOn (running_of r.old) (line.Assured 0 (budget_of r.old.plan [])) (Admitted (first_progress r.old.plan [])) (running_of r.new)) }
+    ensures ok { IfOk result (IsAdmitted r.old r.new) }
     ensures fit { OnOk result (IsFit r.new) }
     ensures err { OnErr result (r.new ≡ r.old) }
 {

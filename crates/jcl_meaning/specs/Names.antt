@@ -1,5 +1,5 @@
 -- The names that a job holds, and jobs that may run together. (This profile's rule)
-use Rattle.std.specs.Prelude.{ℕ, Bool, true, false, not, ◌&&◌, ◌||◌, ◌==◌, List, [], ◌∷◌, ◌++◌, IsTrue, Option, Some, None, if◌then◌else◌}
+use Rattle.std.specs.Prelude.{ℕ, Bool, true, false, not, ◌&&◌, ◌||◌, ◌==◌, List, [], ◌∷◌, ◌++◌, IsTrue, Option, Some, None, if◌then◌else◌, slice_index_or}
 use Rattle.std.specs.List.{list_all, flat_map}
 use Rattle.std.specs.Str.{bytes_eq}
 use Rattle.std.specs.Ordering.{nat_cmp}
@@ -117,6 +117,10 @@ with_name (there ∷ rest) h = entered_at (slice_cmp nat_cmp h.name there.name) 
 abbrev pub with_names : List HeldName → List HeldName → List HeldName
 with_names names [] = names
 with_names names (h ∷ hs) = with_names (with_name names h) hs
+
+-- a name of a list, asked for once more
+abbrev pub asked_again : List HeldName → ℕ → HeldName → HeldName
+asked_again names i wanted = held (slice_index_or names i wanted).name ((slice_index_or names i wanted).exclusive || wanted.exclusive)
 
 -- the names of a job, each once, in byte order
 abbrev pub names_of : JobPlan → List HeldName

@@ -1,5 +1,5 @@
 -- The store: sets by key and volume, and the catalog by name. (GC28-6704, "Cataloging data sets", "Generation data sets")
-use Rattle.std.specs.Prelude.{ℕ, ◌+◌, ◌/◌, min, Bool, true, false, ◌&&◌, nat_lt, nat_le, List, [], ◌∷◌, length, Option, Some, None, Result, Ok, Err, if◌then◌else◌}
+use Rattle.std.specs.Prelude.{ℕ, ◌+◌, min, Bool, true, false, ◌&&◌, nat_lt, nat_le, List, [], ◌∷◌, length, Option, Some, None, Result, Ok, Err, if◌then◌else◌}
 use Rattle.std.specs.Str.{bytes_eq}
 use Rattle.jname_core.specs.declared.key.Key.{Key}
 use Rattle.jname_core.specs.declared.key.Key.TheVariants.{Named, Relative, Temporary, Unnamed}
@@ -14,6 +14,7 @@ use Rattle.group_core.specs.declared.group.Rolled.TheVariants.{Entered, Removed,
 use Rattle.group_core.specs.Entries.{Member, found_by, group_in, member_by}
 use Rattle.group_core.specs.Groups.{GroupState, entered, resolved, with_entered, without}
 use Rattle.jcl_plan.specs.declared.fault.Fault.TheVariants.{F5, F9}
+use Rattle.jcl_plan.specs.Tracks.{tracks_for}
 use Rattle.jcl_meaning.specs.declared.state.Resolution.{Resolution}
 use Rattle.jcl_meaning.specs.declared.state.Resolution.TheVariants.{Means, Fails}
 use Rattle.jcl_meaning.specs.declared.store.DataSet.{DataSet}
@@ -137,10 +138,7 @@ name_entered s (Relative base sign amount) serial = s
 name_entered s (Temporary name) serial = s
 name_entered s (Unnamed step dd) serial = s
 
--- a set holds 32 records a track; a set that is cut keeps the tracks that its records fill
-abbrev pub tracks_for : ℕ → ℕ
-tracks_for records = (records + 31) / 32
-
+-- a set that is cut keeps the tracks that its records fill
 abbrev pub cut : DataSet → DataSet
 cut set = record { tracks = min set.tracks (tracks_for (length set.records)); expires = set.expires; records = set.records }
 

@@ -7,6 +7,7 @@ use Rattle.jname_core.specs.Grammar.{IsDotted}
 use Rattle.group_core.specs.declared.entry.CatEntry.{CatEntry}
 use Rattle.group_core.specs.declared.entry.CatEntry.TheVariants.{Volume, Group}
 use Rattle.group_core.specs.Groups.{GroupState, IsFalling}
+use Rattle.jcl_plan.specs.declared.outcome.TheConstants.{GREATEST_CODE}
 use Rattle.jcl_plan.specs.declared.plan.DdKind.{DdKind}
 use Rattle.jcl_plan.specs.declared.plan.DdKind.TheVariants.{Sysout, Dummy, Cards, Set}
 use Rattle.jcl_plan.specs.declared.plan.JobPlan.{JobPlan}
@@ -19,10 +20,6 @@ use Rattle.jcl_meaning.specs.declared.program.Request.{Request}
 use Rattle.jcl_meaning.specs.declared.program.Request.TheVariants.{Get, Put, End, Abend}
 use Rattle.jcl_meaning.specs.declared.program.SoloProgram.{SoloProgram}
 use Rattle.jcl_meaning.specs.Stores.{Store}
-
--- the greatest completion code, and the greatest code of a test
-abbrev pub greatest_code : ℕ
-greatest_code = 4095
 
 -- a group holds at most its limit of generations, whose numbers are 1 to 9999 and fall, the newest first
 pub record IsGroup (g : GroupState) : Type 0 where
@@ -62,7 +59,7 @@ IsDdKind (Cards cards) = Unit {0}
 IsDdKind (Set p) = IsKey p.key × IsVolumePlan p.volume
 
 abbrev pub AreTests : List Test → Type 0
-AreTests tests = All (λ test. test.code ≤ greatest_code) tests
+AreTests tests = All (λ test. test.code ≤ GREATEST_CODE) tests
 
 pub record IsStep (step : StepPlan) : Type 0 where
   pub tests : AreTests step.tests.items
@@ -76,8 +73,8 @@ pub record IsWellFormedPlan (plan : JobPlan) : Type 0 where
 abbrev pub IsRequest : Request → Type 0
 IsRequest (Get dd) = Unit {0}
 IsRequest (Put dd text) = Unit {0}
-IsRequest (End code) = code ≤ greatest_code
-IsRequest (Abend code) = code ≤ greatest_code
+IsRequest (End code) = code ≤ GREATEST_CODE
+IsRequest (Abend code) = code ≤ GREATEST_CODE
 
 abbrev pub AreWellFormedPrograms : List SoloProgram → Type 0
 AreWellFormedPrograms programs = All (λ program. All IsRequest program.requests) programs

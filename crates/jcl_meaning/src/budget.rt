@@ -1,14 +1,9 @@
 //! The most lines that a job writes. (This profile)
-ghost use Rattle.std.specs.Prelude.{◌≡◌, ◌+◌, ◌≤◌, ℕ, true, IfOk, List, length, sum_by};
+ghost use Rattle.std.specs.Prelude.{◌≡◌, ◌+◌, IfOk, List, length, sum_by};
 ghost use Rattle.jcl_plan.specs.declared.plan.JobPlan.{JobPlan};
 ghost use Rattle.jcl_meaning.specs.declared.program.SoloProgram.{SoloProgram};
-ghost use Rattle.jcl_meaning.specs.declared.solo.SoloAnswers.{SoloAnswers};
-ghost use Rattle.jcl_meaning.specs.declared.state.Place.{Place};
-ghost use Rattle.jcl_meaning.specs.declared.store.SoloStore.{SoloStore};
-ghost use Rattle.jcl_meaning.specs.Agendas.{Action, agenda, budget_of, passing, step_budget};
-ghost use Rattle.jcl_meaning.specs.LineCounts.{beside_faults};
-ghost use Rattle.jcl_meaning.specs.Solo.{is_clean, run, solo_of};
-ghost use Rattle.jcl_meaning.specs.States.{Fixed, State};
+ghost use Rattle.jcl_meaning.specs.Agendas.{agenda, budget_of, passing, step_budget};
+ghost use Rattle.jcl_meaning.specs.LineCounts.{CleanJobsKeepToTheirBudgets, CleanRunsKeepToTheirActions, RunsKeepToTheirActions};
 
 use crate::program::{SoloProgram, moves_of};
 use crate::words::passes;
@@ -102,7 +97,7 @@ pub fn budget_is_exact()
 /// A run writes no more lines than it has actions, beside the lines of a fault; without a fault no more at all, and so a job that meets
 /// none keeps to its budget.
 pub fn runs_keep_to_their_actions()
-    ensures lines { (fixed : Fixed) (actions : List Action) (s : State) → length (beside_faults (run fixed actions s).lines) ≤ length actions }
-    ensures clean { (fixed : Fixed) (actions : List Action) (s : State) → is_clean (run fixed actions s) ≡ true → length (run fixed actions s).lines ≤ length actions }
-    ensures budget { (plan : JobPlan) (store : SoloStore) (places : List Place) (programs : List SoloProgram) (answers : SoloAnswers) (date : ℕ) → is_clean (solo_of plan store places programs answers date) ≡ true → length (solo_of plan store places programs answers date).lines ≤ budget_of plan programs }
+    ensures lines { RunsKeepToTheirActions }
+    ensures clean { CleanRunsKeepToTheirActions }
+    ensures budget { CleanJobsKeepToTheirBudgets }
 {}

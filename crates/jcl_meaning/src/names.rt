@@ -1,7 +1,7 @@
 //! The names that a job holds. (This profile's rule)
-ghost use Rattle.std.specs.Prelude.{◌≡◌, ◌<◌, ◌≤◌, ◌||◌, IfOk, IfErr, OnOk, insert, length, slice_index_or, slice_set};
+ghost use Rattle.std.specs.Prelude.{◌≡◌, ◌<◌, ◌≤◌, IfOk, IfErr, OnOk, insert, length, slice_set};
 ghost use Rattle.std.specs.List.{flat_map};
-ghost use Rattle.jcl_meaning.specs.Names.{changes, changes_after_abend, dd_names, held, held_under, is_shr, is_temporary, names_of, same_key, same_sign, wants_alone, with_name, with_names};
+ghost use Rattle.jcl_meaning.specs.Names.{asked_again, changes, changes_after_abend, dd_names, held_under, is_shr, is_temporary, names_of, same_key, same_sign, wants_alone, with_name, with_names};
 
 use jcl_plan::plan::{ConditionalWord, DdKind, DdPlan, JobPlan, SetPlan, Status, VolumePlan, Word};
 use jname_core::ds_name::DsName;
@@ -121,7 +121,7 @@ fn wants_alone(p: &SetPlan) -> bool
 
 /// The place of a name in a list in byte order, or the place where it is to be.
 fn place_of(names: &[HeldName], wanted: &HeldName) -> Result<usize, usize>
-    ensures there { IfOk result (λ i. (i < length names.now) × (with_name names.now wanted.now ≡ slice_set names.now i (held (slice_index_or names.now i wanted.now).name ((slice_index_or names.now i wanted.now).exclusive || wanted.now.exclusive)))) }
+    ensures there { IfOk result (λ i. (i < length names.now) × (with_name names.now wanted.now ≡ slice_set names.now i (asked_again names.now i wanted.now))) }
     ensures missing { IfErr result (λ i. (i ≤ length names.now) × (with_name names.now wanted.now ≡ insert names.now i wanted.now)) }
 {
     for (i, there) in names.iter().enumerate() {

@@ -49,7 +49,7 @@ pub struct TakenSet {
 }
 
 /// A DD of the step at hand, once it is taken.
-#[derive(Debug, Drop)]
+#[derive(Clone, Debug, Drop)]
 pub struct DdState {
     pub number: usize,
     pub name: Option<Name8>,
@@ -62,22 +62,6 @@ pub struct DdState {
     pub written: bool,
     /// The records put to SYSOUT.
     pub spooled: Listed<Record>,
-}
-
-impl DdState {
-    pub fn copy_of(&self, alloc: Global) -> Result<DdState, AllocError>
-        ensures { IfOk result (λ x. x ≡ self.now) }
-    {
-        Ok(DdState {
-            number: self.number,
-            name: self.name,
-            taken: self.taken,
-            member: self.member,
-            position: self.position,
-            written: self.written,
-            spooled: Listed::copy_of(alloc, self.spooled.as_slice())?,
-        })
-    }
 }
 
 /// What is due at a device's end.

@@ -9,11 +9,8 @@ use jname_core::serial::Serial;
 use plain::listed::Listed;
 use std::alloc::{AllocError, Global};
 
-/// How many records a track holds. (This profile)
-pub const RECORDS_A_TRACK: usize = 32;
-
 /// A set on a volume: its tracks, the day (from 1900/001 as 0) before which it is not to be deleted, and its records.
-#[derive(Debug, Drop)]
+#[derive(Clone, Debug, Drop)]
 pub struct DataSet {
     pub tracks: u64,
     pub expires: Option<u32>,
@@ -21,7 +18,7 @@ pub struct DataSet {
 }
 
 /// A set of a store, by its volume and its key.
-#[derive(Debug, Drop)]
+#[derive(Clone, Debug, Drop)]
 pub struct SoloSet {
     pub serial: Serial,
     pub key: Key,
@@ -29,7 +26,7 @@ pub struct SoloSet {
 }
 
 /// An entry of a store's catalog.
-#[derive(Debug, Drop)]
+#[derive(Clone, Debug, Drop)]
 pub struct SoloEntry {
     pub name: DsName,
     pub entry: CatEntry,
@@ -43,52 +40,12 @@ pub struct SoloStore {
     pub catalog: Listed<SoloEntry>,
 }
 
-impl DataSet {
-    pub fn copy_of(&self, alloc: Global) -> Result<DataSet, AllocError>
-        ensures { IfOk result (λ set. set ≡ self.now) }
-    {
-        let records = Listed::copy_of(alloc, self.records.as_slice())?;
-        Ok(DataSet {
-            tracks: self.tracks,
-            expires: self.expires,
-            records,
-        })
-    }
-}
-
-impl SoloSet {
-    fn copy_of(&self, alloc: Global) -> Result<SoloSet, AllocError>
-        ensures { IfOk result (λ set. set ≡ self.now) }
-    {
-        Ok(SoloSet {
-            serial: self.serial,
-            key: self.key,
-            set: self.set.copy_of(alloc)?,
-        })
-    }
-}
-
-impl SoloEntry {
-    fn copy_of(&self, alloc: Global) -> Result<SoloEntry, AllocError>
-        ensures { IfOk result (λ entry. entry ≡ self.now) }
-    {
-        let entry = match &self.entry {
-            CatEntry::Volume(serial) => CatEntry::Volume(*serial),
-            CatEntry::Group(group) => CatEntry::Group(group.copy_of(alloc)?),
-        };
-        Ok(SoloEntry {
-            name: self.name,
-            entry,
-        })
-    }
-}
-
 fn copies_of_sets(alloc: Global, sets: &[SoloSet]) -> Result<Listed<SoloSet>, AllocError>
     ensures { IfOk result (λ copies. copies ≡ sets.now) }
 {
     let mut copies = Listed::empty(alloc);
     for set in sets {
-        copies.push(set.copy_of(alloc)?)?;
+        copies.push(set.clone()?)?;
     }
     Ok(copies)
 }
@@ -98,7 +55,7 @@ fn copies_of_entries(alloc: Global, entries: &[SoloEntry]) -> Result<Listed<Solo
 {
     let mut copies = Listed::empty(alloc);
     for entry in entries {
-        copies.push(entry.copy_of(alloc)?)?;
+        copies.push(entry.clone()?)?;
     }
     Ok(copies)
 }
@@ -107,7 +64,7 @@ impl SoloStore {
     pub fn copy_of(&self, alloc: Global) -> Result<SoloStore, AllocError>
         ensures { IfOk result (λ store. store ≡ self.now) }
     {
-        let volumes = Listed::copy_of(alloc, self.volumes.as_slice())?;
+        let volumes = self.volumes.clone()?;
         let sets = copies_of_sets(alloc, self.sets.as_slice())?;
         let catalog = copies_of_entries(alloc, self.catalog.as_slice())?;
         Ok(SoloStore {

@@ -2,7 +2,7 @@
 use Rattle.std.specs.Prelude.{ℕ, Bool, false, ◌==◌, List, [], ◌∷◌, ◌++◌, length, codes, Option, Some, None, is_some, unwrap_or, Result, if◌then◌else◌}
 use Rattle.std.specs.List.{flat_map}
 use Rattle.std.specs.Str.{bytes_eq}
-use Rattle.jname_core.specs.Characters.{is_between}
+use Rattle.jname_core.specs.Characters.{is_job_class}
 use Rattle.jname_core.specs.Decimals.{number_within}
 use Rattle.card_core.specs.declared.statement.Statement.{Statement}
 use Rattle.jcl_plan.specs.declared.fault.Cause.{Cause}
@@ -22,10 +22,9 @@ unsupported_on_job key = is_among (codes "COND" ∷ codes "MSGLEVEL" ∷ codes "
 abbrev pub left_out_on_job : List ℕ → Bool
 left_out_on_job key = is_among (codes "RD" ∷ codes "RESTART" ∷ codes "TYPRUN" ∷ codes "ROLL" ∷ []) key
 
--- A to O
-abbrev pub is_job_class : List ℕ → Bool
-is_job_class (c ∷ []) = is_between 65 79 c
-is_job_class _ = false
+abbrev pub is_class : List ℕ → Bool
+is_class (c ∷ []) = is_job_class c
+is_class _ = false
 
 -- 0 to 13 in decimal, zeros before it allowed
 abbrev pub is_priority : List ℕ → Bool
@@ -34,7 +33,7 @@ is_priority text = is_some (number_within 0 13 text)
 abbrev pub job_keyword_faults : Keyword → List Cause
 job_keyword_faults keyword =
     if unsupported_on_job keyword.key then P LeftOut ∷ []
-    else (if bytes_eq keyword.key (codes "CLASS") then value_faults is_job_class keyword.value
+    else (if bytes_eq keyword.key (codes "CLASS") then value_faults is_class keyword.value
     else (if bytes_eq keyword.key (codes "PRTY") then value_faults is_priority keyword.value
     else (if bytes_eq keyword.key (codes "MSGCLASS") then value_faults is_output_class keyword.value
     else unknown_faults left_out_on_job keyword.key)))

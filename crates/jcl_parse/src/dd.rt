@@ -235,7 +235,7 @@ fn cards_of(alloc: Global, cards: &Option<Listed<[u8; 80]>>) -> Result<Listed<[u
 {
     match cards {
         None => Ok(Listed::empty(alloc)),
-        Some(cards) => Ok(Listed::new(Vec::from_slice(alloc, cards.as_slice())?)),
+        Some(cards) => cards.clone(),
     }
 }
 

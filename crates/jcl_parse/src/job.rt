@@ -4,7 +4,7 @@ ghost use Rattle.std.specs.Option.{option_copied};
 ghost use Rattle.operand_core.specs.Faults.{told};
 ghost use Rattle.operand_core.specs.Keywords.{unknown_faults, value_faults, value_of};
 ghost use Rattle.operand_core.specs.Values.{is_output_class};
-ghost use Rattle.jcl_parse.specs.JobCards.{is_job_class, is_priority, job_keyword_faults, unsupported_on_job, left_out_on_job, job_card, job_faults, job_name_faults, job_of_statement, job_operand_faults, own_job_faults, priority_of};
+ghost use Rattle.jcl_parse.specs.JobCards.{is_class, is_priority, job_keyword_faults, unsupported_on_job, left_out_on_job, job_card, job_faults, job_name_faults, job_of_statement, job_operand_faults, own_job_faults, priority_of};
 ghost use Rattle.jcl_parse.specs.Reading.{Gives};
 ghost use Rattle.operand_core.specs.Reading.{Tells};
 
@@ -12,6 +12,7 @@ use crate::refusal::ReadError;
 use crate::rules::{Form, has_twice, keywords_fault};
 use card_core::statement::Statement;
 use jcl_plan::fault::{Cause, StatementFault};
+use jname_core::character::is_job_class;
 use jname_core::decimal::number_within;
 use jname_core::name8::Name8;
 use operand_core::fault::{earlier, long_fault, name_fault, when, written_name_fault};
@@ -51,11 +52,11 @@ fn left_out_on_job(key: &[u8]) -> bool
         || key == b"ROLL".as_slice()
 }
 
-fn is_job_class(value: &[u8]) -> bool
-    ensures { result ≡ is_job_class value.now }
+fn is_class(value: &[u8]) -> bool
+    ensures { result ≡ is_class value.now }
 {
     match value {
-        [c] => b'A' <= *c && *c <= b'O',
+        [c] => is_job_class(*c),
         _ => false,
     }
 }
@@ -76,11 +77,11 @@ fn priority_of(value: Option<&[u8]>) -> u8
 }
 
 fn job_class_fault(value: Option<&[u8]>) -> Option<Cause>
-    ensures { result ≡ told (value_faults is_job_class (option_copied value.entry)) }
+    ensures { result ≡ told (value_faults is_class (option_copied value.entry)) }
 {
     match value {
         None => None,
-        Some(value) => when(!is_job_class(value), Cause::P(StatementFault::BadValue)),
+        Some(value) => when(!is_class(value), Cause::P(StatementFault::BadValue)),
     }
 }
 

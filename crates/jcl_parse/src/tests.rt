@@ -8,6 +8,7 @@ use card_core::read::read_statements;
 use card_core::statement::{Card, Statement};
 use jcl_plan::fault::Cause;
 use jname_core::name8::Name8;
+use plain::lent::Lent;
 use plain::listed::Listed;
 use plain::text::Text;
 use std::alloc::{AllocError, Global};
@@ -173,10 +174,10 @@ fn statement_of(
 }
 
 /// The lines of a text as cards.
-fn cards_of(alloc: Global, text: &str) -> Result<Vec<Card>, AllocError> {
+fn cards_of<'a>(alloc: Global, text: &'a str) -> Result<Vec<Card<'a>>, AllocError> {
     let mut deck = Vec::new(alloc);
     for line in text.split('\n') {
-        deck.push(Text::copy_of(alloc, line.as_bytes())?)?;
+        deck.push(Lent::new(line.as_bytes()))?;
     }
     Ok(deck)
 }

@@ -1,5 +1,9 @@
--- The numbers of refusals of statements.
+-- The numbers of refusals.
 use Rattle.std.specs.Prelude.{ℕ}
+use Rattle.jcl_plan.specs.declared.fault.EventFault.{EventFault}
+use Rattle.jcl_plan.specs.declared.fault.EventFault.TheVariants.{NoSuchInitiator, NoSuchJob, NoSuchVolume, NothingUnderWay, PastLimit}
+use Rattle.jcl_plan.specs.declared.fault.QueueFault.{QueueFault}
+use Rattle.jcl_plan.specs.declared.fault.QueueFault.TheVariants.{Full, NotOwner, Selected}
 use Rattle.jcl_plan.specs.declared.fault.StatementFault.{StatementFault}
 use Rattle.jcl_plan.specs.declared.fault.StatementFault.TheVariants.{NotOneJob, MissingName, UnknownOperation, UnknownKeyword, KeywordTwice, BadValue, ExcludeOneAnother, UnbalancedParentheses, TooManyPositional, NotOneProgram, NoStep, DdBeforeExec, TooManyTests, CardsInProcedure, NothingToContinue, UnknownUnit, SeveralSerials, MemberName, LeftOut, NoSuchProcedure, ProcedureCallsProcedure, MissingPend, OverrideOutOfOrder, NoSuchProcedureStep, TooManyProcedures, SymbolWithoutValue, OperandTooLong, ReferenceToNothing, ForwardReference, TestOfNoEarlierStep, TooManySteps, TooManyDds, TooManyDdNames, TooManyNames}
 
@@ -38,3 +42,15 @@ number_of TooManySteps = 43
 number_of TooManyDds = 44
 number_of TooManyDdNames = 45
 number_of TooManyNames = 46
+
+abbrev pub queue_number : QueueFault → ℕ
+queue_number Full = 1
+queue_number NotOwner = 2
+queue_number Selected = 3
+
+abbrev pub event_number : EventFault → ℕ
+event_number NoSuchInitiator = 1
+event_number NoSuchJob = 2
+event_number NoSuchVolume = 3
+event_number NothingUnderWay = 4
+event_number PastLimit = 5

@@ -10,7 +10,7 @@ use Rattle.jcl_plan.specs.declared.fault.Fault.{Fault}
 use Rattle.jcl_plan.specs.declared.fault.Fault.TheVariants.{F1, F2, F3, F4, F5, F6, F7, F8, F9, F10}
 use Rattle.jcl_plan.specs.declared.fault.Cause.{Cause}
 use Rattle.jcl_plan.specs.declared.fault.Cause.TheVariants.{C, N, P, Q, B, A}
-use Rattle.jcl_plan.specs.Numbers.{number_of}
+use Rattle.jcl_plan.specs.Numbers.{event_number, number_of, queue_number}
 use Rattle.jcl_plan.specs.declared.words.TakeWord.{TakeWord}
 use Rattle.jcl_plan.specs.declared.words.TakeWord.TheVariants as take
 use Rattle.jcl_plan.specs.declared.words.DispWord.{DispWord}
@@ -21,9 +21,6 @@ use Rattle.jcl_plan.specs.declared.words.BackWord.TheVariants as back
 -- a number in at least so many digits
 abbrev pub digits : ℕ → ℕ → List ℕ
 digits width n = replicate (width - length (decimal n)) 48 ++ decimal n
-
-abbrev pub four_digits : ℕ → List ℕ
-four_digits n = digits 4 n
 
 abbrev pub onto_text : ℕ → List ℕ → List ℕ
 onto_text c [] = if c == 32 then [] else c ∷ []
@@ -70,9 +67,9 @@ abbrev pub cause_text : Cause → List ℕ
 cause_text (C n) = codes "C" ++ decimal n
 cause_text (N n) = codes "N" ++ decimal n
 cause_text (P fault) = codes "P" ++ decimal (number_of fault)
-cause_text (Q n) = codes "Q" ++ decimal n
+cause_text (Q fault) = codes "Q" ++ decimal (queue_number fault)
 cause_text (B n) = codes "B" ++ decimal n
-cause_text (A n) = codes "A" ++ decimal n
+cause_text (A fault) = codes "A" ++ decimal (event_number fault)
 
 abbrev pub abend_text : Abend → List ℕ
 abend_text abend.S222 = codes "S222"
@@ -81,11 +78,11 @@ abend_text abend.SB37 = codes "SB37"
 abend_text abend.SD37 = codes "SD37"
 abend_text abend.SFF0 = codes "SFF0"
 abend_text abend.SFF1 = codes "SFF1"
-abend_text (abend.User code) = codes "U" ++ four_digits code
+abend_text (abend.User code) = codes "U" ++ digits 4 code
 
 -- an outcome on a path
 abbrev pub outcome_text : Outcome → List ℕ
-outcome_text (outcome.Code code) = codes "C" ++ four_digits code
+outcome_text (outcome.Code code) = codes "C" ++ digits 4 code
 outcome_text (outcome.Abend a) = abend_text a
 outcome_text outcome.Bypassed = codes "B"
 outcome_text outcome.Flushed = codes "F"

@@ -1,6 +1,6 @@
 //! The numbers of refusals.
 ghost use Rattle.std.specs.Prelude.{◌≡◌};
-ghost use Rattle.jcl_plan.specs.Numbers.{number_of};
+ghost use Rattle.jcl_plan.specs.Numbers.{event_number, number_of, queue_number};
 
 use thiserror::Error;
 
@@ -146,6 +146,60 @@ impl StatementFault {
     }
 }
 
+/// A fault of the queue of records.
+#[derive(Clone, Copy, Debug, PartialEq, Eq, Error)]
+pub enum QueueFault {
+    #[error("too few records are free")]
+    Full,
+    #[error("the record has no owner")]
+    NotOwner,
+    #[error("the record's job is selected")]
+    Selected,
+}
+
+impl QueueFault {
+    /// Its number, n of `Qn`.
+    pub fn number(self) -> u8
+        ensures { result ≡ queue_number self }
+    {
+        match self {
+            QueueFault::Full => 1,
+            QueueFault::NotOwner => 2,
+            QueueFault::Selected => 3,
+        }
+    }
+}
+
+/// A fault of an event.
+#[derive(Clone, Copy, Debug, PartialEq, Eq, Error)]
+pub enum EventFault {
+    #[error("there is no such initiator")]
+    NoSuchInitiator,
+    #[error("there is no such job, or it is over")]
+    NoSuchJob,
+    #[error("there is no such volume")]
+    NoSuchVolume,
+    #[error("no operation is under way on the volume")]
+    NothingUnderWay,
+    #[error("there are no more events, or no more jobs")]
+    PastLimit,
+}
+
+impl EventFault {
+    /// Its number, n of `An`.
+    pub fn number(self) -> u8
+        ensures { result ≡ event_number self }
+    {
+        match self {
+            EventFault::NoSuchInitiator => 1,
+            EventFault::NoSuchJob => 2,
+            EventFault::NoSuchVolume => 3,
+            EventFault::NothingUnderWay => 4,
+            EventFault::PastLimit => 5,
+        }
+    }
+}
+
 /// Why a job, an event or a chain of records was refused: its letter and its number, as in `P11`.
 #[derive(Clone, Copy, Debug, PartialEq, Eq)]
 pub enum Cause {
@@ -156,9 +210,9 @@ pub enum Cause {
     /// Statements and what they refer to.
     P(StatementFault),
     /// The queue.
-    Q(u8),
+    Q(QueueFault),
     /// The chain of a job's records.
     B(u8),
     /// Events.
-    A(u8),
+    A(EventFault),
 }

@@ -3,6 +3,9 @@ ghost use Rattle.std.specs.Prelude.{◌≡◌, ◌≤◌, ◌<◌, MatchOption};
 
 use std::marker::Model;
 
+/// The greatest completion code, and the greatest code of a test. (COND parameter)
+pub const GREATEST_CODE: u16 = 4095;
+
 /// A completion code, or the code of a test: 0 to 4095. (COND parameter)
 #[derive(Clone, Copy, Debug, PartialEq, Eq, PartialOrd, Ord)]
 pub struct Code {
@@ -33,7 +36,7 @@ impl Code {
     pub fn new(number: u16) -> Option<Code>
         ensures { MatchOption result (4095 < number) (λ c. (c ≡ number) × (number ≤ 4095)) }
     {
-        if number <= 4095 {
+        if number <= GREATEST_CODE {
             Some(Code { value: number })
         } else {
             None

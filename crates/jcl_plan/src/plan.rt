@@ -13,6 +13,9 @@ use plain::listed::Listed;
 /// A record or a card: 80 columns.
 pub type Record = [u8; 80];
 
+/// How many records a track holds. (This profile)
+pub const RECORDS_A_TRACK: usize = 32;
+
 /// How a test compares its code with a completion code. (COND parameter)
 #[derive(Clone, Copy, Debug, PartialEq, Eq)]
 pub enum Operator {

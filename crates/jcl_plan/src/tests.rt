@@ -1,12 +1,13 @@
 use crate::day::Day;
 use crate::entry::{Entry, JobLine, Written};
-use crate::fault::{Cause, Fault, StatementFault};
+use crate::fault::{Cause, EventFault, Fault, QueueFault, StatementFault};
 use crate::outcome::{Abend, Code, Fate, Outcome};
 use crate::plan::Record;
 use crate::words::{BackWord, DispWord, TakeWord};
 use jname_core::ds_name::read_ds_name;
 use jname_core::name8::Name8;
 use jname_core::serial::Serial;
+use plain::draft::Draft;
 use plain::listed::Listed;
 use std::alloc::Global;
 use std::process::Abort;
@@ -35,9 +36,10 @@ fn record(text: &str) -> Record {
 
 /// Compares the line that the entry writes, with its line feed.
 fn assert_written(rt: &impl Abort, alloc: Global, entry: &Entry, text: &str) -> Result<(), Fail> {
-    let mut out = Vec::new(alloc);
+    let mut out = Draft::empty(alloc);
     entry.write_to(&mut out)?;
-    assert_eq!(rt; out.as_slice(), text.as_bytes(), "{text}");
+    out.keep();
+    assert_eq!(rt; out.kept(), text.as_bytes(), "{text}");
     Ok(())
 }
 
@@ -325,9 +327,10 @@ fn faults_are_numbered(rt: HostRuntime) -> Result<(), Fail> {
             step: 32,
             dd: 4,
         };
-        let mut out = Vec::new(rt.alloc());
+        let mut out = Draft::empty(rt.alloc());
         line.write_to(&mut out)?;
-        assert_eq!(rt; out.as_slice(), text.as_bytes(), "{text}");
+        out.keep();
+        assert_eq!(rt; out.kept(), text.as_bytes(), "{text}");
     }
     Ok(())
 }
@@ -338,9 +341,15 @@ fn causes_have_a_letter(rt: HostRuntime) -> Result<(), Fail> {
         (Cause::C(7), "-- REFUSED C7\n"),
         (Cause::N(4), "-- REFUSED N4\n"),
         (Cause::P(StatementFault::TooManyNames), "-- REFUSED P46\n"),
-        (Cause::Q(2), "-- REFUSED Q2\n"),
+        (Cause::Q(QueueFault::Full), "-- REFUSED Q1\n"),
+        (Cause::Q(QueueFault::NotOwner), "-- REFUSED Q2\n"),
+        (Cause::Q(QueueFault::Selected), "-- REFUSED Q3\n"),
         (Cause::B(12), "-- REFUSED B12\n"),
-        (Cause::A(5), "-- REFUSED A5\n"),
+        (Cause::A(EventFault::NoSuchInitiator), "-- REFUSED A1\n"),
+        (Cause::A(EventFault::NoSuchJob), "-- REFUSED A2\n"),
+        (Cause::A(EventFault::NoSuchVolume), "-- REFUSED A3\n"),
+        (Cause::A(EventFault::NothingUnderWay), "-- REFUSED A4\n"),
+        (Cause::A(EventFault::PastLimit), "-- REFUSED A5\n"),
     ] {
         assert_written(&rt, rt.alloc(), &Entry::Refused(cause), text)?;
     }

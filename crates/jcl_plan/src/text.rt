@@ -1,7 +1,9 @@
 //! The texts of lines, to the byte.
 ghost use Rattle.std.specs.Prelude.{◌≡◌, ◌≤◌, ◌++◌, ◌∷◌, [], OnOk, codes, decimal, length, take, replicate};
+ghost use Rattle.jcl_plan.specs.declared.entry.Entry.TheVariants as entry;
+ghost use Rattle.jcl_plan.specs.declared.entry.JobLine.TheVariants as line;
 ghost use Rattle.jcl_plan.specs.Lines.{entry_text, grown_text, job_line_text, line_text, text_of, written_text};
-ghost use Rattle.jcl_plan.specs.Texts.{abend_text, back_text, behind_blank, cause_text, digits, disp_text, fate_text, fault_text, four_digits, others_text, outcome_text, path_text, shown, step_shown, take_text, trimmed};
+ghost use Rattle.jcl_plan.specs.Texts.{abend_text, back_text, behind_blank, cause_text, digits, disp_text, fate_text, fault_text, others_text, outcome_text, path_text, shown, step_shown, take_text, trimmed};
 
 use crate::entry::{Entry, JobLine, Written};
 use crate::fault::{Cause, Fault};
@@ -12,36 +14,41 @@ use itoa::Buffer;
 use jname_core::ds_name::DsName;
 use jname_core::name8::Name8;
 use jname_core::serial::Serial;
+use plain::draft::Draft;
 use std::alloc::AllocError;
 
-fn push(out: &mut Vec<u8>, text: &[u8]) -> Result<(), AllocError>
-    ensures { OnOk result (out.new.items ≡ out.old.items ++ text.now) }
+fn push(out: &mut Draft, text: &[u8]) -> Result<(), AllocError>
+    ensures kept { out.new.kept ≡ out.old.kept }
+    ensures ok { OnOk result (out.new.begun ≡ out.old.begun ++ text.now) }
 {
-    out.extend_from_slice(text)
+    out.push(text)
 }
 
-fn push_number(out: &mut Vec<u8>, number: u64) -> Result<(), AllocError>
-    ensures { OnOk result (out.new.items ≡ out.old.items ++ decimal number) }
+fn push_number(out: &mut Draft, number: u64) -> Result<(), AllocError>
+    ensures kept { out.new.kept ≡ out.old.kept }
+    ensures ok { OnOk result (out.new.begun ≡ out.old.begun ++ decimal number) }
 {
     let mut buffer = Buffer::new();
-    out.extend_from_slice(buffer.format(number).as_bytes())
+    out.push(buffer.format(number).as_bytes())
 }
 
 /// A number in at least so many digits.
-fn push_digits(out: &mut Vec<u8>, width: usize, number: u16) -> Result<(), AllocError>
-    ensures { OnOk result (out.new.items ≡ out.old.items ++ digits width number) }
+fn push_digits(out: &mut Draft, width: usize, number: u16) -> Result<(), AllocError>
+    ensures kept { out.new.kept ≡ out.old.kept }
+    ensures ok { OnOk result (out.new.begun ≡ out.old.begun ++ digits width number) }
 {
     let mut buffer = Buffer::new();
     let text = buffer.format(number).as_bytes();
     push_zeros(out, width.saturating_sub(text.len()))?;
-    out.extend_from_slice(text)
+    out.push(text)
 }
 
-fn push_zeros(out: &mut Vec<u8>, count: usize) -> Result<(), AllocError>
-    ensures { OnOk result (out.new.items ≡ out.old.items ++ replicate count 48) }
+fn push_zeros(out: &mut Draft, count: usize) -> Result<(), AllocError>
+    ensures kept { out.new.kept ≡ out.old.kept }
+    ensures ok { OnOk result (out.new.begun ≡ out.old.begun ++ replicate count 48) }
 {
     for _ in 0..count {
-        out.push(b'0')?;
+        out.push_byte(b'0')?;
     }
     Ok(())
 }
@@ -58,19 +65,21 @@ fn trimmed_len(text: &[u8]) -> usize
     len
 }
 
-fn push_record(out: &mut Vec<u8>, text: &Record) -> Result<(), AllocError>
-    ensures { OnOk result (out.new.items ≡ out.old.items ++ behind_blank (trimmed text.now)) }
+fn push_record(out: &mut Draft, text: &Record) -> Result<(), AllocError>
+    ensures kept { out.new.kept ≡ out.old.kept }
+    ensures ok { OnOk result (out.new.begun ≡ out.old.begun ++ behind_blank (trimmed text.now)) }
 {
     let len = trimmed_len(text);
     if len == 0 {
         return Ok(());
     }
-    out.push(b' ')?;
-    out.extend_from_slice(&text[..len])
+    out.push_byte(b' ')?;
+    out.push(&text[..len])
 }
 
-fn push_shown(out: &mut Vec<u8>, name: &Option<Name8>) -> Result<(), AllocError>
-    ensures { OnOk result (out.new.items ≡ out.old.items ++ shown name.now) }
+fn push_shown(out: &mut Draft, name: &Option<Name8>) -> Result<(), AllocError>
+    ensures kept { out.new.kept ≡ out.old.kept }
+    ensures ok { OnOk result (out.new.begun ≡ out.old.begun ++ shown name.now) }
 {
     match name {
         None => push(out, b"-"),
@@ -79,11 +88,12 @@ fn push_shown(out: &mut Vec<u8>, name: &Option<Name8>) -> Result<(), AllocError>
 }
 
 fn push_step(
-    out: &mut Vec<u8>,
+    out: &mut Draft,
     name: &Option<Name8>,
     procedure_step: &Option<Name8>,
 ) -> Result<(), AllocError>
-    ensures { OnOk result (out.new.items ≡ out.old.items ++ step_shown name.now procedure_step.now) }
+    ensures kept { out.new.kept ≡ out.old.kept }
+    ensures ok { OnOk result (out.new.begun ≡ out.old.begun ++ step_shown name.now procedure_step.now) }
 {
     match procedure_step {
         None => push_shown(out, name),
@@ -122,28 +132,31 @@ fn fault_bytes(fault: Fault) -> &'static [u8]
     }
 }
 
-fn push_cause(out: &mut Vec<u8>, cause: Cause) -> Result<(), AllocError>
-    ensures { OnOk result (out.new.items ≡ out.old.items ++ cause_text cause) }
+fn push_cause(out: &mut Draft, cause: Cause) -> Result<(), AllocError>
+    ensures kept { out.new.kept ≡ out.old.kept }
+    ensures ok { OnOk result (out.new.begun ≡ out.old.begun ++ cause_text cause) }
 {
     match cause {
         Cause::C(number) => push_lettered(out, b"C", number),
         Cause::N(number) => push_lettered(out, b"N", number),
         Cause::P(fault) => push_lettered(out, b"P", fault.number()),
-        Cause::Q(number) => push_lettered(out, b"Q", number),
+        Cause::Q(fault) => push_lettered(out, b"Q", fault.number()),
         Cause::B(number) => push_lettered(out, b"B", number),
-        Cause::A(number) => push_lettered(out, b"A", number),
+        Cause::A(fault) => push_lettered(out, b"A", fault.number()),
     }
 }
 
-fn push_lettered(out: &mut Vec<u8>, letter: &[u8], number: u8) -> Result<(), AllocError>
-    ensures { OnOk result (out.new.items ≡ out.old.items ++ (letter.now ++ decimal number)) }
+fn push_lettered(out: &mut Draft, letter: &[u8], number: u8) -> Result<(), AllocError>
+    ensures kept { out.new.kept ≡ out.old.kept }
+    ensures ok { OnOk result (out.new.begun ≡ out.old.begun ++ (letter.now ++ decimal number)) }
 {
     push(out, letter)?;
     push_number(out, u64::from(number))
 }
 
-fn push_abend(out: &mut Vec<u8>, abend: Abend) -> Result<(), AllocError>
-    ensures { OnOk result (out.new.items ≡ out.old.items ++ abend_text abend) }
+fn push_abend(out: &mut Draft, abend: Abend) -> Result<(), AllocError>
+    ensures kept { out.new.kept ≡ out.old.kept }
+    ensures ok { OnOk result (out.new.begun ≡ out.old.begun ++ abend_text abend) }
 {
     match abend {
         Abend::S222 => push(out, b"S222"),
@@ -159,8 +172,9 @@ fn push_abend(out: &mut Vec<u8>, abend: Abend) -> Result<(), AllocError>
     }
 }
 
-fn push_outcome(out: &mut Vec<u8>, outcome: Outcome) -> Result<(), AllocError>
-    ensures { OnOk result (out.new.items ≡ out.old.items ++ outcome_text outcome) }
+fn push_outcome(out: &mut Draft, outcome: Outcome) -> Result<(), AllocError>
+    ensures kept { out.new.kept ≡ out.old.kept }
+    ensures ok { OnOk result (out.new.begun ≡ out.old.begun ++ outcome_text outcome) }
 {
     match outcome {
         Outcome::Code(code) => {
@@ -173,8 +187,9 @@ fn push_outcome(out: &mut Vec<u8>, outcome: Outcome) -> Result<(), AllocError>
     }
 }
 
-fn push_path(out: &mut Vec<u8>, path: &[Outcome]) -> Result<(), AllocError>
-    ensures { OnOk result (out.new.items ≡ out.old.items ++ path_text path.now) }
+fn push_path(out: &mut Draft, path: &[Outcome]) -> Result<(), AllocError>
+    ensures kept { out.new.kept ≡ out.old.kept }
+    ensures ok { OnOk result (out.new.begun ≡ out.old.begun ++ path_text path.now) }
 {
     let Some((first, others)) = path.split_first() else {
         return push(out, b"-");
@@ -183,8 +198,9 @@ fn push_path(out: &mut Vec<u8>, path: &[Outcome]) -> Result<(), AllocError>
     push_others(out, others)
 }
 
-fn push_others(out: &mut Vec<u8>, others: &[Outcome]) -> Result<(), AllocError>
-    ensures { OnOk result (out.new.items ≡ out.old.items ++ others_text others.now) }
+fn push_others(out: &mut Draft, others: &[Outcome]) -> Result<(), AllocError>
+    ensures kept { out.new.kept ≡ out.old.kept }
+    ensures ok { OnOk result (out.new.begun ≡ out.old.begun ++ others_text others.now) }
 {
     for outcome in others {
         push(out, b",")?;
@@ -193,8 +209,9 @@ fn push_others(out: &mut Vec<u8>, others: &[Outcome]) -> Result<(), AllocError>
     Ok(())
 }
 
-fn push_take(out: &mut Vec<u8>, word: &TakeWord) -> Result<(), AllocError>
-    ensures { OnOk result (out.new.items ≡ out.old.items ++ take_text word.now) }
+fn push_take(out: &mut Draft, word: &TakeWord) -> Result<(), AllocError>
+    ensures kept { out.new.kept ≡ out.old.kept }
+    ensures ok { OnOk result (out.new.begun ≡ out.old.begun ++ take_text word.now) }
 {
     match word {
         TakeWord::Made(serial) => push_two(out, b"MADE ", serial.as_slice()),
@@ -209,15 +226,17 @@ fn push_take(out: &mut Vec<u8>, word: &TakeWord) -> Result<(), AllocError>
     }
 }
 
-fn push_two(out: &mut Vec<u8>, first: &[u8], second: &[u8]) -> Result<(), AllocError>
-    ensures { OnOk result (out.new.items ≡ out.old.items ++ (first.now ++ second.now)) }
+fn push_two(out: &mut Draft, first: &[u8], second: &[u8]) -> Result<(), AllocError>
+    ensures kept { out.new.kept ≡ out.old.kept }
+    ensures ok { OnOk result (out.new.begun ≡ out.old.begun ++ (first.now ++ second.now)) }
 {
     push(out, first)?;
     push(out, second)
 }
 
-fn push_disp(out: &mut Vec<u8>, word: DispWord) -> Result<(), AllocError>
-    ensures { OnOk result (out.new.items ≡ out.old.items ++ disp_text word) }
+fn push_disp(out: &mut Draft, word: DispWord) -> Result<(), AllocError>
+    ensures kept { out.new.kept ≡ out.old.kept }
+    ensures ok { OnOk result (out.new.begun ≡ out.old.begun ++ disp_text word) }
 {
     match word {
         DispWord::Kept => push(out, b"KEPT"),
@@ -247,13 +266,9 @@ fn back_bytes(word: BackWord) -> &'static [u8]
 }
 
 /// A verb, a DD's number, its name and a blank: what TAKE, BACK, DISP and LEFT lines begin with.
-fn push_dd(
-    out: &mut Vec<u8>,
-    verb: &[u8],
-    dd: usize,
-    name: &Option<Name8>,
-) -> Result<(), AllocError>
-    ensures { OnOk result (out.new.items ≡ out.old.items ++ (verb.now ++ decimal dd ++ codes " " ++ shown name.now ++ codes " ")) }
+fn push_dd(out: &mut Draft, verb: &[u8], dd: usize, name: &Option<Name8>) -> Result<(), AllocError>
+    ensures kept { out.new.kept ≡ out.old.kept }
+    ensures ok { OnOk result (out.new.begun ≡ out.old.begun ++ (verb.now ++ decimal dd ++ codes " " ++ shown name.now ++ codes " ")) }
 {
     push(out, verb)?;
     push_number(out, dd as u64)?;
@@ -263,8 +278,9 @@ fn push_dd(
 }
 
 /// ` STEP s DD d`.
-fn push_place(out: &mut Vec<u8>, step: usize, dd: usize) -> Result<(), AllocError>
-    ensures { OnOk result (out.new.items ≡ out.old.items ++ (codes " STEP " ++ decimal step ++ codes " DD " ++ decimal dd)) }
+fn push_place(out: &mut Draft, step: usize, dd: usize) -> Result<(), AllocError>
+    ensures kept { out.new.kept ≡ out.old.kept }
+    ensures ok { OnOk result (out.new.begun ≡ out.old.begun ++ (codes " STEP " ++ decimal step ++ codes " DD " ++ decimal dd)) }
 {
     push(out, b" STEP ")?;
     push_number(out, step as u64)?;
@@ -272,15 +288,17 @@ fn push_place(out: &mut Vec<u8>, step: usize, dd: usize) -> Result<(), AllocErro
     push_number(out, dd as u64)
 }
 
-fn push_text_and_number(out: &mut Vec<u8>, text: &[u8], number: u64) -> Result<(), AllocError>
-    ensures { OnOk result (out.new.items ≡ out.old.items ++ (text.now ++ decimal number)) }
+fn push_text_and_number(out: &mut Draft, text: &[u8], number: u64) -> Result<(), AllocError>
+    ensures kept { out.new.kept ≡ out.old.kept }
+    ensures ok { OnOk result (out.new.begun ≡ out.old.begun ++ (text.now ++ decimal number)) }
 {
     push(out, text)?;
     push_number(out, number)
 }
 
-fn push_grown(out: &mut Vec<u8>, grown: &Option<u16>) -> Result<(), AllocError>
-    ensures { OnOk result (out.new.items ≡ out.old.items ++ grown_text grown.now) }
+fn push_grown(out: &mut Draft, grown: &Option<u16>) -> Result<(), AllocError>
+    ensures kept { out.new.kept ≡ out.old.kept }
+    ensures ok { OnOk result (out.new.begun ≡ out.old.begun ++ grown_text grown.now) }
 {
     match grown {
         None => Ok(()),
@@ -289,33 +307,37 @@ fn push_grown(out: &mut Vec<u8>, grown: &Option<u16>) -> Result<(), AllocError>
 }
 
 /// A request's word, its DD's name and what the request did.
-fn push_request(out: &mut Vec<u8>, verb: &[u8], name: &Name8, did: &[u8]) -> Result<(), AllocError>
-    ensures { OnOk result (out.new.items ≡ out.old.items ++ (verb.now ++ name.now ++ did.now)) }
+fn push_request(out: &mut Draft, verb: &[u8], name: &Name8, did: &[u8]) -> Result<(), AllocError>
+    ensures kept { out.new.kept ≡ out.old.kept }
+    ensures ok { OnOk result (out.new.begun ≡ out.old.begun ++ (verb.now ++ name.now ++ did.now)) }
 {
     push(out, verb)?;
     push(out, name.as_slice())?;
     push(out, did)
 }
 
-fn push_read(out: &mut Vec<u8>, name: &Name8, class: u8, priority: u8) -> Result<(), AllocError>
-    ensures { OnOk result (out.new.items ≡ out.old.items ++ (codes "READ " ++ name.now ++ codes " CLASS " ++ class ∷ [] ++ codes " PRTY " ++ digits 2 priority)) }
+fn push_read(out: &mut Draft, name: &Name8, class: u8, priority: u8) -> Result<(), AllocError>
+    ensures kept { out.new.kept ≡ out.old.kept }
+    ensures ok { OnOk result (out.new.begun ≡ out.old.begun ++ line_text (line.Read name.now class priority)) }
 {
     push_request(out, b"READ ", name, b" CLASS ")?;
-    out.push(class)?;
+    out.push_byte(class)?;
     push(out, b" PRTY ")?;
     push_digits(out, 2, u16::from(priority))
 }
 
-fn push_wait(out: &mut Vec<u8>, holder: u16, name: &DsName) -> Result<(), AllocError>
-    ensures { OnOk result (out.new.items ≡ out.old.items ++ (codes "WAIT NAMES " ++ four_digits holder ++ codes " " ++ name.now)) }
+fn push_wait(out: &mut Draft, holder: u16, name: &DsName) -> Result<(), AllocError>
+    ensures kept { out.new.kept ≡ out.old.kept }
+    ensures ok { OnOk result (out.new.begun ≡ out.old.begun ++ line_text (line.WaitNames holder name.now)) }
 {
     push(out, b"WAIT NAMES ")?;
     push_digits(out, 4, holder)?;
     push_two(out, b" ", name.as_slice())
 }
 
-fn push_assured(out: &mut Vec<u8>, tracks: usize, actions: usize) -> Result<(), AllocError>
-    ensures { OnOk result (out.new.items ≡ out.old.items ++ (codes "ASSURED " ++ decimal tracks ++ codes " TRACKS " ++ decimal actions ++ codes " ACTIONS")) }
+fn push_assured(out: &mut Draft, tracks: usize, actions: usize) -> Result<(), AllocError>
+    ensures kept { out.new.kept ≡ out.old.kept }
+    ensures ok { OnOk result (out.new.begun ≡ out.old.begun ++ line_text (line.Assured tracks actions)) }
 {
     push_text_and_number(out, b"ASSURED ", tracks as u64)?;
     push_text_and_number(out, b" TRACKS ", actions as u64)?;
@@ -323,13 +345,14 @@ fn push_assured(out: &mut Vec<u8>, tracks: usize, actions: usize) -> Result<(), 
 }
 
 fn push_risk(
-    out: &mut Vec<u8>,
+    out: &mut Draft,
     fault: Fault,
     step: usize,
     dd: usize,
     path: &[Outcome],
 ) -> Result<(), AllocError>
-    ensures { OnOk result (out.new.items ≡ out.old.items ++ (codes "RISK " ++ fault_text fault ++ codes " STEP " ++ decimal step ++ codes " DD " ++ decimal dd ++ codes " PATH " ++ path_text path.now)) }
+    ensures kept { out.new.kept ≡ out.old.kept }
+    ensures ok { OnOk result (out.new.begun ≡ out.old.begun ++ line_text (line.Risk fault step dd path.now)) }
 {
     push_two(out, b"RISK ", fault_bytes(fault))?;
     push_place(out, step, dd)?;
@@ -338,13 +361,14 @@ fn push_risk(
 }
 
 fn push_step_line(
-    out: &mut Vec<u8>,
+    out: &mut Draft,
     step: usize,
     name: &Option<Name8>,
     procedure_step: &Option<Name8>,
     fate: Fate,
 ) -> Result<(), AllocError>
-    ensures { OnOk result (out.new.items ≡ out.old.items ++ (codes "STEP " ++ decimal step ++ codes " " ++ step_shown name.now procedure_step.now ++ codes " " ++ fate_text fate)) }
+    ensures kept { out.new.kept ≡ out.old.kept }
+    ensures ok { OnOk result (out.new.begun ≡ out.old.begun ++ line_text (line.Step step name.now procedure_step.now fate)) }
 {
     push_text_and_number(out, b"STEP ", step as u64)?;
     push(out, b" ")?;
@@ -353,38 +377,42 @@ fn push_step_line(
 }
 
 fn push_take_line(
-    out: &mut Vec<u8>,
+    out: &mut Draft,
     dd: usize,
     name: &Option<Name8>,
     word: &TakeWord,
 ) -> Result<(), AllocError>
-    ensures { OnOk result (out.new.items ≡ out.old.items ++ (codes "TAKE " ++ decimal dd ++ codes " " ++ shown name.now ++ codes " " ++ take_text word.now)) }
+    ensures kept { out.new.kept ≡ out.old.kept }
+    ensures ok { OnOk result (out.new.begun ≡ out.old.begun ++ line_text (line.Take dd name.now word.now)) }
 {
     push_dd(out, b"TAKE ", dd, name)?;
     push_take(out, word)
 }
 
-fn push_fault(out: &mut Vec<u8>, fault: Fault, step: usize, dd: usize) -> Result<(), AllocError>
-    ensures { OnOk result (out.new.items ≡ out.old.items ++ (codes "FAULT " ++ fault_text fault ++ codes " STEP " ++ decimal step ++ codes " DD " ++ decimal dd)) }
+fn push_fault(out: &mut Draft, fault: Fault, step: usize, dd: usize) -> Result<(), AllocError>
+    ensures kept { out.new.kept ≡ out.old.kept }
+    ensures ok { OnOk result (out.new.begun ≡ out.old.begun ++ line_text (line.Fault fault step dd)) }
 {
     push_two(out, b"FAULT ", fault_bytes(fault))?;
     push_place(out, step, dd)
 }
 
-fn push_get_data(out: &mut Vec<u8>, name: &Name8, text: &Record) -> Result<(), AllocError>
-    ensures { OnOk result (out.new.items ≡ out.old.items ++ (codes "GET " ++ name.now ++ codes " DATA" ++ behind_blank (trimmed text.now))) }
+fn push_get_data(out: &mut Draft, name: &Name8, text: &Record) -> Result<(), AllocError>
+    ensures kept { out.new.kept ≡ out.old.kept }
+    ensures ok { OnOk result (out.new.begun ≡ out.old.begun ++ line_text (line.GetData name.now text.now)) }
 {
     push_request(out, b"GET ", name, b" DATA")?;
     push_record(out, text)
 }
 
 fn push_put_start(
-    out: &mut Vec<u8>,
+    out: &mut Draft,
     name: &Name8,
     serial: &Serial,
     grown: &Option<u16>,
 ) -> Result<(), AllocError>
-    ensures { OnOk result (out.new.items ≡ out.old.items ++ (codes "PUT " ++ name.now ++ codes " START " ++ serial.now ++ grown_text grown.now)) }
+    ensures kept { out.new.kept ≡ out.old.kept }
+    ensures ok { OnOk result (out.new.begun ≡ out.old.begun ++ line_text (line.PutStart name.now serial.now grown.now)) }
 {
     push_request(out, b"PUT ", name, b" START ")?;
     push(out, serial.as_slice())?;
@@ -392,13 +420,14 @@ fn push_put_start(
 }
 
 fn push_left(
-    out: &mut Vec<u8>,
+    out: &mut Draft,
     step: usize,
     dd: usize,
     name: &Option<Name8>,
     word: DispWord,
 ) -> Result<(), AllocError>
-    ensures { OnOk result (out.new.items ≡ out.old.items ++ (codes "LEFT " ++ decimal step ++ codes "." ++ decimal dd ++ codes " " ++ shown name.now ++ codes " " ++ disp_text word)) }
+    ensures kept { out.new.kept ≡ out.old.kept }
+    ensures ok { OnOk result (out.new.begun ≡ out.old.begun ++ line_text (line.Left step dd name.now word)) }
 {
     push_text_and_number(out, b"LEFT ", step as u64)?;
     push_dd(out, b".", dd, name)?;
@@ -406,31 +435,34 @@ fn push_left(
 }
 
 fn push_disp_line(
-    out: &mut Vec<u8>,
+    out: &mut Draft,
     dd: usize,
     name: &Option<Name8>,
     word: DispWord,
 ) -> Result<(), AllocError>
-    ensures { OnOk result (out.new.items ≡ out.old.items ++ (codes "DISP " ++ decimal dd ++ codes " " ++ shown name.now ++ codes " " ++ disp_text word)) }
+    ensures kept { out.new.kept ≡ out.old.kept }
+    ensures ok { OnOk result (out.new.begun ≡ out.old.begun ++ line_text (line.Disp dd name.now word)) }
 {
     push_dd(out, b"DISP ", dd, name)?;
     push_disp(out, word)
 }
 
 fn push_back(
-    out: &mut Vec<u8>,
+    out: &mut Draft,
     dd: usize,
     name: &Option<Name8>,
     word: BackWord,
 ) -> Result<(), AllocError>
-    ensures { OnOk result (out.new.items ≡ out.old.items ++ (codes "BACK " ++ decimal dd ++ codes " " ++ shown name.now ++ codes " " ++ back_text word)) }
+    ensures kept { out.new.kept ≡ out.old.kept }
+    ensures ok { OnOk result (out.new.begun ≡ out.old.begun ++ line_text (line.Back dd name.now word)) }
 {
     push_dd(out, b"BACK ", dd, name)?;
     push(out, back_bytes(word))
 }
 
-fn push_code(out: &mut Vec<u8>, code: Code) -> Result<(), AllocError>
-    ensures { OnOk result (out.new.items ≡ out.old.items ++ (codes "CODE " ++ four_digits code)) }
+fn push_code(out: &mut Draft, code: Code) -> Result<(), AllocError>
+    ensures kept { out.new.kept ≡ out.old.kept }
+    ensures ok { OnOk result (out.new.begun ≡ out.old.begun ++ line_text (line.Code code)) }
 {
     push(out, b"CODE ")?;
     push_digits(out, 4, code.number())
@@ -438,8 +470,9 @@ fn push_code(out: &mut Vec<u8>, code: Code) -> Result<(), AllocError>
 
 impl JobLine {
     /// Puts the line's text, behind the job's number, at the end. An `Err` may leave a part of it.
-    pub fn write_to(&self, out: &mut Vec<u8>) -> Result<(), AllocError>
-        ensures ok { OnOk result (out.new.items ≡ out.old.items ++ line_text self.now) }
+    pub fn write_to(&self, out: &mut Draft) -> Result<(), AllocError>
+        ensures kept { out.new.kept ≡ out.old.kept }
+        ensures ok { OnOk result (out.new.begun ≡ out.old.begun ++ line_text self.now) }
     {
         match self {
             JobLine::Read {
@@ -500,38 +533,43 @@ impl JobLine {
     }
 }
 
-fn push_rejected(out: &mut Vec<u8>, cause: Cause) -> Result<(), AllocError>
-    ensures { OnOk result (out.new.items ≡ out.old.items ++ (codes "REJECTED " ++ cause_text cause)) }
+fn push_rejected(out: &mut Draft, cause: Cause) -> Result<(), AllocError>
+    ensures kept { out.new.kept ≡ out.old.kept }
+    ensures ok { OnOk result (out.new.begun ≡ out.old.begun ++ line_text (line.Rejected cause)) }
 {
     push(out, b"REJECTED ")?;
     push_cause(out, cause)
 }
 
-fn push_get_start(out: &mut Vec<u8>, name: &Name8, serial: &Serial) -> Result<(), AllocError>
-    ensures { OnOk result (out.new.items ≡ out.old.items ++ (codes "GET " ++ name.now ++ codes " START " ++ serial.now)) }
+fn push_get_start(out: &mut Draft, name: &Name8, serial: &Serial) -> Result<(), AllocError>
+    ensures kept { out.new.kept ≡ out.old.kept }
+    ensures ok { OnOk result (out.new.begun ≡ out.old.begun ++ line_text (line.GetStart name.now serial.now)) }
 {
     push_request(out, b"GET ", name, b" START ")?;
     push(out, serial.as_slice())
 }
 
-fn push_abend_line(out: &mut Vec<u8>, abend: Abend) -> Result<(), AllocError>
-    ensures { OnOk result (out.new.items ≡ out.old.items ++ (codes "ABEND " ++ abend_text abend)) }
+fn push_abend_line(out: &mut Draft, abend: Abend) -> Result<(), AllocError>
+    ensures kept { out.new.kept ≡ out.old.kept }
+    ensures ok { OnOk result (out.new.begun ≡ out.old.begun ++ line_text (line.Abend abend)) }
 {
     push(out, b"ABEND ")?;
     push_abend(out, abend)
 }
 
 /// A job's line with the job's number.
-fn push_job_line(out: &mut Vec<u8>, job: u16, line: &JobLine) -> Result<(), AllocError>
-    ensures { OnOk result (out.new.items ≡ out.old.items ++ job_line_text job line.now) }
+fn push_job_line(out: &mut Draft, job: u16, line: &JobLine) -> Result<(), AllocError>
+    ensures kept { out.new.kept ≡ out.old.kept }
+    ensures ok { OnOk result (out.new.begun ≡ out.old.begun ++ job_line_text job line.now) }
 {
     push_digits(out, 4, job)?;
     push(out, b" ")?;
     line.write_to(out)
 }
 
-fn push_written(out: &mut Vec<u8>, job: u16, written: &Written) -> Result<(), AllocError>
-    ensures { OnOk result (out.new.items ≡ out.old.items ++ written_text job written.now) }
+fn push_written(out: &mut Draft, job: u16, written: &Written) -> Result<(), AllocError>
+    ensures kept { out.new.kept ≡ out.old.kept }
+    ensures ok { OnOk result (out.new.begun ≡ out.old.begun ++ written_text job written.now) }
 {
     match written {
         Written::Line(line) => {
@@ -542,23 +580,19 @@ fn push_written(out: &mut Vec<u8>, job: u16, written: &Written) -> Result<(), Al
     }
 }
 
-fn push_writer(out: &mut Vec<u8>, class: u8, job: u16, written: &Written) -> Result<(), AllocError>
-    ensures { OnOk result (out.new.items ≡ out.old.items ++ (codes "-- WRITER " ++ class ∷ [] ++ codes " " ++ four_digits job ++ written_text job written.now)) }
+fn push_writer(out: &mut Draft, class: u8, job: u16, written: &Written) -> Result<(), AllocError>
+    ensures kept { out.new.kept ≡ out.old.kept }
+    ensures ok { OnOk result (out.new.begun ≡ out.old.begun ++ entry_text (entry.Writer class job written.now)) }
 {
-    push(out, b"-- WRITER ")?;
-    out.push(class)?;
+    push_two(out, b"-- WRITER ", &[class])?;
     push(out, b" ")?;
     push_digits(out, 4, job)?;
     push_written(out, job, written)
 }
 
-fn push_volume(
-    out: &mut Vec<u8>,
-    serial: &Serial,
-    free: usize,
-    kept: usize,
-) -> Result<(), AllocError>
-    ensures { OnOk result (out.new.items ≡ out.old.items ++ (codes "-- " ++ serial.now ++ codes " FREE " ++ decimal free ++ codes " KEPT " ++ decimal kept)) }
+fn push_volume(out: &mut Draft, serial: &Serial, free: usize, kept: usize) -> Result<(), AllocError>
+    ensures kept { out.new.kept ≡ out.old.kept }
+    ensures ok { OnOk result (out.new.begun ≡ out.old.begun ++ entry_text (entry.Volume serial.now free kept)) }
 {
     push_two(out, b"-- ", serial.as_slice())?;
     push_text_and_number(out, b" FREE ", free as u64)?;
@@ -566,20 +600,22 @@ fn push_volume(
 }
 
 fn push_queue(
-    out: &mut Vec<u8>,
+    out: &mut Draft,
     queued: usize,
     running: usize,
     records: usize,
 ) -> Result<(), AllocError>
-    ensures { OnOk result (out.new.items ≡ out.old.items ++ (codes "-- QUEUED " ++ decimal queued ++ codes " RUNNING " ++ decimal running ++ codes " RECORDS " ++ decimal records)) }
+    ensures kept { out.new.kept ≡ out.old.kept }
+    ensures ok { OnOk result (out.new.begun ≡ out.old.begun ++ entry_text (entry.Queue queued running records)) }
 {
     push_text_and_number(out, b"-- QUEUED ", queued as u64)?;
     push_text_and_number(out, b" RUNNING ", running as u64)?;
     push_text_and_number(out, b" RECORDS ", records as u64)
 }
 
-fn push_date(out: &mut Vec<u8>, year: u16, day: u16) -> Result<(), AllocError>
-    ensures { OnOk result (out.new.items ≡ out.old.items ++ (codes "-- DATE " ++ four_digits year ++ codes "/" ++ digits 3 day)) }
+fn push_date(out: &mut Draft, year: u16, day: u16) -> Result<(), AllocError>
+    ensures kept { out.new.kept ≡ out.old.kept }
+    ensures ok { OnOk result (out.new.begun ≡ out.old.begun ++ entry_text (entry.Date year day)) }
 {
     push(out, b"-- DATE ")?;
     push_digits(out, 4, year)?;
@@ -587,22 +623,25 @@ fn push_date(out: &mut Vec<u8>, year: u16, day: u16) -> Result<(), AllocError>
     push_digits(out, 3, day)
 }
 
-fn push_cancel(out: &mut Vec<u8>, job: u16) -> Result<(), AllocError>
-    ensures { OnOk result (out.new.items ≡ out.old.items ++ (codes "-- CANCEL " ++ four_digits job)) }
+fn push_cancel(out: &mut Draft, job: u16) -> Result<(), AllocError>
+    ensures kept { out.new.kept ≡ out.old.kept }
+    ensures ok { OnOk result (out.new.begun ≡ out.old.begun ++ entry_text (entry.Cancel job)) }
 {
     push(out, b"-- CANCEL ")?;
     push_digits(out, 4, job)
 }
 
-fn push_refused(out: &mut Vec<u8>, cause: Cause) -> Result<(), AllocError>
-    ensures { OnOk result (out.new.items ≡ out.old.items ++ (codes "-- REFUSED " ++ cause_text cause)) }
+fn push_refused(out: &mut Draft, cause: Cause) -> Result<(), AllocError>
+    ensures kept { out.new.kept ≡ out.old.kept }
+    ensures ok { OnOk result (out.new.begun ≡ out.old.begun ++ entry_text (entry.Refused cause)) }
 {
     push(out, b"-- REFUSED ")?;
     push_cause(out, cause)
 }
 
-fn push_entry(out: &mut Vec<u8>, entry: &Entry) -> Result<(), AllocError>
-    ensures { OnOk result (out.new.items ≡ out.old.items ++ entry_text entry.now) }
+fn push_entry(out: &mut Draft, entry: &Entry) -> Result<(), AllocError>
+    ensures kept { out.new.kept ≡ out.old.kept }
+    ensures ok { OnOk result (out.new.begun ≡ out.old.begun ++ entry_text entry.now) }
 {
     match entry {
         Entry::Job(job, line) => push_job_line(out, *job, line),
@@ -625,8 +664,9 @@ fn push_entry(out: &mut Vec<u8>, entry: &Entry) -> Result<(), AllocError>
 
 impl Entry {
     /// Puts the line's text and a line feed at the end. An `Err` may leave a part of it.
-    pub fn write_to(&self, out: &mut Vec<u8>) -> Result<(), AllocError>
-        ensures ok { OnOk result (out.new.items ≡ out.old.items ++ text_of self.now) }
+    pub fn write_to(&self, out: &mut Draft) -> Result<(), AllocError>
+        ensures kept { out.new.kept ≡ out.old.kept }
+        ensures ok { OnOk result (out.new.begun ≡ out.old.begun ++ text_of self.now) }
     {
         push_entry(out, self)?;
         push(out, b"\n")

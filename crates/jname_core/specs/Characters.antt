@@ -15,6 +15,10 @@ is_digit c = is_between 48 57 c
 abbrev pub is_letter_or_digit : ℕ → Bool
 is_letter_or_digit c = is_letter c || is_digit c
 
+-- the class of a job: A to O. (CLASS parameter)
+abbrev pub is_job_class : ℕ → Bool
+is_job_class c = is_between 65 79 c
+
 -- #, @ and $
 abbrev pub is_national : ℕ → Bool
 is_national c = c == 35 || c == 64 || c == 36

@@ -9,6 +9,7 @@ use Rattle.jcl_plan.specs.declared.entry.Entry.{Entry}
 use Rattle.jcl_plan.specs.declared.entry.Entry.TheVariants as entry
 use Rattle.jcl_plan.specs.declared.fault.Cause.{Cause}
 use Rattle.jcl_plan.specs.declared.fault.Cause.TheVariants.{A}
+use Rattle.jcl_plan.specs.declared.fault.EventFault.TheVariants.{PastLimit}
 use Rattle.jcl_plan.specs.declared.plan.JobPlan.{JobPlan}
 use Rattle.jcl_meaning.specs.NoSets.{HasNoSets}
 use Rattle.machine_meaning.specs.declared.event.Event.{Event}
@@ -110,7 +111,7 @@ by_count : (job_of : Denoting) (w : World) (e : Event) → IsSound w → (w.even
 by_count job_of w e s (inl less) =
     let done = does_done job_of (counted w) e (counted_sound w s) in
     record { lines = done.0; new = done.1; follows = taken less done.2 }
-by_count job_of w e s (inr more) = record { lines = entry.Refused (A 5) ∷ []; new = w; follows = past more refl refl }
+by_count job_of w e s (inr more) = record { lines = entry.Refused (A PastLimit) ∷ []; new = w; follows = past more refl refl }
 
 pub has_case : (job_of : Denoting) (w : World) (e : Event) → IsSound w → HasCase job_of w e
 has_case job_of w e s = by_count job_of w e s (cases_lt w.events MOST_EVENTS)

@@ -2,6 +2,7 @@
 use Rattle.std.specs.Prelude.{ℕ, Bool, true, false, not, ◌&&◌, ◌||◌, ◌==◌, nat_le, nat_lt, List, [], ◌∷◌, ◌++◌, map, length, Option, Some, None}
 use Rattle.std.specs.List.{list_all, list_any}
 use Rattle.std.specs.Str.{bytes_eq}
+use Rattle.jname_core.specs.Characters.{is_job_class}
 use Rattle.machine_meaning.specs.declared.config.TheConstants.{LAST_INITIATOR, MOST_TRACKS, MOST_UNITS, MOST_VOLUMES}
 use Rattle.machine_meaning.specs.declared.config.ConfigFault.{ConfigFault}
 use Rattle.machine_meaning.specs.declared.config.ConfigFault.TheVariants.{BadValue, DefinedTwice}
@@ -53,9 +54,6 @@ has_class classes c = list_any (λ other. other == c) classes
 abbrev pub are_different : List ℕ → Bool
 are_different [] = true
 are_different (c ∷ classes) = not (has_class classes c) && are_different classes
-
-abbrev pub is_job_class : ℕ → Bool
-is_job_class c = nat_le 65 c && nat_le c 79
 
 abbrev pub are_classes : List ℕ → Bool
 are_classes classes = not (length classes == 0) && nat_le (length classes) 8 && list_all is_job_class classes && are_different classes

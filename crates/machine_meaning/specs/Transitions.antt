@@ -11,6 +11,7 @@ use Rattle.jcl_plan.specs.declared.entry.JobLine.TheVariants as line
 use Rattle.jcl_plan.specs.declared.entry.Written.{Written}
 use Rattle.jcl_plan.specs.declared.fault.Cause.{Cause}
 use Rattle.jcl_plan.specs.declared.fault.Cause.TheVariants.{A}
+use Rattle.jcl_plan.specs.declared.fault.EventFault.TheVariants.{NoSuchInitiator, PastLimit}
 use Rattle.jcl_plan.specs.declared.plan.JobPlan.{JobPlan}
 use Rattle.jcl_plan.specs.Lines.{text_of}
 use Rattle.jcl_meaning.specs.Agendas.{agenda, budget_of}
@@ -44,7 +45,7 @@ waits job plan = record {
 
 -- A deck is read: its job takes the next number.
 pub data Reads (job_of : Denoting) (old : World) (deck : List (List ℕ)) (lines : List Entry) (new : World) : Type 0 where
-  full : MOST_JOBS ≤ old.jobs → lines ≡ entry.Refused (A 5) ∷ [] → new ≡ old → Reads job_of old deck lines new
+  full : MOST_JOBS ≤ old.jobs → lines ≡ entry.Refused (A PastLimit) ∷ [] → new ≡ old → Reads job_of old deck lines new
   rejected : (cause : Cause) → old.jobs < MOST_JOBS → job_of deck ≡ Err cause →
       lines ≡ of_job (old.jobs + 1) (line.Rejected cause ∷ []) → new ≡ record old { jobs = old.jobs + 1 } → Reads job_of old deck lines new
   read : (plan : JobPlan) → old.jobs < MOST_JOBS → job_of deck ≡ Ok plan →
@@ -108,7 +109,7 @@ Acts old place x (Some r) lines new = GoesOn old place x r r.stage lines new
 
 -- An initiator acts once.
 pub data Turns (old : World) (number : ℕ) (lines : List Entry) (new : World) : Type 0 where
-  unknown : HasNoInitiator old number → lines ≡ entry.Refused (A 1) ∷ [] → new ≡ old → Turns old number lines new
+  unknown : HasNoInitiator old number → lines ≡ entry.Refused (A NoSuchInitiator) ∷ [] → new ≡ old → Turns old number lines new
   acts : (place : ℕ) (x : Initiator) → IsAt old place x → x.number ≡ number → Acts old place x x.running lines new → Turns old number lines new
 
 -- A writer writes the first line of its class, if there is one.
@@ -124,7 +125,7 @@ Does job_of old (event.Write class) lines new = Writes old class lines new
 
 -- An event that is refused changes the count of events alone, and past the last event not even that.
 pub data Transition (job_of : Denoting) (old : World) (e : Event) (lines : List Entry) (new : World) : Type 0 where
-  past : MOST_EVENTS ≤ old.events → lines ≡ entry.Refused (A 5) ∷ [] → new ≡ old → Transition job_of old e lines new
+  past : MOST_EVENTS ≤ old.events → lines ≡ entry.Refused (A PastLimit) ∷ [] → new ≡ old → Transition job_of old e lines new
   taken : old.events < MOST_EVENTS → Does job_of (counted old) e lines new → Transition job_of old e lines new
 
 -- events one after another, and the lines of each

@@ -1,4 +1,4 @@
 mod Compatible
-mod Parts
+pub mod Parts
 pub mod Setless
 mod Splitting

@@ -1,5 +1,5 @@
+pub mod CharacterByCharacter
 pub mod Faultless
 pub mod Keys
-pub mod Places
 pub mod SameOperand
 pub mod Told

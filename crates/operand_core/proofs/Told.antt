@@ -26,7 +26,7 @@ lower_cases a b c (inr ab) (inr bc) = rw (lower-no a b ab, lower-no b c bc, lowe
 lower_assoc : (a b c : Cause) → lower (lower a b) c ≡ lower a (lower b c)
 lower_assoc a b c = lower_cases a b c (cases_lt (rank b) (rank a)) (cases_lt (rank c) (rank b))
 
-earlier_assoc : (a b c : Option Cause) → earlier (earlier a b) c ≡ earlier a (earlier b c)
+pub earlier_assoc : (a b c : Option Cause) → earlier (earlier a b) c ≡ earlier a (earlier b c)
 earlier_assoc None b c = refl
 earlier_assoc (Some a) None c = refl
 earlier_assoc (Some a) (Some b) None = refl

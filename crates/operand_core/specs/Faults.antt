@@ -3,7 +3,7 @@ use Rattle.std.specs.Prelude.{ℕ, ◌+◌, ◌==◌, Bool, nat_lt, List, [], �
 use Rattle.jcl_plan.specs.declared.fault.Cause.{Cause}
 use Rattle.jcl_plan.specs.declared.fault.Cause.TheVariants.{C, N, P, Q, B, A}
 use Rattle.jcl_plan.specs.declared.fault.StatementFault.TheVariants.{OperandTooLong}
-use Rattle.jcl_plan.specs.Numbers as statement
+use Rattle.jcl_plan.specs.Numbers as refusal
 use Rattle.jname_core.specs.declared.fault.NameFault.{NameFault}
 use Rattle.jname_core.specs.Faults.{name8_fault}
 use Rattle.jname_core.specs.Numbers.{number_of}
@@ -12,10 +12,10 @@ use Rattle.jname_core.specs.Numbers.{number_of}
 abbrev pub rank : Cause → ℕ
 rank (C n) = n
 rank (N n) = 256 + n
-rank (P fault) = 512 + statement.number_of fault
-rank (Q n) = 768 + n
+rank (P fault) = 512 + refusal.number_of fault
+rank (Q fault) = 768 + refusal.queue_number fault
 rank (B n) = 1024 + n
-rank (A n) = 1280 + n
+rank (A fault) = 1280 + refusal.event_number fault
 
 abbrev pub lower : Cause → Cause → Cause
 lower a b = if nat_lt (rank b) (rank a) then b else a

@@ -1,5 +1,5 @@
 -- The places of a value. (GC28-6704, "Positional and keyword parameters": subparameter lists)
-use Rattle.std.specs.Prelude.{ℕ, ◌-◌, Bool, false, not, ◌&&◌, ◌==◌, List, [], ◌∷◌, length, take, drop, if◌then◌else◌}
+use Rattle.std.specs.Prelude.{ℕ, ◌-◌, Bool, true, false, not, ◌&&◌, ◌==◌, List, [], ◌∷◌, length, take, drop, Option, Some, None, if◌then◌else◌}
 use Rattle.card_core.specs.Fields.{quoted_after}
 use Rattle.operand_core.specs.Operands.{depth_after, places_of}
 
@@ -26,3 +26,9 @@ subparameters_of value = if is_wrapped value then places_of (inside value) else 
 abbrev pub first_place : List (List ℕ) → List ℕ
 first_place [] = []
 first_place (place ∷ places) = place
+
+-- the places that are left of a text, of which one whose commas end no place is one
+abbrev pub places_left : Bool → Option (List ℕ) → List (List ℕ)
+places_left splits None = []
+places_left true (Some text) = places_of text
+places_left false (Some text) = text ∷ []

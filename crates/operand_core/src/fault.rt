@@ -13,13 +13,14 @@ fn rank(cause: Cause) -> u16
         Cause::C(n) => u16::from(n),
         Cause::N(n) => 256 + u16::from(n),
         Cause::P(fault) => 512 + u16::from(fault.number()),
-        Cause::Q(n) => 768 + u16::from(n),
+        Cause::Q(fault) => 768 + u16::from(fault.number()),
         Cause::B(n) => 1024 + u16::from(n),
-        Cause::A(n) => 1280 + u16::from(n),
+        Cause::A(fault) => 1280 + u16::from(fault.number()),
     }
 }
 
-fn lower(a: Cause, b: Cause) -> Cause
+/// Of two faults the one that is told.
+pub fn lower(a: Cause, b: Cause) -> Cause
     ensures { result ≡ lower a b }
 {
     if rank(b) < rank(a) { b } else { a }

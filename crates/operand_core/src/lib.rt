@@ -5,6 +5,7 @@ pub mod fault;
 pub mod keyword;
 pub mod operand;
 pub mod parts;
+pub mod places;
 pub mod qualified;
 pub mod scan;
 pub mod subparameter;

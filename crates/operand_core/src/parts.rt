@@ -96,7 +96,7 @@ fn key_len(part: &[u8]) -> usize
 }
 
 /// A keyword and what stands behind its `=`.
-pub(crate) fn keyword_of(part: &[u8]) -> Option<(&[u8], &[u8])>
+pub fn keyword_of(part: &[u8]) -> Option<(&[u8], &[u8])>
     ensures { MatchOption result (keyword_of part.now ≡ None) (λ r. keyword_of part.now ≡ Some (r.0.now, r.1.now)) }
 {
     let (key, behind) = part.split_at(key_len(part));

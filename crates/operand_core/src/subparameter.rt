@@ -28,7 +28,8 @@ fn closes_last(text: &[u8]) -> bool
     false
 }
 
-fn is_wrapped(text: &[u8]) -> bool
+/// Whether one pair of parentheses stands round a text.
+pub fn is_wrapped(text: &[u8]) -> bool
     ensures { result ≡ is_wrapped text.now }
 {
     match text.split_first() {
@@ -37,7 +38,8 @@ fn is_wrapped(text: &[u8]) -> bool
     }
 }
 
-fn inside(text: &[u8]) -> &[u8]
+/// What stands within the parentheses of a text.
+pub fn inside(text: &[u8]) -> &[u8]
     requires { 2 ≤ length text.now }
     ensures { result.now ≡ inside text.now }
 {

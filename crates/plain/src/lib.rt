@@ -1,6 +1,8 @@
 //! Owned bytes, lists and short texts that contracts see as plain lists, without addresses or capacities.
 #![tactic(auto)]
 
+pub mod draft;
+pub mod lent;
 pub mod listed;
 pub mod short;
 #[cfg(test)]

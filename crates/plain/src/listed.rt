@@ -18,7 +18,18 @@ impl<T> Model for Listed<T> {
     ghost view = { λ l. l.items.items };
 }
 
+impl<T: Copy> Clone for Listed<T> {
+    ghost use Rattle.std.specs.Prelude.{◌≡◌};
+
+    ghost is_clone = { λ l copy. copy ≡ l };
+
+    fn clone(&self) -> Result<Listed<T>, AllocError> {
+        Listed::copy_of(*self.items.allocator(), self.items.as_slice())
+    }
+}
+
 impl<T: Copy> Listed<T> {
+    /// The items, copied.
     pub fn copy_of(alloc: Global, items: &[T]) -> Result<Listed<T>, AllocError>
         ensures { IfOk result (λ l. l ≡ items.now) }
     {

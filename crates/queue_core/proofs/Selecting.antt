@@ -69,7 +69,7 @@ module _ (jobs : BTreeMap ℕ Queued) (ranks : BTreeSet Rank) (occupied : List B
 
 -- what stands in the set of ranks from a class on
 abbrev pub lowest_of : ℕ → Rank
-lowest_of class = record { class = class; priority = record { 0 = 255 }; job = 0 }
+lowest_of class = record { class = class; priority = record { 0 = 255 }; job = 0; jct = 0 }
 
 module _ (ranks : BTreeSet Rank) (class : ℕ) (part : List Rank) (h : IsKeyRangeOf rank_cmp (Included (lowest_of class)) Unbounded ranks part) (bounded : AreBounded ranks) where
   vacant_unless : ((r : Rank) → contains rank_cmp ranks r ≡ true → r.class ≡ class → ⊥) → IsVacant ranks class

@@ -8,15 +8,16 @@ use Rattle.std.specs.Ordering.{nat_cmp, ordering_then}
 use Rattle.queue_core.specs.declared.queue.Queued.{Queued}
 use Rattle.queue_core.specs.declared.queue.Rank.{Rank}
 
--- by class, then by falling priority, then by number
+-- by class, then by falling priority, then by number; those of one number by their first records
 abbrev pub rank_cmp : Rank → Rank → Ordering
-rank_cmp a b = ordering_then (nat_cmp a.class b.class) (ordering_then (nat_cmp b.priority.0 a.priority.0) (nat_cmp a.job b.job))
+rank_cmp a b = ordering_then (nat_cmp a.class b.class)
+    (ordering_then (nat_cmp b.priority.0 a.priority.0) (ordering_then (nat_cmp a.job b.job) (nat_cmp a.jct b.jct)))
 
 abbrev pub rank_of : Queued → Rank
-rank_of q = record { class = q.class; priority = record { 0 = q.priority }; job = q.job }
+rank_of q = record { class = q.class; priority = record { 0 = q.priority }; job = q.job; jct = q.jct }
 
 abbrev pub queued_of : Rank → Queued
-queued_of r = record { job = r.job; class = r.class; priority = r.priority.0 }
+queued_of r = record { job = r.job; jct = r.jct; class = r.class; priority = r.priority.0 }
 
 -- no priority is above those that a byte holds
 abbrev pub AreBounded : BTreeSet Rank → Type 0

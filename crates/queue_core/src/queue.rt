@@ -12,16 +12,20 @@ use std::marker::Model;
 #[derive(Clone, Copy, Debug, PartialEq, Eq)]
 pub struct Queued {
     pub job: u16,
+    /// The number of its first record.
+    pub jct: u32,
     pub class: u8,
     pub priority: u8,
 }
 
 /// A job by its turn: those of a class together, the highest priority first, and of these the one that was read first.
+/// The number of its first record goes along.
 #[derive(Clone, Copy, Debug, PartialEq, Eq, PartialOrd, Ord)]
 struct Rank {
     class: u8,
     priority: Reverse<u8>,
     job: u16,
+    jct: u32,
 }
 
 /// The jobs that wait, in the order of reading, which is that of their numbers.
@@ -115,6 +119,7 @@ fn rank_of(queued: Queued) -> Rank
         class: queued.class,
         priority: Reverse(queued.priority),
         job: queued.job,
+        jct: queued.jct,
     }
 }
 
@@ -128,6 +133,7 @@ fn first_of(ranks: &BTreeSet<Rank>, class: u8) -> Option<Queued>
         class,
         priority: Reverse(u8::MAX),
         job: 0,
+        jct: 0,
     };
     let rank = ranks.range(lowest..).next()?;
     if rank.class != class {
@@ -135,6 +141,7 @@ fn first_of(ranks: &BTreeSet<Rank>, class: u8) -> Option<Queued>
     }
     Some(Queued {
         job: rank.job,
+        jct: rank.jct,
         class,
         priority: rank.priority.0,
     })

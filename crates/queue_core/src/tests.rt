@@ -6,6 +6,7 @@ use std::test::Fail;
 fn a_job_waits_until_it_is_taken_out(rt: HostRuntime) -> Result<(), Fail> {
     let queued = Queued {
         job: 1,
+        jct: 7,
         class: b'A',
         priority: 6,
     };

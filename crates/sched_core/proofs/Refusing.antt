@@ -4,6 +4,7 @@ use Rattle.jcl_plan.specs.declared.entry.Entry.TheVariants as entry
 use Rattle.jcl_plan.specs.declared.entry.JobLine.{JobLine}
 use Rattle.jcl_plan.specs.declared.fault.Cause.{Cause}
 use Rattle.jcl_plan.specs.declared.fault.Cause.TheVariants.{A}
+use Rattle.jcl_plan.specs.declared.fault.EventFault.TheVariants.{NoSuchInitiator, PastLimit}
 use Rattle.machine_meaning.specs.declared.machine.Initiator.{Initiator}
 use Rattle.machine_meaning.specs.declared.machine.Running.{Running}
 use Rattle.machine_meaning.specs.declared.machine.Stage.{Stage}
@@ -19,7 +20,7 @@ no_job_lines : (job : ℕ) (lines : List JobLine) (cause : Cause) → entry.Refu
 no_job_lines job [] cause e = absurd (cc)
 no_job_lines job (line ∷ lines) cause e = absurd (cc)
 
-pub reads_refused : (job_of : Denoting) (old new : World) (deck : List (List ℕ)) (cause : Cause) → Reads job_of old deck (entry.Refused cause ∷ []) new → (MOST_JOBS ≤ old.jobs) × (cause ≡ A 5)
+pub reads_refused : (job_of : Denoting) (old new : World) (deck : List (List ℕ)) (cause : Cause) → Reads job_of old deck (entry.Refused cause ∷ []) new → (MOST_JOBS ≤ old.jobs) × (cause ≡ A PastLimit)
 reads_refused job_of old new deck cause (full few lines stays) = (few, cc)
 reads_refused job_of old new deck cause (rejected other room denied lines stays) = absurd (cc)
 reads_refused job_of old new deck cause (read plan room denoted lines stays) = absurd (cc)
@@ -39,7 +40,7 @@ acts_on_nothing : (old new : World) (place : ℕ) (x : Initiator) (running : Opt
 acts_on_nothing old new place x None cause h = selects_nothing old new place x cause h
 acts_on_nothing old new place x (Some r) cause h = goes_on_with_nothing old new place x r r.stage cause h
 
-pub turns_refused : (old new : World) (number : ℕ) (cause : Cause) → Turns old number (entry.Refused cause ∷ []) new → HasNoInitiator old number × (cause ≡ A 1)
+pub turns_refused : (old new : World) (number : ℕ) (cause : Cause) → Turns old number (entry.Refused cause ∷ []) new → HasNoInitiator old number × (cause ≡ A NoSuchInitiator)
 turns_refused old new number cause (unknown none lines stays) = (none, cc)
 turns_refused old new number cause (acts place x at is h) = absurd (acts_on_nothing old new place x x.running cause h)
 

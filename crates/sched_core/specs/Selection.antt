@@ -10,7 +10,7 @@ use Rattle.machine_meaning.specs.Queues.{IsSelected}
 use Rattle.queue_core.specs.declared.queue.Queued.{Queued}
 
 abbrev pub queued_of : Waiting → Queued
-queued_of w = record { job = w.job; class = w.class; priority = w.priority }
+queued_of w = record { job = w.job; jct = 0; class = w.class; priority = w.priority }
 
 -- a job lies under its number
 abbrev pub IsNumbered : ℕ × Waiting → Type 0

@@ -3,8 +3,9 @@ use crate::config::Config;
 use crate::system::System;
 use jcl_plan::entry::Entry;
 use machine_meaning::event::Event;
+use plain::draft::Draft;
+use plain::lent::Lent;
 use plain::listed::Listed;
-use plain::text::Text;
 use std::alloc::{AllocError, Global};
 
 /// An event; a deck is a text.
@@ -133,15 +134,15 @@ pub const STEPS: &[(Act, &str)] = &[
 ];
 
 /// The lines of a deck.
-pub fn deck_of(alloc: Global, text: &str) -> Result<Listed<Text>, AllocError> {
+pub fn deck_of<'a>(alloc: Global, text: &'a str) -> Result<Listed<Lent<'a>>, AllocError> {
     let mut lines = Listed::empty(alloc);
     for line in text.lines() {
-        lines.push(Text::copy_of(alloc, line.as_bytes())?)?;
+        lines.push(Lent::new(line.as_bytes()))?;
     }
     Ok(lines)
 }
 
-pub fn event_of(alloc: Global, act: &Act) -> Result<Event, AllocError> {
+pub fn event_of(alloc: Global, act: &Act) -> Result<Event<'static>, AllocError> {
     match act {
         Act::Read(text) => Ok(Event::Read(deck_of(alloc, text)?)),
         Act::Turn(number) => Ok(Event::Turn(*number)),
@@ -162,9 +163,10 @@ pub fn machine(alloc: Global) -> Result<System, AllocError> {
 }
 
 /// Lists lines behind those that are there.
-pub fn list(text: &mut Vec<u8>, lines: &[Entry]) -> Result<(), AllocError> {
+pub fn list(text: &mut Draft, lines: &[Entry]) -> Result<(), AllocError> {
     for line in lines {
         line.write_to(text)?;
     }
+    text.keep();
     Ok(())
 }

@@ -1,10 +1,12 @@
 //! The configuration of a machine, statement by statement.
 ghost use Rattle.std.specs.Prelude.{◌≡◌, None, Some, OnOk, OnErr, IfErr};
 ghost use Rattle.std.specs.List.{list_all};
-ghost use Rattle.machine_meaning.specs.Configs.{are_classes, are_different, has_class, has_initiator, has_volume, initiator_fault, is_job_class, nothing_configured, refused_by, unit_fault, volume_fault, with_initiator, with_unit, with_volume};
+ghost use Rattle.jname_core.specs.Characters.{is_job_class};
+ghost use Rattle.machine_meaning.specs.Configs.{are_classes, are_different, has_class, has_initiator, has_volume, initiator_fault, nothing_configured, refused_by, unit_fault, volume_fault, with_initiator, with_unit, with_volume};
 ghost use Rattle.sched_core.specs.Refusals.{IsRefusal};
 
 use crate::units::Units;
+use jname_core::character::is_job_class;
 use jname_core::name8::UnitName;
 use jname_core::serial::Serial;
 use machine_meaning::config::{
@@ -91,12 +93,6 @@ fn are_different(classes: &[u8]) -> bool
         None => true,
         Some((class, others)) => !has_class(others, *class) && are_different(others),
     }
-}
-
-fn is_job_class(class: u8) -> bool
-    ensures { result ≡ is_job_class class }
-{
-    b'A' <= class && class <= b'O'
 }
 
 fn are_job_classes(classes: &[u8]) -> bool

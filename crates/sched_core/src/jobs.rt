@@ -12,8 +12,8 @@ use jcl_parse::refusal::ReadError;
 use jcl_plan::fault::{Cause, StatementFault};
 use jcl_plan::plan::{AfterAbend, DdKind, DdPlan, JobPlan, StepPlan, no_tests};
 use jname_core::name8::Name8;
+use plain::lent::Lent;
 use plain::listed::Listed;
-use plain::text::Text;
 use std::alloc::{AllocError, Global};
 
 /// Whether a procedure is called.
@@ -164,7 +164,7 @@ fn job_in(alloc: Global, deck: Deck) -> Result<JobPlan, ReadError>
 }
 
 /// The job that the lines of a deck denote, or their first refusal.
-pub fn job_of(alloc: Global, deck: &[Text]) -> Result<JobPlan, ReadError>
+pub fn job_of(alloc: Global, deck: &[Lent<'_>]) -> Result<JobPlan, ReadError>
     ensures { Gives (λ plan. plan) result (job_of deck.now) }
 {
     match read_statements(alloc, deck) {

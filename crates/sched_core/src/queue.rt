@@ -30,11 +30,13 @@ impl Model for Backlog {
     ghost invariant = { λ b. IsTied b.queue b.jobs };
 }
 
+/// It has no records yet.
 fn queued_of(w: &Waiting) -> Queued
     ensures { result ≡ queued_of w.now }
 {
     Queued {
         job: w.job,
+        jct: 0,
         class: w.class,
         priority: w.priority,
     }

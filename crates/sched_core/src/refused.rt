@@ -2,6 +2,7 @@
 use crate::cases::{STEPS, event_of, list, machine};
 use crate::system::System;
 use machine_meaning::event::Event;
+use plain::draft::Draft;
 use std::alloc::{AllocError, Global};
 use std::test::Fail;
 
@@ -12,9 +13,9 @@ const EVENTS: usize = 22;
 #[derive(Drop)]
 struct Fixture {
     system: System,
-    events: Vec<Event>,
+    events: Vec<Event<'static>>,
     wanted: Vec<u8>,
-    text: Vec<u8>,
+    text: Draft,
 }
 
 fn prepared(alloc: Global) -> Result<Fixture, AllocError> {
@@ -25,7 +26,7 @@ fn prepared(alloc: Global) -> Result<Fixture, AllocError> {
         events.push(event_of(alloc, act)?)?;
         wanted.extend_from_slice(lines.as_bytes())?;
     }
-    let text = Vec::with_capacity(alloc, wanted.len())?;
+    let text = Draft::with_room(alloc, wanted.len())?;
     Ok(Fixture {
         system,
         events,
@@ -60,7 +61,7 @@ fn refused_memory_keeps_the_machine(rt: HostRuntime) -> Result<(), Fail> {
         };
         list(&mut text, lines.as_slice())?;
     }
-    assert_eq!(rt; text.as_slice(), wanted.as_slice());
+    assert_eq!(rt; text.kept(), wanted.as_slice());
     println!(rt; "refused: {refused}")?;
     Ok(())
 }
@@ -91,7 +92,7 @@ fn refused_memory_stops_a_drive(rt: HostRuntime) -> Result<(), Fail> {
     for lines in first.entries.iter().chain(then.entries.iter()) {
         list(&mut text, lines.as_slice())?;
     }
-    assert_eq!(rt; text.as_slice(), wanted.as_slice());
+    assert_eq!(rt; text.kept(), wanted.as_slice());
     println!(rt; "refused: {refused}")?;
     Ok(())
 }

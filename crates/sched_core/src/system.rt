@@ -15,14 +15,14 @@ use crate::queue::Backlog;
 use init_core::initiator::Initiator;
 use jcl_parse::refusal::ReadError;
 use jcl_plan::entry::{Entry, JobLine};
-use jcl_plan::fault::Cause;
+use jcl_plan::fault::{Cause, EventFault};
 use jcl_plan::plan::JobPlan;
 use jname_core::serial::Serial;
 use machine_meaning::config::{ConfiguredInitiator, ConfiguredVolume};
 use machine_meaning::event::Event;
 use machine_meaning::machine::{MOST_EVENTS, MOST_JOBS, Waiting};
+use plain::lent::Lent;
 use plain::listed::Listed;
-use plain::text::Text;
 use spool_core::spool::Spool;
 use std::alloc::{AllocError, Global};
 use std::marker::Model;
@@ -75,7 +75,16 @@ impl Model for System {
 
     ghost Value = { World };
 
-    ghost view = { λ s. record { volumes = s.volumes; programs = []; initiators = s.initiators.items; waiting = s.waiting; holds = []; spool = s.spool; jobs = s.jobs; events = s.events } };
+    ghost view = { λ s. record {
+      volumes = s.volumes;
+      programs = [];
+      initiators = s.initiators.items;
+      waiting = s.waiting;
+      holds = [];
+      spool = s.spool;
+      jobs = s.jobs;
+      events = s.events;
+    } };
 
     ghost invariant = { λ s. IsKept s.waiting s.jobs s.events };
 }
@@ -142,13 +151,13 @@ impl System {
     }
 
     /// A deck is read.
-    fn read(&mut self, deck: &[Text]) -> Result<Listed<Entry>, ApplyFault>
+    fn read(&mut self, deck: &[Lent<'_>]) -> Result<Listed<Entry>, ApplyFault>
         ensures answer { Answers result self.old self.new (Reads job_of self.old deck.now) }
         ensures refusal { RefusesFirst result (Reads job_of self.old deck.now) }
         ensures kept { KeepsIfRefused result self.old self.new }
     {
         if MOST_JOBS <= self.jobs {
-            return Err(ApplyFault::Refused(Cause::A(5)));
+            return Err(ApplyFault::Refused(Cause::A(EventFault::PastLimit)));
         }
         let job = self.jobs + 1;
         match job_of(self.alloc, deck) {
@@ -184,7 +193,7 @@ impl System {
         ensures kept { KeepsIfRefused result self.old self.new }
     {
         let Some(place) = place_of(self.initiators.as_slice(), number) else {
-            return Err(ApplyFault::Refused(Cause::A(1)));
+            return Err(ApplyFault::Refused(Cause::A(EventFault::NoSuchInitiator)));
         };
         if self.initiators[place].has_job() {
             self.go_on(place)
@@ -249,7 +258,7 @@ impl System {
     }
 
     /// An event that is not past the last.
-    fn does(&mut self, event: &Event) -> Result<Listed<Entry>, ApplyFault>
+    fn does(&mut self, event: &Event<'_>) -> Result<Listed<Entry>, ApplyFault>
         ensures answer { Answers result self.old self.new (Does job_of self.old event.now) }
         ensures refusal { RefusesFirst result (Does job_of self.old event.now) }
         ensures kept { KeepsIfRefused result self.old self.new }
@@ -262,13 +271,13 @@ impl System {
     }
 
     /// One event. A refusal changes the count of events alone and takes no memory; want of memory changes nothing.
-    pub fn apply(&mut self, event: &Event) -> Result<Listed<Entry>, ApplyFault>
+    pub fn apply(&mut self, event: &Event<'_>) -> Result<Listed<Entry>, ApplyFault>
         ensures answer { Answers result self.old self.new (Transition job_of self.old event.now) }
         ensures refusal { RefusesFirst result (Transition job_of self.old event.now) }
         ensures kept { KeepsIfRefused result self.old self.new }
     {
         if MOST_EVENTS <= self.events {
-            return Err(ApplyFault::Refused(Cause::A(5)));
+            return Err(ApplyFault::Refused(Cause::A(EventFault::PastLimit)));
         }
         self.events += 1;
         let done = self.does(event);
@@ -279,7 +288,7 @@ impl System {
     }
 
     /// One event, and a refusal as its line. Want of memory changes nothing.
-    pub fn apply_shown(&mut self, event: &Event) -> Result<Listed<Entry>, AllocError>
+    pub fn apply_shown(&mut self, event: &Event<'_>) -> Result<Listed<Entry>, AllocError>
         ensures step { IfOk result (λ lines. Transition job_of self.old event.now lines self.new) }
         ensures err { OnErr result (self.new ≡ self.old) }
     {
@@ -298,7 +307,7 @@ impl System {
     }
 
     /// Events one after another, up to the first that wants memory. A refusal is shown as its line.
-    pub fn drive(&mut self, events: &[Event]) -> Driven
+    pub fn drive(&mut self, events: &[Event<'_>]) -> Driven
         ensures { IsDriven self.old events.now result.entries.items result.done self.new }
     {
         let mut entries = Vec::new(self.alloc);

@@ -5,18 +5,23 @@ use crate::jobs::job_of;
 use crate::system::{ApplyFault, System};
 use jcl_parse::refusal::ReadError;
 use jcl_plan::entry::Entry;
-use jcl_plan::fault::{Cause, StatementFault};
+use jcl_plan::fault::{Cause, EventFault, StatementFault};
 use jname_core::name8::UnitName;
 use jname_core::serial::Serial;
 use machine_meaning::config::ConfigFault;
 use machine_meaning::event::Event;
+use plain::draft::Draft;
 use std::alloc::{AllocError, Global};
 use std::process::Abort;
 use std::test::Fail;
 
 /// The text of an event's lines, or the line of its refusal, and whether it is refused.
-fn told(alloc: Global, system: &mut System, event: &Event) -> Result<(Vec<u8>, bool), AllocError> {
-    let mut text = Vec::new(alloc);
+fn told(
+    alloc: Global,
+    system: &mut System,
+    event: &Event<'_>,
+) -> Result<(Draft, bool), AllocError> {
+    let mut text = Draft::empty(alloc);
     match system.apply(event) {
         Ok(lines) => {
             list(&mut text, lines.as_slice())?;
@@ -36,7 +41,7 @@ fn each_event_has_its_lines(rt: HostRuntime) -> Result<(), Fail> {
     for (at, (act, lines)) in STEPS.iter().enumerate() {
         let event = event_of(rt.alloc(), act)?;
         let (text, refused) = told(rt.alloc(), &mut system, &event)?;
-        assert_eq!(rt; text.as_slice(), lines.as_bytes(), "event {at}");
+        assert_eq!(rt; text.kept(), lines.as_bytes(), "event {at}");
         assert_eq!(rt; refused, lines.starts_with("-- REFUSED"), "event {at}");
     }
     system.close();
@@ -58,16 +63,16 @@ fn drives_events_one_after_another(rt: HostRuntime) -> Result<(), Fail> {
         (STEPS.len(), STEPS.len())
     );
     for (at, (lines, (_, listed))) in driven.entries.iter().zip(STEPS).enumerate() {
-        let mut text = Vec::new(rt.alloc());
+        let mut text = Draft::empty(rt.alloc());
         list(&mut text, lines.as_slice())?;
-        assert_eq!(rt; text.as_slice(), listed.as_bytes(), "event {at}");
+        assert_eq!(rt; text.kept(), listed.as_bytes(), "event {at}");
     }
     Ok(())
 }
 
 /// Applies an event so many times, each of which is refused by this number.
-fn refuses(rt: &impl Abort, system: &mut System, event: &Event, times: u32, number: u8) {
-    let refused = Some(ApplyFault::Refused(Cause::A(number)));
+fn refuses(rt: &impl Abort, system: &mut System, event: &Event<'_>, times: u32, fault: EventFault) {
+    let refused = Some(ApplyFault::Refused(Cause::A(fault)));
     for time in 0..times {
         assert_eq!(rt; system.apply(event).err(), refused, "time {time}");
     }
@@ -88,7 +93,7 @@ const FIRST_JOB: &str = "0001 SELECTED 1
 ";
 
 /// Reads empty decks up to the last number of a job.
-fn fill_jobs(rt: &impl Abort, system: &mut System, empty: &Event) {
+fn fill_jobs(rt: &impl Abort, system: &mut System, empty: &Event<'_>) {
     for job in 2..=9_999u32 {
         assert!(rt; system.apply(empty).is_ok(), "job {job}");
     }
@@ -96,13 +101,13 @@ fn fill_jobs(rt: &impl Abort, system: &mut System, empty: &Event) {
 
 /// Runs the first job to its end.
 fn run_first(rt: &impl Abort, alloc: Global, system: &mut System) -> Result<(), AllocError> {
-    let mut text = Vec::new(alloc);
+    let mut text = Draft::empty(alloc);
     for _ in 0..20u32 {
         if let Ok(lines) = system.apply(&Event::Turn(1)) {
             list(&mut text, lines.as_slice())?;
         }
     }
-    assert_eq!(rt; text.as_slice(), FIRST_JOB.as_bytes());
+    assert_eq!(rt; text.kept(), FIRST_JOB.as_bytes());
     Ok(())
 }
 
@@ -111,15 +116,27 @@ fn a_refused_event_counts_and_changes_nothing_else(rt: HostRuntime) -> Result<()
     let mut system = machine(rt.alloc())?;
     let first = event_of(rt.alloc(), &Act::Read(FIRST_DECK))?;
     let empty = event_of(rt.alloc(), &Act::Read(""))?;
-    refuses(&rt, &mut system, &Event::Turn(9), 1, 1);
+    refuses(
+        &rt,
+        &mut system,
+        &Event::Turn(9),
+        1,
+        EventFault::NoSuchInitiator,
+    );
     assert!(rt; system.apply(&first).is_ok());
     fill_jobs(&rt, &mut system, &empty);
-    refuses(&rt, &mut system, &first, 2, 5);
+    refuses(&rt, &mut system, &first, 2, EventFault::PastLimit);
     run_first(&rt, rt.alloc(), &mut system)?;
     // 10,022 events were taken
-    refuses(&rt, &mut system, &Event::Turn(9), 55_513, 1);
-    refuses(&rt, &mut system, &Event::Turn(1), 2, 5);
-    refuses(&rt, &mut system, &first, 2, 5);
+    refuses(
+        &rt,
+        &mut system,
+        &Event::Turn(9),
+        55_513,
+        EventFault::NoSuchInitiator,
+    );
+    refuses(&rt, &mut system, &Event::Turn(1), 2, EventFault::PastLimit);
+    refuses(&rt, &mut system, &first, 2, EventFault::PastLimit);
     Ok(())
 }
 

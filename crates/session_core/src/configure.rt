@@ -39,7 +39,7 @@ fn add(config: &mut Config, says: &Says) -> Result<(), ConfigError>
 }
 
 /// The fault of a statement of the configuration that stands behind the first event.
-pub(crate) fn late_fault(config: &mut Config, says: &Says, line: usize) -> SessionFault
+pub(crate) fn late_fault(config: &mut Config, says: &Says<'_>, line: usize) -> SessionFault
     ensures late { IsLate (config_fault config.old says.now) line result }
     ensures writes_none { is_write_fault {T = SessionEnd} (Err result) ≡ false }
 {
@@ -53,7 +53,7 @@ pub(crate) fn late_fault(config: &mut Config, says: &Says, line: usize) -> Sessi
 /// Adds what the statements before the first event configure, and tells where that stands.
 pub(crate) fn configure(
     config: &mut Config,
-    statements: &[Statement],
+    statements: &[Statement<'_>],
 ) -> Result<usize, SessionFault>
     requires { config.old ≡ nothing_configured }
     ensures ok { IfOk result (λ at. IsConfigured statements.now at config.new) }

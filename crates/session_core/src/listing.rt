@@ -15,6 +15,7 @@ use crate::stream::Sink;
 use crate::transfer::write_text;
 use crate::{SessionEnd, SessionFault};
 use jcl_plan::entry::Entry;
+use plain::draft::Draft;
 use std::alloc::{AllocError, Global};
 use std::io::Write;
 
@@ -31,47 +32,45 @@ pub(crate) struct Mark {
 /// The text that is held, and the statements that wrote it, in order.
 #[derive(Drop)]
 pub(crate) struct Listing {
-    pub(crate) text: Vec<u8>,
+    pub(crate) text: Draft,
     pub(crate) marks: Vec<Mark>,
-    /// Room for the lines of one event, which are held whole or not at all.
-    lines: Vec<u8>,
 }
 
 impl Listing {
     pub(crate) fn empty(alloc: Global) -> Listing
-        ensures text { result.text.items ≡ [] }
+        ensures text { result.text.kept ≡ [] }
         ensures marks { result.marks.items ≡ [] }
     {
         Listing {
-            text: Vec::new(alloc),
+            text: Draft::empty(alloc),
             marks: Vec::new(alloc),
-            lines: Vec::new(alloc),
         }
     }
 
     /// Holds the lines too, or none of them.
     pub(crate) fn add(&mut self, entries: &[Entry]) -> Result<(), AllocError>
-        ensures ok { OnOk result (self.new.text.items ≡ self.old.text.items ++ flat_map text_of entries.now) }
-        ensures err { OnErr result (self.new.text.items ≡ self.old.text.items) }
+        ensures ok { OnOk result (self.new.text.kept ≡ self.old.text.kept ++ flat_map text_of entries.now) }
+        ensures err { OnErr result (self.new.text.kept ≡ self.old.text.kept) }
         ensures marks { self.new.marks.items ≡ self.old.marks.items }
     {
-        write_lines(entries, &mut self.lines)?;
-        self.text.extend_from_slice(self.lines.as_slice())
+        write_lines(entries, &mut self.text)?;
+        self.text.keep();
+        Ok(())
     }
 
     /// Writes what is held, and holds nothing then. An `Err` is what the session comes to where the writer takes a part of it alone.
     pub(crate) fn write_out<W: Write>(&mut self, sink: &mut Sink<'_, W>) -> Result<(), SessionFault>
         requires { sink.old.failed ≡ false }
-        ensures ok { OnOk result (Appends (W.contents sink.old.writer.now) (W.contents sink.new.writer.now) self.old.text.items) }
-        ensures text { OnOk result (self.new.text.items ≡ []) }
+        ensures ok { OnOk result (Appends (W.contents sink.old.writer.now) (W.contents sink.new.writer.now) self.old.text.kept) }
+        ensures text { OnOk result (self.new.text.kept ≡ []) }
         ensures marks { OnOk result (self.new.marks.items ≡ []) }
         ensures err { IfErr result (λ fault. (s : Session) (before : List ℕ) →
-            AreMarks s.stands (length before) before self.old.marks.items self.old.text.items →
+            AreMarks s.stands (length before) before self.old.marks.items self.old.text.kept →
             WritesOutcome {T = SessionEnd} (sink_state W.contents sink.old) (sink_state W.contents sink.new) before s (Err fault)) }
         ensures failed { sink.new.failed ≡ is_write_fault result }
         ensures same_writer { sink.new.writer.ghost_name ≡ sink.old.writer.ghost_name }
     {
-        match write_text(sink, self.text.as_slice()) {
+        match write_text(sink, self.text.kept()) {
             Ok(()) => {
                 self.text.clear();
                 self.marks.clear();
@@ -92,8 +91,8 @@ impl Listing {
     ) -> Result<SessionEnd, SessionFault>
         requires unfailed { sink.old.failed ≡ false }
         requires no_write_fault { is_write_fault outcome ≡ false }
-        ensures outcome { (s : Session) (before : List ℕ) → IsOutcome s outcome (before ++ self.old.text.items) →
-            AreMarks s.stands (length before) before self.old.marks.items self.old.text.items →
+        ensures outcome { (s : Session) (before : List ℕ) → IsOutcome s outcome (before ++ self.old.text.kept) →
+            AreMarks s.stands (length before) before self.old.marks.items self.old.text.kept →
             WritesOutcome (sink_state W.contents sink.old) (sink_state W.contents sink.new) before s result }
         ensures failed { sink.new.failed ≡ is_write_fault result }
         ensures same_writer { sink.new.writer.ghost_name ≡ sink.old.writer.ghost_name }
@@ -105,11 +104,12 @@ impl Listing {
     }
 }
 
-/// The text of the lines, in place of what stood there.
-fn write_lines(entries: &[Entry], text: &mut Vec<u8>) -> Result<(), AllocError>
-    ensures { OnOk result (text.new.items ≡ flat_map text_of entries.now) }
+/// The text of the lines is begun, in place of what was begun before.
+fn write_lines(entries: &[Entry], text: &mut Draft) -> Result<(), AllocError>
+    ensures kept { text.new.kept ≡ text.old.kept }
+    ensures ok { OnOk result (text.new.begun ≡ flat_map text_of entries.now) }
 {
-    text.clear();
+    text.discard();
     for entry in entries {
         entry.write_to(text)?;
     }

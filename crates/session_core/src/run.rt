@@ -20,9 +20,13 @@ use std::alloc::{AllocError, Global};
 use std::io::Write;
 
 /// Applies an event and lists its lines, or lists nothing.
-fn run_event(system: &mut System, event: &Event, listing: &mut Listing) -> Result<(), AllocError>
-    ensures ok { OnOk result (IsApplied system.old event.now system.new listing.old.text.items listing.new.text.items) }
-    ensures err { OnErr result (listing.new.text.items ≡ listing.old.text.items) }
+fn run_event(
+    system: &mut System,
+    event: &Event<'_>,
+    listing: &mut Listing,
+) -> Result<(), AllocError>
+    ensures ok { OnOk result (IsApplied system.old event.now system.new listing.old.text.kept listing.new.text.kept) }
+    ensures err { OnErr result (listing.new.text.kept ≡ listing.old.text.kept) }
     ensures marks { listing.new.marks.items ≡ listing.old.marks.items }
 {
     match system.apply(event) {
@@ -35,12 +39,12 @@ fn run_event(system: &mut System, event: &Event, listing: &mut Listing) -> Resul
 /// Applies an event so many times and lists its lines. With an `Err` it lists those of the first times.
 fn run_events(
     system: &mut System,
-    event: &Event,
+    event: &Event<'_>,
     times: u16,
     listing: &mut Listing,
 ) -> Result<(), AllocError>
-    ensures ok { OnOk result (AreApplied system.old (replicate times event.now) system.new listing.old.text.items listing.new.text.items) }
-    ensures err { OnErr result (AreAppliedInPart system.old event.now times listing.old.text.items listing.new.text.items) }
+    ensures ok { OnOk result (AreApplied system.old (replicate times event.now) system.new listing.old.text.kept listing.new.text.kept) }
+    ensures err { OnErr result (AreAppliedInPart system.old event.now times listing.old.text.kept listing.new.text.kept) }
     ensures marks { listing.new.marks.items ≡ listing.old.marks.items }
 {
     for done in 0..times {
@@ -52,13 +56,13 @@ fn run_events(
 
 /// Runs a statement behind the configuration, and lists its lines.
 fn run_statement(
-    statement: &Statement,
+    statement: &Statement<'_>,
     config: &mut Config,
     system: &mut System,
     listing: &mut Listing,
 ) -> Result<(), SessionFault>
-    ensures runs { StatementRuns config.old statement.now.line statement.now.says system.old listing.old.marks.items listing.old.text.items result
-        system.new listing.new.marks.items listing.new.text.items }
+    ensures runs { StatementRuns config.old statement.now.line statement.now.says system.old listing.old.marks.items listing.old.text.kept result
+        system.new listing.new.marks.items listing.new.text.kept }
     ensures config { OnOk result (config.new ≡ config.old) }
     ensures writes_none { is_write_fault result ≡ false }
 {
@@ -82,7 +86,7 @@ fn run_statement(
 /// Runs the statements from the first event on, and writes their lines.
 fn run_from<W: Write>(
     alloc: Global,
-    statements: &[Statement],
+    statements: &[Statement<'_>],
     from: usize,
     config: &mut Config,
     system: &mut System,
@@ -116,7 +120,7 @@ fn run_from<W: Write>(
 /// Runs the statements up to the first fault, and writes their lines.
 pub(crate) fn run<W: Write>(
     alloc: Global,
-    statements: &[Statement],
+    statements: &[Statement<'_>],
     sink: &mut Sink<'_, W>,
 ) -> Result<SessionEnd, SessionFault>
     requires { sink.old.failed ≡ false }

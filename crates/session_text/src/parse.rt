@@ -8,8 +8,8 @@ use crate::lines::next_line;
 use crate::says::line_says;
 use crate::statement::{Ending, LineSays, Says, Statement};
 use machine_meaning::event::Event;
+use plain::lent::Lent;
 use plain::listed::Listed;
-use plain::text::Text;
 use std::alloc::{AllocError, Global};
 
 /// Lines that are not taken yet, and the number of the first of them.
@@ -22,13 +22,13 @@ struct Place<'a> {
 /// A block: what it says, how many lines stand before its END, and what stands behind that.
 #[derive(Drop)]
 struct Block<'a> {
-    says: Says,
+    says: Says<'a>,
     count: usize,
     behind: &'a [u8],
 }
 
-fn read_with(own: Option<Fault>, cards: Listed<Text>) -> Says
-    ensures { result ≡ read_with own cards }
+fn read_with<'a>(own: Option<Fault>, cards: Listed<Lent<'a>>) -> Says<'a>
+    ensures { result ≡ read_with own cards.entry }
 {
     match own {
         Some(fault) => Says::Refused(fault),
@@ -37,17 +37,16 @@ fn read_with(own: Option<Fault>, cards: Listed<Text>) -> Says
 }
 
 /// Puts a card behind the others. With a fault of the block's own none is wanted.
-fn keep_card(
-    alloc: Global,
+fn keep_card<'a>(
     own: Option<Fault>,
-    card: &[u8],
-    cards: &mut Listed<Text>,
+    card: &'a [u8],
+    cards: &mut Listed<Lent<'a>>,
 ) -> Result<(), AllocError>
     ensures { OnOk result (own ≡ None → cards.new ≡ cards.old ++ card.now ∷ []) }
 {
     match own {
         Some(_) => Ok(()),
-        None => cards.push(Text::copy_of(alloc, card)?),
+        None => cards.push(Lent::new(card)),
     }
 }
 
@@ -76,7 +75,7 @@ fn block_in<'a>(
                 behind,
             }));
         }
-        keep_card(alloc, own, row.bytes, &mut cards)?;
+        keep_card(own, row.bytes, &mut cards)?;
         count += 1;
         rest = behind;
     }
@@ -99,7 +98,7 @@ fn open_fault(ending: Ending, own: Option<Fault>) -> Fault
 /// Puts a block behind the statements, which begins at this line and before this text, and tells what stands behind it. With `None` it was the last.
 fn push_block<'a>(
     alloc: Global,
-    out: &mut Listed<Statement>,
+    out: &mut Listed<Statement<'a>>,
     text: &'a [u8],
     line: usize,
     own: Option<Fault>,
@@ -132,7 +131,7 @@ fn push_block<'a>(
 /// Puts what begins with a line behind the statements, and tells what stands behind it. With `None` it was the last.
 fn push_statement<'a>(
     alloc: Global,
-    out: &mut Listed<Statement>,
+    out: &mut Listed<Statement<'a>>,
     row: &[u8],
     text: &'a [u8],
     line: usize,
@@ -160,7 +159,7 @@ fn push_statement<'a>(
 }
 
 /// Puts the fault behind the statements that stands where the text was cut.
-fn push_end(out: &mut Listed<Statement>, line: usize, ending: Ending) -> Result<(), AllocError>
+fn push_end(out: &mut Listed<Statement<'_>>, line: usize, ending: Ending) -> Result<(), AllocError>
     ensures { OnOk result (out.new ≡ out.old ++ at_end ending line) }
 {
     match ending {
@@ -178,11 +177,11 @@ fn push_end(out: &mut Listed<Statement>, line: usize, ending: Ending) -> Result<
 }
 
 /// The statements of a text.
-pub fn statements(
+pub fn statements<'a>(
     alloc: Global,
-    text: &[u8],
+    text: &'a [u8],
     ending: Ending,
-) -> Result<Listed<Statement>, AllocError>
+) -> Result<Listed<Statement<'a>>, AllocError>
     ensures { IfOk result (λ v. v ≡ statements_of ending text.now) }
 {
     let mut out = Listed::empty(alloc);

@@ -14,7 +14,7 @@ use machine_meaning::event::Event;
 use plain::text::Text;
 use std::alloc::{AllocError, Global};
 
-fn volume(operands: &[u8]) -> Says
+fn volume(operands: &[u8]) -> Says<'static>
     ensures { result ≡ volume_of (fields_of operands.now) }
 {
     let Some((serial, tracks)) = two_fields(operands) else {
@@ -29,7 +29,7 @@ fn volume(operands: &[u8]) -> Says
     }
 }
 
-fn unit(alloc: Global, operands: &[u8]) -> Result<Says, AllocError>
+fn unit(alloc: Global, operands: &[u8]) -> Result<Says<'static>, AllocError>
     ensures { IfOk result (λ s. s ≡ unit_of (fields_of operands.now)) }
 {
     let Some((name, serials)) = two_fields(operands) else {
@@ -44,7 +44,7 @@ fn unit(alloc: Global, operands: &[u8]) -> Result<Says, AllocError>
     }
 }
 
-fn initiator(alloc: Global, operands: &[u8]) -> Result<Says, AllocError>
+fn initiator(alloc: Global, operands: &[u8]) -> Result<Says<'static>, AllocError>
     ensures { IfOk result (λ s. s ≡ initiator_of (fields_of operands.now)) }
 {
     let Some((number, classes)) = two_fields(operands) else {
@@ -59,7 +59,7 @@ fn initiator(alloc: Global, operands: &[u8]) -> Result<Says, AllocError>
     }
 }
 
-fn turns(operands: &[u8]) -> Says
+fn turns(operands: &[u8]) -> Says<'static>
     ensures { result ≡ turns_of (fields_of operands.now) }
 {
     let Some(text) = only_field(operands) else {
@@ -74,7 +74,7 @@ fn turns(operands: &[u8]) -> Says
     }
 }
 
-fn writes(operands: &[u8]) -> Says
+fn writes(operands: &[u8]) -> Says<'static>
     ensures { result ≡ writes_of (fields_of operands.now) }
 {
     let Some(text) = only_field(operands) else {
@@ -89,7 +89,7 @@ fn writes(operands: &[u8]) -> Says
     }
 }
 
-fn read(operands: &[u8]) -> LineSays
+fn read(operands: &[u8]) -> LineSays<'static>
     ensures { result ≡ opens (fields_of operands.now) }
 {
     match next_field(operands) {
@@ -98,7 +98,7 @@ fn read(operands: &[u8]) -> LineSays
     }
 }
 
-fn word_says(alloc: Global, word: &[u8], operands: &[u8]) -> Result<LineSays, AllocError>
+fn word_says(alloc: Global, word: &[u8], operands: &[u8]) -> Result<LineSays<'static>, AllocError>
     ensures { IfOk result (λ l. l ≡ says_by word.now (fields_of operands.now)) }
 {
     if word == b"VOLUME".as_slice() {
@@ -119,7 +119,7 @@ fn word_says(alloc: Global, word: &[u8], operands: &[u8]) -> Result<LineSays, Al
 }
 
 /// What a line outside a block says.
-pub(crate) fn line_says(alloc: Global, line: &[u8]) -> Result<LineSays, AllocError>
+pub(crate) fn line_says(alloc: Global, line: &[u8]) -> Result<LineSays<'static>, AllocError>
     ensures { IfOk result (λ l. l ≡ says_of line.now) }
 {
     let Some((_, behind)) = next_field(line) else {

@@ -16,7 +16,7 @@ pub enum Ending {
 
 /// What a statement says.
 #[derive(Debug, Drop)]
-pub enum Says {
+pub enum Says<'a> {
     Volume {
         serial: Serial,
         tracks: u16,
@@ -30,23 +30,23 @@ pub enum Says {
         classes: Text,
     },
     /// An event, so many times over.
-    Events(Event, u16),
+    Events(Event<'a>, u16),
     /// The statement itself is refused.
     Refused(Fault),
 }
 
 /// A statement, and its first line, which counts from 1.
 #[derive(Debug, Drop)]
-pub struct Statement {
+pub struct Statement<'a> {
     pub line: usize,
-    pub says: Says,
+    pub says: Says<'a>,
 }
 
 /// What a line outside a block says.
 #[derive(Debug, Drop)]
-pub enum LineSays {
+pub enum LineSays<'a> {
     Blank,
-    One(Says),
+    One(Says<'a>),
     /// READ, with the fault that it has itself.
     Opens(Option<Fault>),
 }

@@ -21,7 +21,7 @@ fn show_times(alloc: Global, out: &mut Vec<u8>, times: u16) -> Result<(), AllocE
 fn show_event(
     alloc: Global,
     out: &mut Vec<u8>,
-    event: &Event,
+    event: &Event<'_>,
     times: u16,
 ) -> Result<(), AllocError> {
     match event {
@@ -46,7 +46,7 @@ fn show_event(
     Ok(())
 }
 
-fn show_says(alloc: Global, out: &mut Vec<u8>, says: &Says) -> Result<(), AllocError> {
+fn show_says(alloc: Global, out: &mut Vec<u8>, says: &Says<'_>) -> Result<(), AllocError> {
     match says {
         Says::Volume { serial, tracks } => {
             show(out, b"VOLUME ")?;
@@ -78,7 +78,7 @@ fn show_says(alloc: Global, out: &mut Vec<u8>, says: &Says) -> Result<(), AllocE
 }
 
 /// Each statement as its line, a colon and what it says, with a semicolon behind it.
-fn shown(alloc: Global, statements: &[Statement]) -> Result<Vec<u8>, AllocError> {
+fn shown(alloc: Global, statements: &[Statement<'_>]) -> Result<Vec<u8>, AllocError> {
     let mut out = Vec::new(alloc);
     for statement in statements {
         let line = statement.line;

@@ -2,17 +2,16 @@
 ghost use Rattle.std.specs.Prelude.{◌≡◌, ◌≤◌, ◌*◌, ◌∷◌, ◌++◌, [], OnOk, OnErr, IsTrue, ◌↔◌, length, slice_get};
 ghost use Rattle.std.specs.Option.{option_copied};
 ghost use Rattle.vtoc_core.specs.Extents.{tracks_in};
-ghost use Rattle.set_core.specs.Tracks.{records_a_track, tracks_for};
+ghost use Rattle.jcl_plan.specs.declared.plan.TheConstants.{RECORDS_A_TRACK};
+ghost use Rattle.jcl_plan.specs.Tracks.{tracks_for};
 
+use jcl_plan::plan::RECORDS_A_TRACK;
 use std::alloc::{AllocError, Global};
 use std::marker::Model;
 use vtoc_core::entry::{Extent, SetEntry};
 
 /// A record: 80 columns.
 pub type DataRecord = [u8; 80];
-
-/// How many records a track holds.
-pub const RECORDS_A_TRACK: usize = 32;
 
 /// How many tracks these extents have.
 fn tracks_of(extents: &[Extent]) -> usize
@@ -96,7 +95,7 @@ impl Records {
 
     /// Whether no further record fits on the set's tracks.
     pub fn fills(&self, entry: &SetEntry) -> bool
-        ensures { IsTrue result ↔ (records_a_track * tracks_in entry.now.extents.items ≤ length self.now) }
+        ensures { IsTrue result ↔ (RECORDS_A_TRACK * tracks_in entry.now.extents.items ≤ length self.now) }
     {
         tracks_of(entry.extents.as_slice()) <= self.len() / RECORDS_A_TRACK
     }

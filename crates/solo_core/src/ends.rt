@@ -9,7 +9,7 @@ ghost use Rattle.jcl_meaning.specs.Plans.{conditional_meaning, normal_meaning, w
 ghost use Rattle.jcl_meaning.specs.RequestActs.{head_or};
 ghost use Rattle.jcl_meaning.specs.Stores.{store_of};
 ghost use Rattle.jcl_meaning.specs.EndActs.{after_abend, as_ending, disposes, disposes_at, end_line, ended_with, finished, finishes, leaves, left_at, passed_by, set_disposed, set_disposes, without_pass};
-ghost use Rattle.solo_core.specs.Runners.{Does, Sets, fixed_by, state_by};
+ghost use Rattle.solo_core.specs.Runners.{Does, Sets, disposition_by, disposition_of, fixed_by, puts_out, state_by, word_of};
 ghost use Rattle.jcl_meaning.specs.States.{goes, if_runs, others, with_own};
 ghost use Rattle.jcl_meaning.specs.Takes.{releases};
 
@@ -165,7 +165,7 @@ impl<'a> Runner<'a> {
     /// The disposition of a DD. A step that does not run passes it over.
     pub(crate) fn dispose(&mut self, n: usize, dd: usize, d: &DdPlan) -> Result<(), AllocError>
         requires { 0 < dd }
-        ensures { OnOk result (Does (if_runs self.old.own.runs (state_by self.old) (disposes (slice_get self.old.own.dds (dd - 1)) (fixed_by self.old) n dd d.now.name d.now.kind (state_by self.old))) self.old self.new) }
+        ensures { OnOk result (Does (disposition_of self.old n dd d.now) self.old self.new) }
     {
         if !self.own.runs {
             return Ok(());
@@ -218,7 +218,7 @@ impl<'a> Runner<'a> {
         class: u8,
         records: Listed<Record>,
     ) -> Result<(), AllocError>
-        ensures { OnOk result (Does (goes (line.Disp dd name.now (disp.Spooled (length records)) ∷ []) (with_own (state_by self.old) (record self.old.own { outputs = self.old.own.outputs ++ record { step = n; dd = dd; class = class; records = records } ∷ [] }))) self.old self.new) }
+        ensures { OnOk result (Does (puts_out self.old n dd name.now class records) self.old self.new) }
     {
         let count = records.len();
         self.own.outputs.push(Output {
@@ -251,7 +251,7 @@ impl<'a> Runner<'a> {
 
     /// The word done on a set at the end of its step.
     fn word_at(&self, p: &SetPlan, t: &TakenSet) -> Word
-        ensures { result ≡ word_done (normal_meaning (is_temporary t.now.key) p.now.normal) (conditional_meaning (is_temporary t.now.key) p.now.conditional) (after_abend self.now.own.over) t.now.made }
+        ensures { result ≡ word_of self.now p.now t.now }
     {
         let temporary = is_temporary(&t.key);
         word_done(
@@ -271,7 +271,7 @@ impl<'a> Runner<'a> {
         t: &TakenSet,
         word: Word,
     ) -> Result<(), AllocError>
-        ensures { OnOk result (Does (set_disposed (fixed_by self.old) n dd name.now p.now t.now (state_by self.old) (disposed_by word (store_of self.old.store) t.now self.old.date)) self.old self.new) }
+        ensures { OnOk result (Does (disposition_by self.old n dd name.now p.now t.now word) self.old self.new) }
     {
         let disposed = disposed_by(self.alloc, &self.store, word, t, self.date)?;
         self.set_disposed(n, dd, name, p, t, disposed)?;

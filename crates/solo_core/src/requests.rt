@@ -14,10 +14,10 @@ use jcl_meaning::names::is_shr;
 use jcl_meaning::program::Move;
 use jcl_meaning::source::FoundRecord;
 use jcl_meaning::state::{DdState, Due, Own, TakenSet};
-use jcl_meaning::store::{DataSet, RECORDS_A_TRACK, SoloStore};
+use jcl_meaning::store::{DataSet, SoloStore};
 use jcl_plan::entry::JobLine;
 use jcl_plan::outcome::{Abend, Outcome};
-use jcl_plan::plan::{DdKind, DdPlan, Record, SetPlan, Space, Status, StepPlan};
+use jcl_plan::plan::{DdKind, DdPlan, RECORDS_A_TRACK, Record, SetPlan, Space, Status, StepPlan};
 use jname_core::name8::Name8;
 use plain::listed::Listed;
 use std::alloc::{AllocError, Global};
@@ -97,7 +97,7 @@ fn set_to_write(
             records: Listed::empty(alloc),
         });
     }
-    set.copy_of(alloc)
+    set.clone()
 }
 
 /// A DD's state and the record that is due, behind a line of the program.
@@ -187,7 +187,7 @@ impl<'a> Runner<'a> {
     {
         match self.own.dds.as_slice().get(d) {
             None => Ok(None),
-            Some(x) => Ok(Some(x.copy_of(self.alloc)?)),
+            Some(x) => Ok(Some(x.clone()?)),
         }
     }
 
@@ -403,7 +403,8 @@ impl<'a> Runner<'a> {
         mut set: DataSet,
     ) -> Result<(), AllocError>
         requires { d < length self.old.own.dds }
-        ensures { OnOk result (Does (put_grows (head_or true self.old.grants.now) name.now text.now d x t.now secondary set (state_by self.old)) self.old self.new) }
+        ensures { OnOk result (Does (put_grows (head_or true self.old.grants.now) name.now text.now d x t.now secondary set (state_by self.old))
+            self.old self.new) }
     {
         if !self.use_grant() {
             self.put_set(t, set)?;

@@ -1,6 +1,6 @@
 //! A job on its way: what each action of its agenda does.
 ghost use Rattle.std.specs.Prelude.{◌≡◌, ◌<◌, ◌∷◌, [], OnOk, IfSome, IfNone, length, remove};
-ghost use Rattle.solo_core.specs.Runners.{Does, GivesBack, fixed_by, is_received, state_by};
+ghost use Rattle.solo_core.specs.Runners.{Does, GivesBack, fixed_by, is_received, state_by, take_of, take_of_key, take_of_set};
 ghost use Rattle.jcl_meaning.specs.Resolutions.{meaning_at, place_of};
 ghost use Rattle.jcl_meaning.specs.States.{if_runs};
 ghost use Rattle.jcl_meaning.specs.Stores.{store_of};
@@ -79,7 +79,7 @@ impl<'a> Runner<'a> {
 
     /// A DD taken. A step that does not run passes it over.
     pub(crate) fn take(&mut self, n: usize, dd: usize, d: &DdPlan) -> Result<(), AllocError>
-        ensures { OnOk result (Does (if_runs self.old.own.runs (state_by self.old) (takes (fixed_by self.old) n dd d.now.name d.now.kind (state_by self.old))) self.old self.new) }
+        ensures { OnOk result (Does (take_of self.old n dd d.now) self.old self.new) }
     {
         if !self.own.runs {
             return Ok(());
@@ -132,7 +132,7 @@ impl<'a> Runner<'a> {
         name: &Option<Name8>,
         p: &SetPlan,
     ) -> Result<(), AllocError>
-        ensures { OnOk result (Does (takes_set (fixed_by self.old) n dd name.now p.now (state_by self.old) (meaning_at self.old.meanings.now n dd)) self.old self.new) }
+        ensures { OnOk result (Does (take_of_set self.old n dd name.now p.now) self.old self.new) }
     {
         match meaning_at(self.meanings, n, dd) {
             Resolution::Fails(fault) => self.refuse(n, dd, fault),
@@ -171,7 +171,7 @@ impl<'a> Runner<'a> {
         p: &SetPlan,
         key: &Key,
     ) -> Result<(), AllocError>
-        ensures { OnOk result (Does (decided (fixed_by self.old) n dd name.now p.now key.now (state_by self.old) (decision_at (fixed_by self.old) p.now key.now (state_by self.old) (target_at (fixed_by self.old) n dd p.now key.now (state_by self.old)))) self.old self.new) }
+        ensures { OnOk result (Does (take_of_key self.old n dd name.now p.now key.now) self.old self.new) }
     {
         let target = self.target(n, dd, p, key);
         match self.decision(p, key, &target) {

@@ -100,7 +100,8 @@ impl Queued {
 
     /// Takes the first line.
     pub(crate) fn pop(&mut self) -> Option<(u16, Written)>
-        ensures some { IfSome result (λ r. (self.old.lines ≡ r.1 ∷ self.new.lines) × (r.0 ≡ self.old.job) × (self.new ≡ record self.old { lines = self.new.lines })) }
+        ensures some { IfSome result (λ r. (self.old.lines ≡ r.1 ∷ self.new.lines) × (r.0 ≡ self.old.job)
+            × (self.new ≡ record self.old { lines = self.new.lines })) }
         ensures none { IfNone result (self.old.lines ≡ []) }
     {
         match self.rest.pop() {

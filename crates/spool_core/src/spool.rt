@@ -141,7 +141,8 @@ fn start_of(starts: &[usize], class: u8) -> usize
 
 /// From here on it begins at this place.
 fn set_start(starts: &mut Vec<usize>, class: u8, start: usize)
-    ensures { (places : List Place) → start ≤ length places → NoneBefore class start places → AreStarts starts.old.items places → AreStarts starts.new.items places }
+    ensures { (places : List Place) → start ≤ length places → NoneBefore class start places → AreStarts starts.old.items places
+        → AreStarts starts.new.items places }
 {
     if usize::from(class) < starts.len() {
         starts[usize::from(class)] = start;
@@ -175,7 +176,8 @@ fn put_outputs(sets: &mut Slab<Queued>, places: &mut Vec<Place>, job: u16, outpu
     requires stand { Stand sets.old (filled_places places.old.items) }
     requires room { HasRoom sets.old (length places.old.items) (vec_capacity places.old) (length outputs) }
     ensures stand { Stand sets.new (filled_places places.new.items) }
-    ensures entered { sets_at sets.new (filled_places places.new.items) ≡ sets_at sets.old (filled_places places.old.items) ++ filter has_lines (map (output_set job) outputs) }
+    ensures entered { sets_at sets.new (filled_places places.new.items)
+        ≡ sets_at sets.old (filled_places places.old.items) ++ filter has_lines (map (output_set job) outputs) }
     ensures starts { (starts : List ℕ) → AreStarts starts places.old.items → AreStarts starts places.new.items }
 {
     for output in outputs.into_vec() {

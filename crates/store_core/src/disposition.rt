@@ -15,11 +15,11 @@ use group_core::entry::CatEntry;
 use group_core::group::{GroupFault, Rolled};
 use jcl_meaning::names::is_temporary;
 use jcl_meaning::state::{Change, Disposed, Passed, TakenSet};
-use jcl_meaning::store::{RECORDS_A_TRACK, SoloStore};
+use jcl_meaning::store::SoloStore;
 use jcl_meaning::words::omitted;
 use jcl_plan::day::Day;
 use jcl_plan::fault::Fault;
-use jcl_plan::plan::Word;
+use jcl_plan::plan::{RECORDS_A_TRACK, Word};
 use jcl_plan::words::{BackWord, DispWord};
 use jname_core::ds_name::DsName;
 use jname_core::key::Key;
@@ -180,7 +180,7 @@ fn catalogs_in_group(
     let Some((number, group)) = member_of(store, name) else {
         return Ok(catalogs_name(own_volume(store, name), serial));
     };
-    let mut group = group.copy_of(alloc)?;
+    let mut group = group.clone()?;
     match group.enter(number, serial) {
         Ok(Rolled::Lowest) => Ok(does(DispWord::Kept, Change::Nothing)),
         Ok(_) => Ok(does(DispWord::Cataloged, Change::EnterGeneration)),
@@ -247,7 +247,7 @@ fn enter_generation(
     let Some((number, group)) = member_of(store, name) else {
         return Ok(());
     };
-    let mut group = group.copy_of(alloc)?;
+    let mut group = group.clone()?;
     let scratches = group.scratches();
     let base = name.base_of();
     match group.enter(number, serial) {
@@ -296,7 +296,8 @@ fn roll_off(
     date: Day,
 )
     requires { (length base.now ≤ 35) × (0 < number) × (number ≤ 9999) }
-    ensures { (store_of store.new ≡ rolled_off scratches date (store_of store.old) (key.Named (generation_name base.now number)) serial) × (store.new.volumes ≡ store.old.volumes) }
+    ensures rolled { store_of store.new ≡ rolled_off scratches date (store_of store.old) (key.Named (generation_name base.now number)) serial }
+    ensures volumes { store.new.volumes ≡ store.old.volumes }
 {
     let Some(name) = base.generation(number) else {
         return;
@@ -341,12 +342,13 @@ pub fn cut(
     key: &Key,
     serial: Serial,
 ) -> Result<(), AllocError>
-    ensures { OnOk result ((store_of store.new ≡ cut_at (set_in store.old.sets key.now serial) (store_of store.old) key.now serial) × (store.new.volumes ≡ store.old.volumes)) }
+    ensures cut { OnOk result (store_of store.new ≡ cut_at (set_in store.old.sets key.now serial) (store_of store.old) key.now serial) }
+    ensures volumes { OnOk result (store.new.volumes ≡ store.old.volumes) }
 {
     let Some(set) = set_in(store, key, serial) else {
         return Ok(());
     };
-    let mut set = set.copy_of(alloc)?;
+    let mut set = set.clone()?;
     let used = set.records.len().div_ceil(RECORDS_A_TRACK) as u64;
     set.tracks = set.tracks.min(used);
     put_set(alloc, store, key, serial, set)

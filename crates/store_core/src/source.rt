@@ -97,7 +97,7 @@ fn set_source(alloc: Global, store: &SoloStore, t: Option<TakenSet>) -> Result<S
     };
     let records = match set_in(store, &t.key, t.serial) {
         None => Listed::empty(alloc),
-        Some(set) => Listed::copy_of(alloc, set.records.as_slice())?,
+        Some(set) => set.records.clone()?,
     };
     Ok(Source {
         records,
@@ -118,7 +118,7 @@ fn source_of(
         DdKind::Sysout(_) => Ok(no_source(alloc)),
         DdKind::Dummy => Ok(no_source(alloc)),
         DdKind::Cards(cards) => Ok(Source {
-            records: Listed::copy_of(alloc, cards.as_slice())?,
+            records: cards.clone()?,
             read_past: true,
             serial: None,
         }),

@@ -288,7 +288,7 @@ pub(crate) fn uncatalog(alloc: Global, store: &mut SoloStore, key: &Key) -> Resu
         remove_entry(alloc, store, name);
         return Ok(());
     };
-    let group = without_number(group.copy_of(alloc)?, number);
+    let group = without_number(group.clone()?, number);
     put_entry(alloc, store, &name.base_of(), CatEntry::Group(group))
 }
 

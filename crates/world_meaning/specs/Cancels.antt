@@ -5,6 +5,7 @@ use Rattle.jcl_plan.specs.declared.entry.Entry.{Entry}
 use Rattle.jcl_plan.specs.declared.entry.Entry.TheVariants as entry
 use Rattle.jcl_plan.specs.declared.entry.JobLine.TheVariants as line
 use Rattle.jcl_plan.specs.declared.fault.Cause.TheVariants.{A}
+use Rattle.jcl_plan.specs.declared.fault.EventFault.TheVariants.{NoSuchJob}
 use Rattle.world_meaning.specs.Holdings.{released}
 use Rattle.world_meaning.specs.Tracks.{Conserves}
 use Rattle.world_meaning.specs.Turns.{has_cancel}
@@ -33,7 +34,7 @@ abbrev pub with_cancel : Shared → ℕ → Shared
 with_cancel s job = if has_cancel s.cancels job then s else record s { cancels = s.cancels ++ job ∷ [] }
 
 pub data CancelsJob (old : World) (job : ℕ) (lines : List Entry) (new : World) : Type 0 where
-  no_job : IsNoJob old job → lines ≡ entry.Refused (A 2) ∷ [] → new ≡ old → CancelsJob old job lines new
+  no_job : IsNoJob old job → lines ≡ entry.Refused (A NoSuchJob) ∷ [] → new ≡ old → CancelsJob old job lines new
   waiting : (w : Waiting) (free : List ℕ → ℕ) → Contains old.waiting w → w.job ≡ job → lines ≡ cancelled_lines job →
       new ≡ record old { waiting = without_waiting old.waiting job; shared = released old.config old.shared job free } →
       Conserves old.shared new.shared → CancelsJob old job lines new

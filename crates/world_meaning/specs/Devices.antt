@@ -6,6 +6,7 @@ use Rattle.jcl_plan.specs.declared.entry.Entry.{Entry}
 use Rattle.jcl_plan.specs.declared.entry.Entry.TheVariants as entry
 use Rattle.jcl_plan.specs.declared.entry.Written.{Written}
 use Rattle.jcl_plan.specs.declared.fault.Cause.TheVariants.{A}
+use Rattle.jcl_plan.specs.declared.fault.EventFault.TheVariants.{NoSuchVolume, NothingUnderWay}
 use Rattle.machine_meaning.specs.declared.machine.SpoolSet.{SpoolSet}
 use Rattle.machine_meaning.specs.Spools.{HasNoSet, Takes}
 use Rattle.world_meaning.specs.Turns.{is_busy}
@@ -17,8 +18,8 @@ abbrev pub without_operation : List Operation → List ℕ → List Operation
 without_operation operations serial = filter (λ o. not (bytes_eq o.serial serial)) operations
 
 pub data EndsDevice (old : World) (serial : List ℕ) (lines : List Entry) (new : World) : Type 0 where
-  no_volume : All (λ v. v ≢ serial) old.config.volumes → lines ≡ entry.Refused (A 3) ∷ [] → new ≡ old → EndsDevice old serial lines new
-  idle : Contains old.config.volumes serial → is_busy old.shared.operations (Some serial) ≡ false → lines ≡ entry.Refused (A 4) ∷ [] → new ≡ old →
+  no_volume : All (λ v. v ≢ serial) old.config.volumes → lines ≡ entry.Refused (A NoSuchVolume) ∷ [] → new ≡ old → EndsDevice old serial lines new
+  idle : Contains old.config.volumes serial → is_busy old.shared.operations (Some serial) ≡ false → lines ≡ entry.Refused (A NothingUnderWay) ∷ [] → new ≡ old →
       EndsDevice old serial lines new
   ended : Contains old.config.volumes serial → is_busy old.shared.operations (Some serial) ≡ true → lines ≡ [] →
       new ≡ record old { shared = record old.shared { operations = without_operation old.shared.operations serial } } → EndsDevice old serial lines new

@@ -9,6 +9,8 @@ use Rattle.jcl_plan.specs.declared.entry.JobLine.{JobLine}
 use Rattle.jcl_plan.specs.declared.entry.JobLine.TheVariants as line
 use Rattle.jcl_plan.specs.declared.fault.Cause.{Cause}
 use Rattle.jcl_plan.specs.declared.fault.Cause.TheVariants.{A, Q}
+use Rattle.jcl_plan.specs.declared.fault.EventFault.TheVariants.{PastLimit}
+use Rattle.jcl_plan.specs.declared.fault.QueueFault.TheVariants.{Full}
 use Rattle.jcl_plan.specs.declared.plan.JobPlan.{JobPlan}
 use Rattle.machine_meaning.specs.declared.machine.TheConstants.{MOST_JOBS}
 use Rattle.world_meaning.specs.Records.{AgreeBut, open_fields}
@@ -33,11 +35,11 @@ pub record IsWritten (c : Config) (old new : Records) (job : ℕ) (plan : JobPla
 
 -- REJECTED x, READ
 pub data Reads (job_of : Denoting) (old : World) (deck : List (List ℕ)) (lines : List Entry) (new : World) : Type 0 where
-  no_number : MOST_JOBS ≤ old.jobs → lines ≡ entry.Refused (A 5) ∷ [] → new ≡ old → Reads job_of old deck lines new
+  no_number : MOST_JOBS ≤ old.jobs → lines ≡ entry.Refused (A PastLimit) ∷ [] → new ≡ old → Reads job_of old deck lines new
   rejected : (cause : Cause) → old.jobs < MOST_JOBS → job_of deck ≡ Err cause →
       lines ≡ of_job (old.jobs + 1) (line.Rejected cause ∷ []) → new ≡ record old { jobs = old.jobs + 1 } → Reads job_of old deck lines new
   full : (plan : JobPlan) → old.jobs < MOST_JOBS → job_of deck ≡ Ok plan → length old.shared.records.free < records_needed plan →
-      lines ≡ of_job (old.jobs + 1) (line.Rejected (Q 1) ∷ []) → new ≡ record old { jobs = old.jobs + 1 } → Reads job_of old deck lines new
+      lines ≡ of_job (old.jobs + 1) (line.Rejected (Q Full) ∷ []) → new ≡ record old { jobs = old.jobs + 1 } → Reads job_of old deck lines new
   read : (plan : JobPlan) (first : ℕ) (records : Records) → old.jobs < MOST_JOBS → job_of deck ≡ Ok plan →
       IsWritten old.config old.shared.records records (old.jobs + 1) plan first → lines ≡ of_job (old.jobs + 1) (read_line plan ∷ []) →
       new ≡ record old {

@@ -4,6 +4,7 @@ use Rattle.jcl_plan.specs.declared.entry.Entry.{Entry}
 use Rattle.jcl_plan.specs.declared.entry.Entry.TheVariants as entry
 use Rattle.jcl_plan.specs.declared.entry.JobLine.{JobLine}
 use Rattle.jcl_plan.specs.declared.fault.Cause.TheVariants.{A}
+use Rattle.jcl_plan.specs.declared.fault.EventFault.TheVariants.{NoSuchInitiator, PastLimit}
 use Rattle.machine_meaning.specs.declared.machine.TheConstants.{MOST_EVENTS}
 use Rattle.world_meaning.specs.declared.event.Event.{Event}
 use Rattle.world_meaning.specs.declared.event.Event.TheVariants as event
@@ -39,7 +40,7 @@ Acts old place x None lines new = Selects old place x lines new
 Acts old place x (Some r) lines new = Goes old place x r lines new
 
 pub data Turns (old : World) (number : ℕ) (lines : List Entry) (new : World) : Type 0 where
-  unknown : HasNoInitiator old number → lines ≡ entry.Refused (A 1) ∷ [] → new ≡ old → Turns old number lines new
+  unknown : HasNoInitiator old number → lines ≡ entry.Refused (A NoSuchInitiator) ∷ [] → new ≡ old → Turns old number lines new
   acts : (place : ℕ) (x : Initiator) → IsAt old place x → x.number ≡ number → Acts old place x x.running lines new → Turns old number lines new
 
 pub data Shows (old : World) (lines : List Entry) (new : World) : Type 0 where
@@ -63,7 +64,7 @@ pub record Happens (job_of : Denoting) (old : World) (e : Event) (lines : List E
   pub rest : new ≡ record middle { shared = new.shared }
 
 pub data Transition (job_of : Denoting) (old : World) (e : Event) (lines : List Entry) (new : World) : Type 0 where
-  past : MOST_EVENTS ≤ old.events → lines ≡ entry.Refused (A 5) ∷ [] → new ≡ old → Transition job_of old e lines new
+  past : MOST_EVENTS ≤ old.events → lines ≡ entry.Refused (A PastLimit) ∷ [] → new ≡ old → Transition job_of old e lines new
   taken : old.events < MOST_EVENTS → Happens job_of (counted old) e lines new → Transition job_of old e lines new
 
 -- events one after another, and the lines of each

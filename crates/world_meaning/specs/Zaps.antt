@@ -6,6 +6,7 @@ use Rattle.cb_meaning.specs.Walks.{is_free, owner_of}
 use Rattle.jcl_plan.specs.declared.entry.Entry.{Entry}
 use Rattle.jcl_plan.specs.declared.entry.Entry.TheVariants as entry
 use Rattle.jcl_plan.specs.declared.fault.Cause.TheVariants.{Q}
+use Rattle.jcl_plan.specs.declared.fault.QueueFault.TheVariants as refused
 use Rattle.world_meaning.specs.Records.{overwritten, with_record}
 use Rattle.world_meaning.specs.Worlds.{Running, World}
 
@@ -35,9 +36,9 @@ abbrev pub may_be_zapped : World → ℕ → ℕ → ℕ → Bool
 may_be_zapped w n offset count = is_within w.config.layout.most_records n offset count && is_owned w n
 
 pub data ZapsRecord (old : World) (n offset : ℕ) (bytes : List ℕ) (lines : List Entry) (new : World) : Type 0 where
-  not_owned : may_be_zapped old n offset (length bytes) ≡ false → lines ≡ entry.Refused (Q 2) ∷ [] → new ≡ old → ZapsRecord old n offset bytes lines new
+  not_owned : may_be_zapped old n offset (length bytes) ≡ false → lines ≡ entry.Refused (Q refused.NotOwner) ∷ [] → new ≡ old → ZapsRecord old n offset bytes lines new
   selected : may_be_zapped old n offset (length bytes) ≡ true → has_initiator old (owner_of old.shared.records n) ≡ true →
-      lines ≡ entry.Refused (Q 3) ∷ [] → new ≡ old → ZapsRecord old n offset bytes lines new
+      lines ≡ entry.Refused (Q refused.Selected) ∷ [] → new ≡ old → ZapsRecord old n offset bytes lines new
   zapped : may_be_zapped old n offset (length bytes) ≡ true → has_initiator old (owner_of old.shared.records n) ≡ false → lines ≡ [] →
       new ≡ record old { shared = record old.shared { records = with_record old.shared.records n (overwritten (old.shared.records.at n) offset bytes) } } →
       ZapsRecord old n offset bytes lines new

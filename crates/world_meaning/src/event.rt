@@ -1,14 +1,14 @@
 //! The inputs of the machine.
 use jcl_plan::day::Day;
 use jname_core::serial::Serial;
+use plain::lent::Lent;
 use plain::listed::Listed;
-use plain::text::Text;
 
 /// What happens to the machine from outside. Nothing else runs meanwhile.
 #[derive(Debug, Drop)]
-pub enum Event {
+pub enum Event<'a> {
     /// A deck is read: its lines.
-    Read(Listed<Text>),
+    Read(Listed<Lent<'a>>),
     /// The initiator of this number acts once.
     Turn(u8),
     /// The operation under way on this volume ends.

@@ -18,6 +18,7 @@ use jcl_plan::outcome::Outcome;
 use jcl_plan::plan::{DdKind, DdPlan, JobPlan, Record, SetPlan, StepPlan, Test, Tests, no_tests};
 use jname_core::name8::Name8;
 use jname_core::serial::Serial;
+use plain::draft::Draft;
 use plain::listed::Listed;
 use solo_core::{solo, solo_path};
 use std::alloc::{AllocError, Global};
@@ -296,13 +297,14 @@ fn set_plan(words: &[&str]) -> Result<SetPlan, Fail> {
 }
 
 /// The lines, with a line feed between two.
-fn text_of(alloc: Global, lines: &[JobLine]) -> Result<Vec<u8>, AllocError> {
-    let mut out = Vec::new(alloc);
+fn text_of(alloc: Global, lines: &[JobLine]) -> Result<Draft, AllocError> {
+    let mut out = Draft::empty(alloc);
     for line in lines {
-        if !out.is_empty() {
-            out.push(b'\n')?;
+        if out.len() > 0 {
+            out.push_byte(b'\n')?;
         }
         line.write_to(&mut out)?;
+        out.keep();
     }
     Ok(out)
 }
@@ -387,7 +389,7 @@ fn check_lines(
     wanted: &str,
 ) -> Result<(), Fail> {
     let written = text_of(alloc, lines)?;
-    assert_eq!(rt; str::from_utf8(written.as_slice())?, wanted);
+    assert_eq!(rt; str::from_utf8(written.kept())?, wanted);
     Ok(())
 }
 

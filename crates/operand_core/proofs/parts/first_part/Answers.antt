@@ -1,6 +1,6 @@
 use Rattle.std.proofs.Common.{◌+◌, false, sym, ap, ◌∙◌, ◌∷◌, arith, drop}
 use Rattle.operand_core.specs.Operands.{places_of}
-use Rattle.operand_core.proofs.Places.{behind_front-start, behind_front-ends}
+use Rattle.operand_core.proofs.CharacterByCharacter.{behind_front-start, behind_front-ends}
 use Rattle.operand_core.proofs.parts.first_part.Goals as goal
 
 pub loop-at-init : goal.loop-at-init

@@ -1,6 +1,6 @@
 use Rattle.std.proofs.Common.{◌≡◌, ◌≤◌, take, drop}
 use Rattle.operand_core.specs.Operands.{places_of, parts_from}
-use Rattle.operand_core.proofs.Places.{behind_front}
+use Rattle.operand_core.proofs.CharacterByCharacter.{behind_front}
 use Rattle.operand_core.proofs.parts.first_part.Given as goal
 
 abbrev pub invariant-loop-at : goal.invariant-loop-at

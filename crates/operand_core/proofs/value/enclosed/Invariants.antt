@@ -1,6 +1,6 @@
 use Rattle.std.proofs.Common.{◌≡◌, false, drop}
 use Rattle.operand_core.specs.Values.{enclosed}
-use Rattle.operand_core.proofs.Places.{text_behind}
+use Rattle.operand_core.proofs.CharacterByCharacter.{text_behind}
 use Rattle.operand_core.proofs.value.enclosed.Given as goal
 
 abbrev pub invariant-loop-c : goal.invariant-loop-c

@@ -12,5 +12,5 @@ returns-then-rank-class-clause-none c =
 
 pub returns-clause-some : goal.returns-clause-some
 returns-clause-some c =
-    subst (λ class. IsLeast c.args.ranks.now c.args.class (record { job = c.in_ok-rank.rank.now.job; class = class; priority = c.in_ok-rank.rank.now.priority.0 })) c.if-rank-class.false
+    subst (λ class. IsLeast c.args.ranks.now c.args.class (record { job = c.in_ok-rank.rank.now.job; jct = c.in_ok-rank.rank.now.jct; class = class; priority = c.in_ok-rank.rank.now.priority.0 })) c.if-rank-class.false
     (is_least c.args.ranks.now c.args.class c.range.result (c.range.ensures.in_range tt) c.requires c.in_ok-rank.rank.now c.next.new.self c.in_ok-rank.ensures.steps c.if-rank-class.false)

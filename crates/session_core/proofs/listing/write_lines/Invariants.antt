@@ -3,4 +3,7 @@ use Rattle.jcl_plan.specs.Lines.{text_of}
 use Rattle.session_core.proofs.listing.write_lines.Given as goal
 
 abbrev pub invariant-loop-entry : goal.invariant-loop-entry
-invariant-loop-entry l = l.text.items ≡ flat_map text_of (take l.entry-index l.entries)
+invariant-loop-entry l = record {
+  kept : l.text.kept ≡ l.fn.text.kept;
+  begun : l.text.begun ≡ flat_map text_of (take l.entry-index l.entries);
+}

@@ -23,7 +23,7 @@ returns-in-Err-clause-outcome g c =
     let so_far = c.loop-statement.invariant.so_far in
     let new = c.run_statement.new in
     let last = Progress-last all _ _ _ _ c.split_at.ensures.back c.loop-statement-test.true c.statement-item.is _ _ new.system so_far.0 _
-    new.listing.marks.items _ new.listing.text.items c.in-Err.fault so_far.2 c.in-Err.ensures.runs in
+    new.listing.marks.items _ new.listing.text.kept c.in-Err.fault so_far.2 c.in-Err.ensures.runs in
     written_behind (session_behind [] all) _ _ _ c.end.result so_far.0 so_far.1 (c.end.ensures.outcome (session_behind [] all) so_far.0 last.outcome last.marked)
 
 -- its lines are held
@@ -32,7 +32,7 @@ loop-statement-preserved-then-len-lt-MOST_HELD g c =
     let so_far = c.loop-statement.invariant.so_far in
     let new = c.run_statement.new in
     let next = Progress-next c.args.statements.now _ _ _ _ c.split_at.ensures.back c.loop-statement-test.true c.statement-item.is _ new.config _
-    new.system so_far.0 _ new.listing.marks.items _ new.listing.text.items c.in-Ok.ensures.config so_far.2 c.in-Ok.ensures.runs in
+    new.system so_far.0 _ new.listing.marks.items _ new.listing.text.kept c.in-Ok.ensures.config so_far.2 c.in-Ok.ensures.runs in
     record { so_far = (so_far.0, so_far.1, next); unfailed = search rules; same = search rules }
 
 -- the held lines are not written whole
@@ -42,7 +42,7 @@ returns-in-Err-write_out-clause-outcome g c =
     let so_far = c.loop-statement.invariant.so_far in
     let new = c.run_statement.new in
     let next = Progress-next all _ _ _ _ c.split_at.ensures.back c.loop-statement-test.true c.statement-item.is _ new.config _ new.system so_far.0 _
-    new.listing.marks.items _ new.listing.text.items c.in-Ok.ensures.config so_far.2 c.in-Ok.ensures.runs in
+    new.listing.marks.items _ new.listing.text.kept c.in-Ok.ensures.config so_far.2 c.in-Ok.ensures.runs in
     written_behind {T = SessionEnd} (session_behind [] all) _ _ _ (Err c.in-Err-write_out.fault) so_far.0 so_far.1
     (c.in-Err-write_out.ensures.err (session_behind [] all) so_far.0 next.marked)
 
@@ -52,10 +52,10 @@ loop-statement-preserved g c =
     let so_far = c.loop-statement.invariant.so_far in
     let new = c.run_statement.new in
     let next = Progress-next c.args.statements.now _ _ _ _ c.split_at.ensures.back c.loop-statement-test.true c.statement-item.is _ new.config _
-    new.system so_far.0 _ new.listing.marks.items _ new.listing.text.items c.in-Ok.ensures.config so_far.2 c.in-Ok.ensures.runs in
+    new.system so_far.0 _ new.listing.marks.items _ new.listing.text.kept c.in-Ok.ensures.config so_far.2 c.in-Ok.ensures.runs in
     let out = c.in-Ok-write_out.ensures in
     record {
-      so_far = (so_far.0 ++ new.listing.text.items, appended_twice _ _ _ _ _ so_far.1 out.ok, Progress-written _ _ _ _ _ _ _ _ _ _ next out.marks out.text);
+      so_far = (so_far.0 ++ new.listing.text.kept, appended_twice _ _ _ _ _ so_far.1 out.ok, Progress-written _ _ _ _ _ _ _ _ _ _ next out.marks out.text);
       unfailed = search rules;
       same = search rules;
     }

@@ -8,7 +8,7 @@ abbrev pub invariant-loop-statement : goal.invariant-loop-statement
 invariant-loop-statement g l = record {
   so_far : let at = l.from + l.statement-index in
       (out : List ℕ) × Appends (g.W.Write.contents l.fn.sink.writer.now) (g.W.Write.contents l.sink.writer.now) out
-      × Progress l.statements (take at l.statements) (drop at l.statements) l.config l.system out l.listing.marks.items l.listing.text.items;
+      × Progress l.statements (take at l.statements) (drop at l.statements) l.config l.system out l.listing.marks.items l.listing.text.kept;
   unfailed : l.sink.failed ≡ false;
   same : l.sink.writer.ghost_name ≡ l.fn.sink.writer.ghost_name;
 }

@@ -1,8 +1,5 @@
--- How many tracks records fill.
+-- How many tracks records fill: 32 a track.
 use Rattle.std.specs.Prelude.{ℕ, ◌+◌, ◌/◌}
-
-abbrev pub records_a_track : ℕ
-records_a_track = 32
 
 abbrev pub tracks_for : ℕ → ℕ
 tracks_for records = (records + 31) / 32
