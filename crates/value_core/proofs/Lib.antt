@@ -1,0 +1,9 @@
+pub mod BadUnits
+pub mod Both
+pub mod Components
+pub mod Counts
+pub mod Crowded
+pub mod OneByOne
+pub mod Parentheses
+pub mod Tracks
+pub mod Volumes

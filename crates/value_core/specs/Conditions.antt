@@ -15,14 +15,10 @@ use Rattle.operand_core.specs.Faults.{when}
 use Rattle.operand_core.specs.Operands.{places_of}
 use Rattle.operand_core.specs.Subparameters.{inside, is_wrapped}
 use Rattle.value_core.specs.declared.condition.CodedTest.{CodedTest}
+use Rattle.value_core.specs.declared.condition.Condition.{Condition}
 use Rattle.value_core.specs.declared.reference.StepReference.{StepReference}
 use Rattle.value_core.specs.Reads.{Read, bad, good}
 use Rattle.value_core.specs.References.{step_reference}
-
--- on a JOB statement no step is named, and neither EVEN nor ONLY is known
-pub record Condition : Type 0 where
-  pub tests : List CodedTest
-  pub after_abend : AfterAbend
 
 abbrev pub operator_of : List ℕ → Option Operator
 operator_of text =
@@ -42,6 +38,9 @@ test_with code text step = record { code = unwrap_or (code_of code) 0; operator 
 
 abbrev pub pair_faults : List ℕ → List ℕ → List Cause
 pair_faults code text = when (is_none (code_of code) || is_none (operator_of text)) (P BadValue)
+
+abbrev pub pair : List ℕ → List ℕ → Read (ℕ × Operator)
+pair code text = record { value = (unwrap_or (code_of code) 0, unwrap_or (operator_of text) operator.Gt); faults = pair_faults code text }
 
 abbrev pub no_test : CodedTest
 no_test = record { code = 0; operator = operator.Gt; step = None }
@@ -82,14 +81,14 @@ after_abend_if false places = after.Unsaid
 
 abbrev pub condition_of_places : Bool → List (List ℕ) → Read Condition
 condition_of_places steps places = record {
-  value = record { tests = map (λ r. r.value) (tests_in steps places); after_abend = after_abend_if steps places };
+  value = record { tests = record { items = map (λ r. r.value) (tests_in steps places) }; after_abend = after_abend_if steps places };
   faults = flat_map (λ r. r.faults) (tests_in steps places)
       ++ (flat_map (λ text. when (is_neither steps text) (P BadValue)) places
       ++ (when (nat_lt 8 (length (tests_in steps places))) (P TooManyTests) ++ when (nat_lt 1 (count_by (is_word steps) places)) (P ExcludeOneAnother)));
 }
 
 abbrev pub no_condition : Condition
-no_condition = record { tests = []; after_abend = after.Unsaid }
+no_condition = record { tests = record { items = [] }; after_abend = after.Unsaid }
 
 -- in parentheses whose first item is no test and no word stands one test
 abbrev pub begins_list : List (List ℕ) → Bool
@@ -102,5 +101,5 @@ condition_in steps text =
 
 abbrev pub condition : Bool → List ℕ → Read Condition
 condition steps text =
-    if is_word steps text then good (record { tests = []; after_abend = after_abend_of (text ∷ []) })
+    if is_word steps text then good (record { tests = record { items = [] }; after_abend = after_abend_of (text ∷ []) })
     else (if is_wrapped text then condition_in steps text else bad no_condition (P BadValue))

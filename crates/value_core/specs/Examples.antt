@@ -78,16 +78,16 @@ nine_tests = codes "((1,EQ),(1,EQ),(1,EQ),(1,EQ),(1,EQ),(1,EQ),(1,EQ),(1,EQ),(1,
 
 pub record ReadsConditions : Type 0 where
   pub one : condition true (codes "(0,EQ,S1)") ≡ good (record {
-    tests = record { code = 0; operator = operator.Eq; step = Some (step.Step (codes "S1")) } ∷ [];
+    tests = record { items = record { code = 0; operator = operator.Eq; step = Some (step.Step (codes "S1")) } ∷ [] };
     after_abend = after.Unsaid;
   })
   pub even : condition true (codes "((4095,GE,S1.P1),EVEN)") ≡ good (record {
-    tests = record { code = 4095; operator = operator.Ge; step = Some (step.ProcedureStep (codes "S1") (codes "P1")) } ∷ [];
+    tests = record { items = record { code = 4095; operator = operator.Ge; step = Some (step.ProcedureStep (codes "S1") (codes "P1")) } ∷ [] };
     after_abend = after.Even;
   })
-  pub only : condition true (codes "ONLY") ≡ good (record { tests = []; after_abend = after.Only })
+  pub only : condition true (codes "ONLY") ≡ good (record { tests = record { items = [] }; after_abend = after.Only })
   pub of_a_job : condition false (codes "(8,LT)") ≡ good (record {
-    tests = record { code = 8; operator = operator.Lt; step = None } ∷ [];
+    tests = record { items = record { code = 8; operator = operator.Lt; step = None } ∷ [] };
     after_abend = after.Unsaid;
   })
   pub even_of_a_job : told (condition false (codes "EVEN")).faults ≡ Some (P BadValue)

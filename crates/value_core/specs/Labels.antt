@@ -1,17 +1,18 @@
 -- LABEL: EXPDT=yyddd or RETPD=nnnn, alone or behind four places at most; they have no effect yet. DCB: references to earlier DDs, and what is
 -- read for its form alone. (GC28-6704, LABEL and DCB parameters)
-use Rattle.std.specs.Prelude.{ℕ, Bool, false, not, ◌&&◌, ◌||◌, ◌==◌, nat_lt, nat_le, List, [], ◌++◌, drop, length, Option, Some, None, is_some, count_by, codes, filter, map}
+use Rattle.std.specs.Prelude.{ℕ, Bool, not, ◌&&◌, ◌||◌, ◌==◌, nat_lt, nat_le, List, [], ◌++◌, drop, length, Option, Some, None, is_some, codes, filter, map}
 use Rattle.std.specs.List.{flat_map, list_all, list_any}
 use Rattle.std.specs.Str.{bytes_eq}
 use Rattle.jname_core.specs.Characters.{is_digit}
 use Rattle.jname_core.specs.Decimals.{number_within}
 use Rattle.jcl_plan.specs.declared.fault.Cause.{Cause}
 use Rattle.jcl_plan.specs.declared.fault.Cause.TheVariants.{P}
-use Rattle.jcl_plan.specs.declared.fault.StatementFault.TheVariants.{BadValue, ExcludeOneAnother, KeywordTwice}
+use Rattle.jcl_plan.specs.declared.fault.StatementFault.TheVariants.{BadValue}
 use Rattle.operand_core.specs.Faults.{when}
 use Rattle.operand_core.specs.Operands.{behind_positional, keyword_of, is_positional, positional_parts}
 use Rattle.operand_core.specs.Subparameters.{subparameters_of}
 use Rattle.value_core.specs.declared.reference.DdReference.{DdReference}
+use Rattle.value_core.specs.Places.{together_faults}
 use Rattle.value_core.specs.Reads.{Read, all_of}
 use Rattle.value_core.specs.References.{dd_reference, is_reference}
 
@@ -30,13 +31,6 @@ abbrev pub place_faults : Option (List ℕ × List ℕ) → List Cause
 place_faults None = []
 place_faults (Some found) = when (not (is_label found.0 found.1)) (P BadValue)
 
-abbrev pub is_key : List ℕ → Option (List ℕ × List ℕ) → Bool
-is_key key None = false
-is_key key (Some found) = bytes_eq found.0 key
-
-abbrev pub times : List ℕ → List (List ℕ) → ℕ
-times key places = count_by (λ text. is_key key (keyword_of text)) places
-
 -- a place without a keyword behind one with it, or a fifth, and no keyword at all
 abbrev pub is_crowded : List (List ℕ) → Bool
 is_crowded places =
@@ -45,9 +39,7 @@ is_crowded places =
 abbrev pub label_faults_of : List (List ℕ) → List Cause
 label_faults_of places =
     flat_map (λ text. place_faults (keyword_of text)) places
-    ++ (when (is_crowded places) (P BadValue)
-    ++ (when (nat_lt 1 (times (codes "EXPDT") places) || nat_lt 1 (times (codes "RETPD") places)) (P KeywordTwice)
-    ++ when (nat_lt 0 (times (codes "EXPDT") places) && nat_lt 0 (times (codes "RETPD") places)) (P ExcludeOneAnother)))
+    ++ (when (is_crowded places) (P BadValue) ++ together_faults (codes "EXPDT") (codes "RETPD") places)
 
 abbrev pub label_faults : List ℕ → List Cause
 label_faults text = label_faults_of (subparameters_of text)

@@ -1,9 +1,11 @@
 pub mod Reads
+pub mod Places
 pub mod References
 pub mod SetNames
 pub mod Dispositions
 pub mod Units
 pub mod VolumeNames
+pub mod Capped
 pub mod Spaces
 pub mod Labels
 pub mod Conditions

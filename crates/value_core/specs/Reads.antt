@@ -1,8 +1,9 @@
 -- A value as it is read: what it means, and its faults. Where it has a fault it means nothing. Want of a place is no fault here: a value that
 -- is not coded is not read.
-use Rattle.std.specs.Prelude.{List, [], ◌∷◌, ◌++◌, map}
+use Rattle.std.specs.Prelude.{◌≡◌, ℕ, List, [], ◌∷◌, ◌++◌, Option, Some, None, Result, Ok, Err, map}
 use Rattle.std.specs.List.{flat_map}
 use Rattle.jcl_plan.specs.declared.fault.Cause.{Cause}
+use Rattle.operand_core.specs.Faults.{lower, name_faults, or_fault, told}
 
 pub record Read (A : Type 0) : Type 0 where
   pub value : A
@@ -24,3 +25,25 @@ mapped f r = record { value = f r.value; faults = r.faults }
 -- all of a list, with the faults of each
 abbrev pub all_of : {A : Type 0} → List (Read A) → Read (List A)
 all_of rs = record { value = map (λ r. r.value) rs; faults = flat_map (λ r. r.faults) rs }
+
+-- what a reader answers: the value, or the fault that is told
+abbrev pub IsRead : {A : Type 0} → Result A Cause → Read A → Type 0
+IsRead result r = result ≡ or_fault (told r.faults) r.value
+
+-- two answers as one
+abbrev pub both : {A B : Type 0} → Result A Cause → Result B Cause → Result (A × B) Cause
+both (Ok a) (Ok b) = Ok (a, b)
+both (Ok a) (Err fault) = Err fault
+both (Err fault) (Ok b) = Err fault
+both (Err fault) (Err other) = Err (lower fault other)
+
+-- an answer with one more fault, which may be absent
+abbrev pub with_fault : {A : Type 0} → Result A Cause → Option Cause → Result A Cause
+with_fault (Ok a) None = Ok a
+with_fault (Ok a) (Some fault) = Err fault
+with_fault (Err fault) None = Err fault
+with_fault (Err fault) (Some other) = Err (lower fault other)
+
+-- a name
+abbrev pub name : List ℕ → Read (List ℕ)
+name text = record { value = text; faults = name_faults text }

@@ -1,5 +1,5 @@
 -- References: *.dd, *.step.dd, *.step.procstep.dd; of a test step, step.procstep. (GC28-6704, "Backward references"; COND parameter)
-use Rattle.std.specs.Prelude.{ℕ, Bool, List, [], ◌∷◌, ◌++◌, drop, length, nat_lt, codes, nat_eq}
+use Rattle.std.specs.Prelude.{ℕ, Bool, List, [], ◌∷◌, ◌++◌, drop, length, Option, Some, None, nat_lt, codes, nat_eq}
 use Rattle.std.specs.List.{flat_map, starts_with}
 use Rattle.jname_core.specs.Grammar.{components_of}
 use Rattle.jcl_plan.specs.declared.fault.Cause.{Cause}
@@ -18,6 +18,11 @@ is_reference text = starts_with nat_eq text (codes "*.")
 -- each part is a name, and there are not too many
 abbrev pub parts_faults : ℕ → List (List ℕ) → List Cause
 parts_faults most parts = flat_map name_faults parts ++ when (nat_lt most (length parts)) (P BadValue)
+
+-- the parts that are left behind a period, or none
+abbrev pub components_left : Option (List ℕ) → List (List ℕ)
+components_left None = []
+components_left (Some text) = components_of text
 
 abbrev pub dd_of_parts : List (List ℕ) → DdReference
 dd_of_parts [] = dd.Dd []

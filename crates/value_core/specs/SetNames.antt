@@ -89,15 +89,24 @@ amount_faults text =
     else (if not (is_signed text) && nat_lt 0 (decimal_value (digits_of text)) then P BadValue ∷ []
     else []))
 
+abbrev pub amount : List ℕ → Read (Sign × ℕ)
+amount text = record { value = (sign_of text, decimal_value (digits_of text)); faults = amount_faults text }
+
 -- the base of a group has at most 35 characters
+abbrev pub base : List ℕ → Read (List ℕ)
+base text = record { value = text; faults = as_cause (ds_name_fault 35 text) }
+
 abbrev pub relative : List ℕ → List ℕ → Read Key
-relative base amount = record {
-  value = Relative base (sign_of amount) (decimal_value (digits_of amount));
-  faults = as_cause (ds_name_fault 35 base) ++ amount_faults amount;
+relative text within = record {
+  value = Relative text (amount within).value.0 (amount within).value.1;
+  faults = (base text).faults ++ (amount within).faults;
 }
 
+abbrev pub ds_name : List ℕ → Read (List ℕ)
+ds_name text = record { value = text; faults = as_cause (ds_name_fault 44 text) }
+
 abbrev pub plain : List ℕ → Option (List ℕ) → Read Key
-plain text inside = record { value = Named text; faults = as_cause (ds_name_fault 44 text) ++ member_faults inside }
+plain text inside = record { value = Named text; faults = (ds_name text).faults ++ member_faults inside }
 
 abbrev pub key_of : List ℕ → Read Key
 key_of text =
@@ -105,8 +114,14 @@ key_of text =
     else (if begins_amount (within_parentheses text) then relative (named_part text) (unwrap_or (within_parentheses text) [])
     else plain (named_part text) (within_parentheses text))
 
+abbrev pub of_dd : List ℕ → Read SetName
+of_dd text = mapped name.OfDd (dd_reference text)
+
+abbrev pub of_key : List ℕ → Read SetName
+of_key text = mapped name.Of (key_of text)
+
 abbrev pub set_name : List ℕ → Read SetName
 set_name text =
     if bytes_eq text (codes "NULLFILE") then good name.Null
-    else (if is_reference text then mapped name.OfDd (dd_reference text)
-    else mapped name.Of (key_of text))
+    else (if is_reference text then of_dd text
+    else of_key text)

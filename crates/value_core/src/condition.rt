@@ -1,7 +1,8 @@
 //! Tests of completion codes. (COND parameter)
 use crate::reference::StepReference;
+use arrayvec::ArrayVec;
 use jcl_plan::outcome::Code;
-use jcl_plan::plan::Operator;
+use jcl_plan::plan::{AfterAbend, Operator};
 
 /// A test of the steps that ended by a code, or of one of them.
 #[derive(Clone, Copy, Debug)]
@@ -9,4 +10,25 @@ pub struct CodedTest {
     pub code: Code,
     pub operator: Operator,
     pub step: Option<StepReference>,
+}
+
+/// What fills the unused places of a list of tests.
+impl Default for CodedTest {
+    fn default() -> CodedTest {
+        CodedTest {
+            code: Code::zero(),
+            operator: Operator::Gt,
+            step: None,
+        }
+    }
+}
+
+/// At most eight tests.
+pub type CodedTests = ArrayVec<CodedTest, 8>;
+
+/// What COND says. On a JOB statement no test names a step, and neither EVEN nor ONLY is known.
+#[derive(Debug, Drop)]
+pub struct Condition {
+    pub tests: CodedTests,
+    pub after_abend: AfterAbend,
 }

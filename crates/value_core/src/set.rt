@@ -6,7 +6,7 @@ use jname_core::key::Key;
 use jname_core::serial::Serial;
 
 /// What DSNAME names.
-#[derive(Clone, Copy, Debug)]
+#[derive(Clone, Copy, Debug, PartialEq, Eq)]
 pub enum SetName {
     /// NULLFILE, which is no data set.
     Null,
@@ -24,7 +24,7 @@ pub struct Disposition {
 }
 
 /// The volume that VOLUME names.
-#[derive(Clone, Copy, Debug)]
+#[derive(Clone, Copy, Debug, PartialEq, Eq)]
 pub enum VolumeName {
     /// None: PRIVATE, RETAIN or counts alone.
     Any,

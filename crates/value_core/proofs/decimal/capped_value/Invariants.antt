@@ -1,0 +1,6 @@
+use Rattle.std.proofs.Common.{◌≡◌, ◌≤◌, min, take}
+use Rattle.jname_core.specs.Decimals.{decimal_value}
+use Rattle.value_core.proofs.decimal.capped_value.Given as goal
+
+abbrev pub invariant-loop-c : goal.invariant-loop-c
+invariant-loop-c l = (l.value ≤ 30000000) × (l.value ≡ min 30000000 (decimal_value (take l.c-index l.digits)))
