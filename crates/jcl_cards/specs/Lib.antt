@@ -1,0 +1,7 @@
+pub mod Keywords
+pub mod JobCards
+pub mod ExecCards
+pub mod ProcedureCards
+pub mod DdCards
+pub mod Merging
+pub mod Examples

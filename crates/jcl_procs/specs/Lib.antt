@@ -1,0 +1,4 @@
+pub mod Calls
+pub mod Overrides
+pub mod Expansions
+pub mod Examples

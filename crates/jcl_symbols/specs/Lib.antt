@@ -1,0 +1,2 @@
+pub mod Substitutions
+pub mod Examples
