@@ -1,0 +1,4 @@
+pub mod LaterDds
+pub mod Targets
+pub mod Plans
+pub mod Examples

@@ -1,0 +1,5 @@
+//! The plan of a job: its steps with their tests, references, DDNAMEs and unit names resolved. (GC28-6704, "Backward references", DDNAME and UNIT
+//! parameters)
+#![tactic(auto)]
+
+pub mod examples;
