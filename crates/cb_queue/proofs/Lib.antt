@@ -1,0 +1,6 @@
+pub mod Changing
+pub mod Given
+pub mod Lent
+pub mod Parts
+pub mod Storing
+pub mod Uses

@@ -1,0 +1,28 @@
+use Rattle.std.proofs.Common.{◌≡◌, suc, ◌-◌, ◌<◌, ◌∙◌, ap, arith, length, sym}
+use Rattle.cb_queue.specs.RecordQueues.{given_back, owner_at}
+use Rattle.cb_queue.proofs.Given.{step_given, step_kept}
+use Rattle.cb_queue.proofs.list_store.ListStoreRecordStore.give_back_all.Goals as goal
+use Rattle.cb_queue.proofs.list_store.ListStoreRecordStore.give_back_all.Goals.{then-owner, else-owner}
+
+pub loop-n-preserved : goal.loop-n-preserved
+loop-n-preserved c =
+    let n = c.loop-n.n in
+    let q = c.args.self.now in
+    let more : suc (n - 1) ≡ n = omega (arith, c.loop-n-test.true) in
+    let here : n - 1 < length q.records = omega (arith, c.loop-n.invariant.within, more) in
+    elim c.if-owner.branch [
+      | then-owner w ↦
+          record {
+            within = omega (arith, here);
+            is =
+                w.self-is ∙ w.give_back.ensures ∙ ap (λ s. given_back s n) c.loop-n.invariant.is
+                ∙ step_given q c.args.owner n (n - 1) more here (sym (ap (λ s. owner_at s n) c.loop-n.invariant.is) ∙ sym c.owner.ensures.value ∙ w.if-owner.true);
+          }
+      | else-owner w ↦
+          record {
+            within = omega (arith, here);
+            is =
+                w.self-is ∙ c.loop-n.invariant.is
+                ∙ step_kept q c.args.owner n (n - 1) more here (λ same. w.if-owner.false (c.owner.ensures.value ∙ ap (λ s. owner_at s n) c.loop-n.invariant.is ∙ same));
+          }
+    ]

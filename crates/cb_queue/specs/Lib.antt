@@ -1,0 +1,2 @@
+pub mod RecordQueues
+pub mod Stored

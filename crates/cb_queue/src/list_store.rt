@@ -1,0 +1,180 @@
+//! A store of records in one table.
+ghost use Rattle.std.specs.Prelude.{◌≡◌, ◌<◌, ◌^◌, IfOk, None, length, replicate, reverse};
+ghost use Rattle.cb_meaning.specs.declared.layout.TheConstants.{RECORD_BYTES};
+ghost use Rattle.cb_queue.specs.RecordQueues.{HasOwnLink, empty_queue, numbers_from, owner_at, record_at, with_part, zero_record};
+ghost use Rattle.cb_records.specs.Writes.{HoldsNumber};
+
+use crate::store::RecordStore;
+use cb_meaning::layout::{Field, Layout};
+use cb_records::rec::Rec;
+use queue_core::queue::{JobQueue, Queued};
+use std::alloc::{AllocError, Global};
+use std::marker::Model;
+
+/// The number of the job that owns a record.
+const OWNER: Field = Field { at: 2, width: 2 };
+
+/// What the scheduler writes into a record of a job that runs.
+const STATUS: Field = Field { at: 168, width: 8 };
+
+/// A store of records in one table, got when it is made.
+#[derive(Debug, Drop)]
+pub struct ListStore {
+    layout: Layout,
+    records: Vec<Rec>,
+    /// The owner of each record, 0 of a free one.
+    owners: Vec<u16>,
+    /// Of these the first `free_count` are the numbers of the free records, the one that is taken next last.
+    free: Vec<u32>,
+    free_count: u32,
+    waiting: JobQueue,
+}
+
+impl Model for ListStore {
+    ghost use Rattle.cb_queue.specs.RecordQueues.{RecordQueue};
+
+    ghost Value = { RecordQueue };
+
+    ghost use Rattle.cb_queue.specs.Stored.{IsStored, seen};
+
+    ghost view = { seen };
+
+    ghost invariant = { IsStored };
+}
+
+/// The numbers of as many records, 1 last.
+fn all_numbers(alloc: Global, count: u32) -> Result<Vec<u32>, AllocError>
+    ensures numbers { IfOk result (λ v. v.items ≡ reverse (numbers_from 1 count)) }
+    ensures few { count < 2 ^ 32 }
+{
+    let mut numbers = Vec::with_capacity(alloc, count as usize)?;
+    let mut n = count;
+    while n > 0 {
+        numbers.push(n)?;
+        n -= 1;
+    }
+    Ok(numbers)
+}
+
+/// A record of zeros but for its owner.
+fn zero_record(owner: u16) -> Rec
+    ensures { result ≡ zero_record owner }
+{
+    let mut rec = Rec::zeroed();
+    rec.write_part(OWNER, &[(owner / 256) as u8, (owner % 256) as u8]);
+    rec
+}
+
+/// A record with a link of zeros.
+fn unlinked(rec: &Rec, link: Field) -> Rec
+    requires { HoldsNumber link }
+    ensures value { result ≡ with_part rec.now link.at (replicate link.width 0) }
+    ensures whole { length rec.now ≡ RECORD_BYTES }
+{
+    let mut own = *rec;
+    let zeros = [0; 4];
+    own.write_part(link, &zeros[..usize::from(link.width)]);
+    own
+}
+
+impl ListStore {
+    /// A store in which all records are free, 1 first, and nobody waits.
+    pub fn new(alloc: Global, layout: Layout) -> Result<ListStore, AllocError>
+        requires { HasOwnLink layout }
+        ensures { IfOk result (λ store. store ≡ empty_queue layout) }
+    {
+        let count = layout.most_records as usize;
+        Ok(ListStore {
+            layout,
+            records: vec![in alloc; Rec::zeroed(); count]?,
+            owners: vec![in alloc; 0; count]?,
+            free: all_numbers(alloc, layout.most_records)?,
+            free_count: layout.most_records,
+            waiting: JobQueue::new(alloc),
+        })
+    }
+
+    /// The number of the job that owns a record, 0 where it is free or there is none.
+    fn owner(&self, n: u32) -> u16
+        ensures value { result ≡ owner_at self.now n }
+        ensures none { result ≡ 0 → record_at self.now n ≡ None }
+    {
+        if n == 0 {
+            return 0;
+        }
+        match self.owners.get(n as usize - 1) {
+            Some(owner) => *owner,
+            None => 0,
+        }
+    }
+}
+
+impl RecordStore for ListStore {
+    ghost queue = { λ store. store };
+
+    fn layout(&self) -> &Layout {
+        &self.layout
+    }
+
+    fn get(&self, n: u32) -> Option<&Rec> {
+        if self.owner(n) == 0 {
+            return None;
+        }
+        Some(&self.records[n as usize - 1])
+    }
+
+    fn put(&mut self, n: u32, rec: &Rec) {
+        self.records[n as usize - 1] = unlinked(rec, self.layout.link);
+    }
+
+    fn write_status(&mut self, n: u32, status: &[u8; 8]) {
+        self.records[n as usize - 1].write_part(STATUS, status.as_slice());
+    }
+
+    fn free_count(&self) -> u32 {
+        self.free_count
+    }
+
+    fn take_free(&mut self, owner: u16) -> Option<u32> {
+        if self.free_count == 0 {
+            return None;
+        }
+        self.free_count -= 1;
+        let n = self.free[self.free_count as usize];
+        self.records[n as usize - 1] = zero_record(owner);
+        self.owners[n as usize - 1] = owner;
+        Some(n)
+    }
+
+    fn give_back(&mut self, n: u32) {
+        self.owners[n as usize - 1] = 0;
+        self.free[self.free_count as usize] = n;
+        self.free_count += 1;
+    }
+
+    fn give_back_all(&mut self, owner: u16) {
+        let mut n = self.layout.most_records;
+        while n > 0 {
+            if self.owner(n) == owner {
+                self.give_back(n);
+            }
+            n -= 1;
+        }
+    }
+
+    fn enter(&mut self, queued: Queued) -> Result<(), AllocError> {
+        self.waiting.enter(queued)
+    }
+
+    fn first(&self, class: u8) -> Option<Queued> {
+        self.waiting.first(class)
+    }
+
+    fn remove(&mut self, job: u16) -> Option<Queued> {
+        self.waiting.remove(job)
+    }
+
+    fn waiting_count(&self) -> usize {
+        self.waiting.len()
+    }
+}

@@ -1,0 +1,78 @@
+//! What any store of records does.
+ghost use Rattle.std.specs.Prelude.{◌≡◌, ◌≢◌, ◌<◌, ◌==◌, ◌++◌, ◌∷◌, [], Some, All, IfNone, IfSome, IsSome, OnErr, OnOk, filter, length, not};
+ghost use Rattle.std.specs.Option.{option_copied};
+ghost use Rattle.cb_meaning.specs.Fields.{field, number_at};
+ghost use Rattle.cb_queue.specs.RecordQueues.{IsLent, IsSound, RecordQueue, all_given_back, given_back, next_free, owner_at, record_at, taken, unlinked, with_record_at, with_status};
+ghost use Rattle.queue_core.specs.Queues.{HasNoneOf, IsFirstOf, IsJobOf};
+
+use cb_meaning::layout::Layout;
+use cb_records::rec::Rec;
+use queue_core::queue::Queued;
+use std::alloc::AllocError;
+
+/// A store of records that are taken and given back, each by its number from 1, and of the jobs that wait. Only `enter` takes memory.
+pub trait RecordStore {
+    /// What the store means.
+    ghost queue: { Self → RecordQueue };
+
+    /// Where the fields of its records stand, and how many there are.
+    fn layout(&self) -> &Layout
+        ensures value { result.now ≡ (queue self.now).layout }
+        ensures sound { IsSound (queue self.now) };
+
+    /// A record in use. Its link is the store's own.
+    fn get(&self, n: u32) -> Option<&Rec>
+        ensures { IsLent (queue self.now).layout (record_at (queue self.now) n) (option_copied result) };
+
+    /// Writes a record in use anew, but for its owner, which stays. What stands in its link does not matter.
+    fn put(&mut self, n: u32, rec: &Rec)
+        requires used { IsSome (record_at (queue self.old) n) }
+        requires owner { number_at rec.now (field 2 2) ≡ owner_at (queue self.old) n }
+        ensures { queue self.new ≡ with_record_at (queue self.old) n (Some (unlinked (queue self.old).layout rec.now)) };
+
+    /// Writes the status of a record in use: bytes 168 to 175.
+    fn write_status(&mut self, n: u32, status: &[u8; 8])
+        requires { IsSome (record_at (queue self.old) n) }
+        ensures { queue self.new ≡ with_status (queue self.old) n status.now };
+
+    /// How many records are free.
+    fn free_count(&self) -> u32
+        ensures { result ≡ length (queue self.now).free };
+
+    /// Takes the next free record for a job, or tells that none is free. The record is of zeros but for its owner.
+    fn take_free(&mut self, owner: u16) -> Option<u32>
+        requires { owner ≢ 0 }
+        ensures answer { result ≡ next_free (queue self.old) }
+        ensures taken { queue self.new ≡ taken (queue self.old) owner };
+
+    /// Gives a record in use back. It is taken next.
+    fn give_back(&mut self, n: u32)
+        requires { IsSome (record_at (queue self.old) n) }
+        ensures { queue self.new ≡ given_back (queue self.old) n };
+
+    /// Gives every record of a job back, the one with the highest number first.
+    fn give_back_all(&mut self, owner: u16)
+        requires { owner ≢ 0 }
+        ensures { queue self.new ≡ all_given_back (queue self.old) owner };
+
+    /// A job that was read behind all others waits too.
+    fn enter(&mut self, queued: Queued) -> Result<(), AllocError>
+        requires later { All (λ x. x.job < queued.job) (queue self.old).waiting }
+        ensures ok { OnOk result (queue self.new ≡ record (queue self.old) { waiting = (queue self.old).waiting ++ queued ∷ [] }) }
+        ensures err { OnErr result (queue self.new ≡ queue self.old) };
+
+    /// The job of a class that is selected next.
+    fn first(&self, class: u8) -> Option<Queued>
+        ensures some { IfSome result (IsFirstOf (queue self.now).waiting class) }
+        ensures none { IfNone result (HasNoneOf (queue self.now).waiting class) };
+
+    /// A job waits no longer. Tells which it was. Its records stay.
+    fn remove(&mut self, job: u16) -> Option<Queued>
+        ensures left { queue self.new ≡ record (queue self.old) { waiting = filter (λ x. not (x.job == job)) (queue self.old).waiting } }
+        ensures some { IfSome result (IsJobOf (queue self.old).waiting job) }
+        ensures none { IfNone result (All (λ x. x.job ≢ job) (queue self.old).waiting) };
+
+    /// How many jobs wait.
+    fn waiting_count(&self) -> usize
+        ensures { result ≡ length (queue self.now).waiting };
+}
