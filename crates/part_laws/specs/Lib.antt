@@ -1,0 +1,4 @@
+pub mod Alike
+pub mod Fits
+pub mod Keeping
+pub mod PartLaws

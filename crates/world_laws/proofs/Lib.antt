@@ -1,0 +1,10 @@
+pub mod Answering
+pub mod Behind
+pub mod Beside
+pub mod Bytes
+pub mod Denoting
+pub mod Effects
+pub mod Looking
+pub mod RecordsStaying
+pub mod TracksKept
+pub mod TurnsRunning

@@ -1,0 +1,5 @@
+pub mod Beside
+pub mod JobTurns
+pub mod KeptTracks
+pub mod Looks
+pub mod RecordsKept

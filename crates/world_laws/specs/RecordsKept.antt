@@ -1,0 +1,61 @@
+-- The records of a job that an initiator has.
+use Rattle.std.specs.Prelude.{◌≡◌, ◌≢◌, ℕ, ◌+◌, ◌≤◌, false, List, length, All, None, Some}
+use Rattle.jcl_plan.specs.declared.entry.Entry.{Entry}
+use Rattle.jcl_plan.specs.declared.plan.JobPlan.{JobPlan}
+use Rattle.cb_meaning.specs.declared.layout.Field.{Field}
+use Rattle.cb_meaning.specs.declared.layout.Layout.{Layout}
+use Rattle.cb_meaning.specs.Spelled.{Denotes, Records}
+use Rattle.cb_meaning.specs.Walks.{is_free, owner_of}
+use Rattle.world_meaning.specs.declared.event.Event.{Event}
+use Rattle.world_meaning.specs.Cancels.{RunsNot}
+use Rattle.world_meaning.specs.Readings.{Denoting}
+use Rattle.world_meaning.specs.Records.{AgreeBut, open_fields}
+use Rattle.world_meaning.specs.Transitions.{Transition}
+use Rattle.world_meaning.specs.Worlds.{Initiator, IsAt, Running, World}
+
+-- a field between the link and the status bytes
+pub record IsBetween (f : Field) : Type 0 where
+  pub from : 8 ≤ f.at
+  pub to : f.at + f.width ≤ 168
+
+-- The link stands in bytes 4 to 7, and no field of a layout meets it or the status bytes.
+pub record HasOwnLink (l : Layout) : Type 0 where
+  pub link_from : 4 ≤ l.link.at
+  pub link_to : l.link.at + l.link.width ≤ 8
+  pub first_step : IsBetween l.first_step
+  pub steps : IsBetween l.steps
+  pub next_step : IsBetween l.next_step
+  pub first_dd : IsBetween l.first_dd
+  pub dds : IsBetween l.dds
+  pub next_dd : IsBetween l.next_dd
+  pub below : IsBetween l.below
+  pub cards : IsBetween l.cards
+  pub next_cards : IsBetween l.next_cards
+
+-- the records of a job are in use still, and differ in what is open alone
+abbrev pub KeepsRecords : Layout → ℕ → Records → Records → Type 0
+KeepsRecords l job old new =
+    (n : ℕ) → is_free old n ≡ false → owner_of old n ≡ job → (is_free new n ≡ false) × AgreeBut (open_fields l (old.at n)) (old.at n) (new.at n)
+
+-- So they denote what they denoted.
+abbrev pub DenotesStill : Type 0
+DenotesStill = (l : Layout) (units : ℕ) (old new : Records) (job : ℕ) (numbers : List ℕ) (plan : JobPlan) → HasOwnLink l → KeepsRecords l job old new →
+    Denotes l units old job numbers plan → Denotes l units new job numbers plan
+
+-- A job stands at one initiator alone, and does not wait.
+pub record IsAlone (w : World) (place job : ℕ) : Type 0 where
+  pub it : Initiator
+  pub running : Running
+  pub at : IsAt w place it
+  pub runs : it.running ≡ Some running
+  pub of_job : running.job ≡ job
+  pub not_elsewhere : (other : ℕ) (x : Initiator) → IsAt w other x → other ≢ place → RunsNot x.running job
+  pub not_waiting : All (λ x. x.job ≢ job) w.waiting
+
+-- An event that leaves the initiator a job leaves the records of its job.
+abbrev pub RecordsStay : Type 0
+RecordsStay =
+    (job_of : Denoting) (old new : World) (e : Event) (lines : List Entry) (place job : ℕ) (y : Initiator) (numbers : List ℕ) (plan : JobPlan) →
+    HasOwnLink old.config.layout → IsAlone old place job → Transition job_of old e lines new → IsAt new place y → y.running ≢ None →
+    Denotes old.config.layout (length old.config.units) old.shared.records job numbers plan →
+    Denotes new.config.layout (length new.config.units) new.shared.records job numbers plan
