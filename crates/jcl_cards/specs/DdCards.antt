@@ -12,7 +12,8 @@ use Rattle.operand_core.specs.Qualified.{head_of, is_qualified}
 use Rattle.operand_core.specs.Subparameters.{first_place, subparameters_of}
 use Rattle.operand_core.specs.Values.{class_of, is_output_class}
 use Rattle.value_core.specs.Dispositions.{disposition}
-use Rattle.value_core.specs.Labels.{control_blocks, label_faults}
+use Rattle.value_core.specs.Labels.{label_faults}
+use Rattle.list_values.specs.ControlBlocks.{control_blocks}
 use Rattle.value_core.specs.Reads.{Read, good}
 use Rattle.value_core.specs.SetNames.{set_name}
 use Rattle.value_core.specs.Spaces.{space}
@@ -44,15 +45,9 @@ spelled key = if bytes_eq key (codes "DSN") then codes "DSNAME" else (if bytes_e
 abbrev pub is_key : List ℕ → List ℕ → Bool
 is_key wanted key = bytes_eq (spelled key) wanted
 
-abbrev pub other_keys : List (List ℕ)
-other_keys = codes "UCS" ∷ codes "FCB" ∷ codes "OUTLIM" ∷ []
-
-abbrev pub is_other : List ℕ → Bool
-is_other key = is_among other_keys key
-
 abbrev pub known_on_dd : List ℕ → Bool
 known_on_dd key = is_among (codes "DSNAME" ∷ codes "DISP" ∷ codes "UNIT" ∷ codes "VOLUME" ∷ codes "SPACE" ∷ codes "SYSOUT" ∷ codes "DDNAME"
-    ∷ codes "LABEL" ∷ codes "DCB" ∷ other_keys) (spelled key)
+    ∷ codes "LABEL" ∷ codes "DCB" ∷ codes "UCS" ∷ codes "FCB" ∷ codes "OUTLIM" ∷ []) (spelled key)
 
 abbrev pub left_out_on_dd : List ℕ → Bool
 left_out_on_dd key = is_among (codes "AFF" ∷ codes "SEP" ∷ codes "SPLIT" ∷ codes "SUBALLOC" ∷ codes "QNAME" ∷ codes "DYNAM" ∷ codes "TERM" ∷ []) key
@@ -113,7 +108,7 @@ has_data dd = has dd.word
 
 abbrev pub has_set_keyword : DdCard → Bool
 has_set_keyword dd = is_given dd.set_name || is_given dd.disposition || is_given dd.unit || is_given dd.volume || is_given dd.space
-    || is_given dd.label || is_given dd.others
+    || is_given dd.label || is_given dd.character_set || is_given dd.forms_control || is_given dd.output_limit
 
 abbrev pub excludes : DdCard → Bool
 excludes dd =
@@ -139,7 +134,9 @@ card_of name operand cards = record {
   dd_name = (coded_in (is_key (codes "DDNAME")) dd_name operand.keywords).value;
   label = (coded_in (is_key (codes "LABEL")) label operand.keywords).value;
   control_blocks = (coded_in (is_key (codes "DCB")) control_blocks operand.keywords).value;
-  others = (coded_in is_other any_text operand.keywords).value;
+  character_set = (coded_in (is_key (codes "UCS")) any_text operand.keywords).value;
+  forms_control = (coded_in (is_key (codes "FCB")) any_text operand.keywords).value;
+  output_limit = (coded_in (is_key (codes "OUTLIM")) any_text operand.keywords).value;
 }
 
 abbrev pub keyword_faults : List Keyword → List Cause

@@ -9,12 +9,11 @@ use Rattle.jcl_plan.specs.declared.plan.Operator.TheVariants.{Lt}
 use Rattle.jcl_plan.specs.declared.plan.Status.TheVariants as status
 use Rattle.jcl_plan.specs.declared.plan.Word.TheVariants as word
 use Rattle.operand_core.specs.Faults.{told}
-use Rattle.value_core.specs.declared.condition.CodedTest.{CodedTest}
-use Rattle.value_core.specs.declared.condition.Condition.{Condition}
+use Rattle.list_values.specs.declared.condition.CodedTest.{CodedTest}
+use Rattle.list_values.specs.declared.condition.Condition.{Condition}
 use Rattle.value_core.specs.declared.reference.DdReference.TheVariants as reference
 use Rattle.value_core.specs.declared.set.SetName.TheVariants.{Null, Of}
 use Rattle.value_core.specs.declared.set.VolumeName.TheVariants as volume
-use Rattle.value_core.specs.Conditions.{no_condition}
 use Rattle.value_core.specs.Reads.{good}
 use Rattle.jcl_cards.specs.declared.coded.Coded.TheVariants.{NotGiven, Nullified, Value}
 use Rattle.jcl_cards.specs.declared.dd.DdCard.{DdCard}
@@ -116,10 +115,10 @@ abbrev pub dd : List ℕ → Option Cause
 dd operand = told (dd_card (codes "D") operand None).faults
 
 -- a DD of which nothing is coded
-abbrev pub empty : DdCard
-empty = record {
+abbrev pub empty_dd : List ℕ → DdCard
+empty_dd name = record {
   qualifier = None;
-  name = Some (codes "D");
+  name = Some name;
   word = None;
   set_name = NotGiven;
   disposition = NotGiven;
@@ -130,8 +129,13 @@ empty = record {
   dd_name = NotGiven;
   label = NotGiven;
   control_blocks = NotGiven;
-  others = NotGiven;
+  character_set = NotGiven;
+  forms_control = NotGiven;
+  output_limit = NotGiven;
 }
+
+abbrev pub empty : DdCard
+empty = empty_dd (codes "D")
 
 pub record ReadsDds : Type 0 where
   pub set : dd_card (codes "D") (codes "DSN=A.B,DISP=(OLD,KEEP),UNIT=SYSDA,VOL=SER=VOL001,SPACE=(CYL,1),LABEL=RETPD=30,DCB=(*.C,RECFM=F),UCS=X") None
@@ -143,7 +147,7 @@ pub record ReadsDds : Type 0 where
         space = Value (record { primary = 20; secondary = 0; release = false });
         label = Value tt;
         control_blocks = Value (reference.Dd (codes "C") ∷ []);
-        others = Value tt;
+        character_set = Value tt;
       })
   pub nothing : dd_card (codes "D") [] None ≡ good empty
   pub cards : dd_card [] (codes "*,DCB=BLKSIZE=80") (Some (replicate 80 65 ∷ []))
@@ -158,7 +162,8 @@ pub record ReadsDds : Type 0 where
   pub word_and_no_class : dd (codes "DUMMY,SYSOUT=") ≡ None
   pub word_and_name : dd (codes "DUMMY,DSN=A,DISP=OLD") ≡ None
   pub data_and_unit : dd (codes "DATA,UNIT=A") ≡ Some (P ExcludeOneAnother)
-  pub data_and_others : dd (codes "*,FCB=A") ≡ Some (P ExcludeOneAnother)
+  pub data_and_forms : dd (codes "*,FCB=A") ≡ Some (P ExcludeOneAnother)
+  pub data_and_forms_alone : dd (codes "DATA,UCS=,FCB=A,OUTLIM=") ≡ Some (P ExcludeOneAnother)
   pub later_dd : dd (codes "DDNAME=X,DCB=BLKSIZE=80") ≡ None
   pub later_dd_and_status : dd (codes "DDNAME=X,DISP=OLD") ≡ Some (P ExcludeOneAnother)
   pub class_and_status : dd (codes "SYSOUT=A,DISP=OLD") ≡ Some (P ExcludeOneAnother)
@@ -186,6 +191,9 @@ of_dd = record empty { dd_name = Value (codes "X") }
 abbrev pub on_unit : DdCard
 on_unit = record empty { unit = Value (codes "U") }
 
+abbrev pub of_form : DdCard
+of_form = record empty { forms_control = Value tt }
+
 -- an override of another name
 abbrev pub other : DdCard
 other = record empty { qualifier = Some (codes "P1"); name = Some (codes "E") }
@@ -194,6 +202,7 @@ pub record Merges : Type 0 where
   pub nothing : merged of_set other ≡ good of_set
   pub replaced : merged of_set (record other { set_name = Value (Of (Named (codes "B"))) }) ≡ good (record empty { set_name = Value (Of (Named (codes "B"))) })
   pub others_stay : merged of_set (record other { unit = Value (codes "U") }) ≡ good (record of_set { unit = Value (codes "U") })
+  pub form_stays : merged of_form (record other { character_set = Nullified }) ≡ good of_form
   pub nullified : merged on_unit (record other { unit = Nullified }) ≡ good empty
   pub name_removes_dummy : merged of_word (record other { set_name = Value (Of (Named (codes "A"))) }) ≡ good of_set
   pub name_removes_class : merged of_class (record other { set_name = Value (Of (Named (codes "A"))) }) ≡ good of_set

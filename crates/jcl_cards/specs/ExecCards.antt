@@ -9,8 +9,8 @@ use Rattle.operand_core.specs.Faults.{name_faults, read_name_faults, when, writt
 use Rattle.operand_core.specs.Keywords.{has_key, is_among, value_of}
 use Rattle.operand_core.specs.Operands.{Keyword, Operand, first_of, operand_of}
 use Rattle.operand_core.specs.Qualified.{head_of, is_qualified}
-use Rattle.value_core.specs.declared.condition.Condition.{Condition}
-use Rattle.value_core.specs.Conditions.{condition, no_condition}
+use Rattle.list_values.specs.declared.condition.Condition.{Condition}
+use Rattle.list_values.specs.Conditions.{condition, no_condition}
 use Rattle.value_core.specs.Parms.{parm_faults}
 use Rattle.value_core.specs.Reads.{Read}
 use Rattle.jcl_cards.specs.declared.exec.ExecCard.{ExecCard}

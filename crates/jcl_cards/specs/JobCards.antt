@@ -12,8 +12,8 @@ use Rattle.operand_core.specs.Faults.{name_faults, when, written_name_faults}
 use Rattle.operand_core.specs.Keywords.{is_among, unknown_faults}
 use Rattle.operand_core.specs.Operands.{Keyword, Operand, operand_of}
 use Rattle.operand_core.specs.Values.{is_output_class}
-use Rattle.value_core.specs.declared.condition.CodedTest.{CodedTest}
-use Rattle.value_core.specs.Conditions.{condition}
+use Rattle.list_values.specs.declared.condition.CodedTest.{CodedTest}
+use Rattle.list_values.specs.Conditions.{condition}
 use Rattle.value_core.specs.Reads.{Read, mapped}
 use Rattle.jcl_cards.specs.declared.job.JobCard.{JobCard}
 use Rattle.jcl_cards.specs.Keywords.{as_it_is, twice_faults, unless_long, value_in}

@@ -48,7 +48,9 @@ by_itself dd = record {
   dd_name = settled dd.dd_name;
   label = settled dd.label;
   control_blocks = settled dd.control_blocks;
-  others = settled dd.others;
+  character_set = settled dd.character_set;
+  forms_control = settled dd.forms_control;
+  output_limit = settled dd.output_limit;
 }
 
 -- SYSOUT, a word or DDNAME given replaces the whole DD
@@ -69,7 +71,9 @@ keyword_by_keyword dd override = record {
   dd_name = overridden dd.dd_name override.dd_name;
   label = overridden dd.label override.label;
   control_blocks = overridden dd.control_blocks override.control_blocks;
-  others = overridden dd.others override.others;
+  character_set = overridden dd.character_set override.character_set;
+  forms_control = overridden dd.forms_control override.forms_control;
+  output_limit = overridden dd.output_limit override.output_limit;
 }
 
 -- the DD keeps its name

@@ -41,6 +41,10 @@ pub struct DdCard {
     pub label: Coded<()>,
     /// DCB: its references.
     pub control_blocks: Coded<Listed<DdReference>>,
-    /// UCS, FCB and OUTLIM, which are not looked at.
-    pub others: Coded<()>,
+    /// UCS, which is not looked at.
+    pub character_set: Coded<()>,
+    /// FCB, which is not looked at.
+    pub forms_control: Coded<()>,
+    /// OUTLIM, which is not looked at.
+    pub output_limit: Coded<()>,
 }

@@ -1,8 +1,8 @@
 //! The EXEC statement. (GC28-6704, "EXEC statement")
 use jcl_symbols::symbol::Symbol;
 use jname_core::name8::Name8;
+use list_values::condition::Condition;
 use plain::listed::Listed;
-use value_core::condition::Condition;
 
 /// What a step runs.
 #[derive(Debug, Drop)]

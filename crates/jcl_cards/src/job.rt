@@ -1,6 +1,6 @@
 //! The JOB statement. (GC28-6704, "JOB statement")
 use jname_core::name8::Name8;
-use value_core::condition::CodedTests;
+use list_values::condition::CodedTests;
 
 /// A JOB statement that was read.
 #[derive(Debug, Drop)]

@@ -1,6 +1,6 @@
 -- A deck of statements: the job, the procedures in the stream, which are cut out, and the steps. Each statement is read where it stands, and the
 -- first that is refused is told. (GC28-6704, "Job control statements"; "PROC statement"; "DD statement": JOBLIB, concatenation)
-use Rattle.std.specs.Prelude.{ℕ, Bool, true, false, not, ◌&&◌, ◌||◌, ◌==◌, nat_le, List, [], ◌∷◌, ◌++◌, length, codes, unwrap_or, Option, Some, None, is_none, Result, Ok, Err, if◌then◌else◌}
+use Rattle.std.specs.Prelude.{ℕ, Bool, true, false, not, ◌&&◌, ◌||◌, ◌==◌, nat_le, List, [], ◌∷◌, ◌++◌, length, map, codes, unwrap_or, Option, Some, None, is_none, Result, Ok, Err, if◌then◌else◌}
 use Rattle.std.specs.Str.{bytes_eq}
 use Rattle.card_core.specs.declared.statement.Statement.{Statement}
 use Rattle.jcl_plan.specs.declared.fault.Cause.{Cause}
@@ -82,17 +82,18 @@ has_no_name s = length s.name == 0
 abbrev pub is_job_library : Statement → Bool
 is_job_library s = bytes_eq s.name (codes "JOBLIB")
 
-abbrev pub last_has_dd : List DeckStep → Bool
+abbrev pub last_has_dd : List (List DdCard) → Bool
 last_has_dd [] = false
-last_has_dd (step ∷ []) = not (length step.dds == 0)
-last_has_dd (step ∷ next ∷ steps) = last_has_dd (next ∷ steps)
+last_has_dd (dds ∷ []) = not (length dds == 0)
+last_has_dd (dds ∷ next ∷ steps) = last_has_dd (next ∷ steps)
 
-abbrev pub dd_place_faults : Place → Statement → List Cause
-dd_place_faults place s =
-    if length place.steps == 0
-    then (if is_job_library s || (has_no_name s && place.job_library) then []
+-- the DDs so far step by step, and whether a JOBLIB stands before the first step
+abbrev pub dd_place_faults : Bool → List (List DdCard) → Statement → List Cause
+dd_place_faults job_library steps s =
+    if length steps == 0
+    then (if is_job_library s || (has_no_name s && job_library) then []
     else P DdBeforeExec ∷ when (has_no_name s) (P NothingToContinue))
-    else when (has_no_name s && not (last_has_dd place.steps)) (P NothingToContinue)
+    else when (has_no_name s && not (last_has_dd steps)) (P NothingToContinue)
 
 abbrev pub onto_last : DdCard → List DeckStep → List DeckStep
 onto_last dd [] = []
@@ -100,7 +101,7 @@ onto_last dd (step ∷ []) = record step { dds = step.dds ++ dd ∷ [] } ∷ []
 onto_last dd (step ∷ next ∷ steps) = step ∷ onto_last dd (next ∷ steps)
 
 abbrev pub takes_dd : Place → Statement → Result Place Cause
-takes_dd place s = taken s (dd_card s.name s.operand s.cards) (not_first place ++ dd_place_faults place s)
+takes_dd place s = taken s (dd_card s.name s.operand s.cards) (not_first place ++ dd_place_faults place.job_library (map (λ step. step.dds) place.steps) s)
     (λ dd. record place { job_library = place.job_library || length place.steps == 0; steps = onto_last dd place.steps })
 
 -- any other: its name is read, its operand is not

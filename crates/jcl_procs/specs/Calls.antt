@@ -1,12 +1,12 @@
 -- The steps that a procedure brings: its EXEC and DD statements, read with the values of symbols at each call. (GC28-6704, "PROC statement",
 -- "Symbolic parameters")
-use Rattle.std.specs.Prelude.{ℕ, Bool, true, false, not, ◌&&◌, ◌||◌, ◌==◌, List, [], ◌∷◌, ◌++◌, length, unwrap_or, Option, Some, is_some, Result, Ok, Err, if◌then◌else◌}
+use Rattle.std.specs.Prelude.{ℕ, Bool, true, false, ◌||◌, ◌==◌, List, [], ◌∷◌, ◌++◌, length, map, unwrap_or, Option, Some, is_some, Result, Ok, Err, if◌then◌else◌}
 use Rattle.card_core.specs.declared.statement.Statement.{Statement}
 use Rattle.jcl_plan.specs.declared.fault.Cause.{Cause}
 use Rattle.jcl_plan.specs.declared.fault.Cause.TheVariants.{P}
-use Rattle.jcl_plan.specs.declared.fault.StatementFault.TheVariants.{CardsInProcedure, DdBeforeExec, MissingPend, NoStep, NoSuchProcedureStep, NotOneJob, NothingToContinue, ProcedureCallsProcedure, UnknownOperation}
+use Rattle.jcl_plan.specs.declared.fault.StatementFault.TheVariants.{CardsInProcedure, MissingPend, NoStep, NoSuchProcedureStep, NotOneJob, ProcedureCallsProcedure, UnknownOperation}
 use Rattle.operand_core.specs.Faults.{or_fault, told, when, written_name_faults}
-use Rattle.value_core.specs.Conditions.{no_condition}
+use Rattle.list_values.specs.Conditions.{no_condition}
 use Rattle.value_core.specs.Reads.{Read}
 use Rattle.jcl_symbols.specs.declared.symbol.Symbol.{Symbol}
 use Rattle.jcl_symbols.specs.Substitutions.{substituted}
@@ -17,7 +17,7 @@ use Rattle.jcl_cards.specs.declared.exec.Runs.TheVariants.{Program, Procedure}
 use Rattle.jcl_cards.specs.DdCards.{dd_card, dd_name_faults, has_data}
 use Rattle.jcl_cards.specs.ExecCards.{exec_card}
 use Rattle.jcl_cards.specs.Merging.{by_itself}
-use Rattle.jcl_deck.specs.Decks.{Operation, IsJob, IsExec, IsDd, IsProc, IsPend, IsOther, has_no_name, is_job_library, operation_of}
+use Rattle.jcl_deck.specs.Decks.{Operation, IsJob, IsExec, IsDd, IsProc, IsPend, IsOther, dd_place_faults, operation_of}
 use Rattle.jcl_procs.specs.declared.step.FlatStep.{FlatStep}
 
 -- what is the same for all steps of a call: the name on the EXEC statement that calls, its place, and the symbols that have values
@@ -68,20 +68,9 @@ takes_exec call place s = taken (read_with (substituted call.symbols false s.ope
     taken r = or_fault (told r.faults) (record place { steps = place.steps ++ step_of call r.value ∷ [] })
 
 -- a DD of a procedure has no cards, and its name is not qualified
-abbrev pub last_has_dd : List FlatStep → Bool
-last_has_dd [] = false
-last_has_dd (step ∷ []) = not (length step.dds == 0)
-last_has_dd (step ∷ next ∷ steps) = last_has_dd (next ∷ steps)
-
-abbrev pub place_faults : Place → Statement → List Cause
-place_faults place s =
-    if length place.steps == 0
-    then (if is_job_library s || (has_no_name s && place.job_library) then []
-    else P DdBeforeExec ∷ when (has_no_name s) (P NothingToContinue))
-    else when (has_no_name s && not (last_has_dd place.steps)) (P NothingToContinue)
-
 abbrev pub dd_faults : Place → Statement → DdCard → List Cause
-dd_faults place s dd = when (has_data dd) (P CardsInProcedure) ++ place_faults place s ++ when (is_some dd.qualifier) (P NoSuchProcedureStep)
+dd_faults place s dd = when (has_data dd) (P CardsInProcedure) ++ dd_place_faults place.job_library (map (λ step. step.dds) place.steps) s
+    ++ when (is_some dd.qualifier) (P NoSuchProcedureStep)
 
 abbrev pub onto_last : DdCard → List FlatStep → List FlatStep
 onto_last dd [] = []

@@ -13,11 +13,12 @@ use Rattle.jcl_plan.specs.declared.plan.Status.{Status}
 use Rattle.jcl_plan.specs.declared.plan.Status.TheVariants as status
 use Rattle.jcl_plan.specs.declared.plan.Word.{Word}
 use Rattle.jcl_plan.specs.declared.plan.Word.TheVariants.{Pass}
-use Rattle.value_core.specs.Conditions.{no_condition}
+use Rattle.list_values.specs.Conditions.{no_condition}
 use Rattle.value_core.specs.declared.set.SetName.TheVariants.{Of}
-use Rattle.jcl_cards.specs.declared.coded.Coded.TheVariants.{NotGiven, Value}
+use Rattle.jcl_cards.specs.declared.coded.Coded.TheVariants.{Value}
 use Rattle.jcl_cards.specs.declared.dd.DdCard.{DdCard}
 use Rattle.jcl_cards.specs.declared.dd.Word.TheVariants.{Dummy}
+use Rattle.jcl_cards.specs.Examples.{empty_dd}
 use Rattle.jcl_deck.specs.Decks.{deck_of}
 use Rattle.jcl_procs.specs.declared.step.FlatStep.{FlatStep}
 use Rattle.jcl_procs.specs.declared.step.LibraryProcedure.{LibraryProcedure}
@@ -35,24 +36,6 @@ steps_in library lines = and_then (statements_in lines) (λ statements. and_then
 
 abbrev pub procedure : List ℕ → List (List ℕ) → LibraryProcedure
 procedure name lines = record { name = name; lines = lines }
-
--- a DD of which nothing is coded
-abbrev pub empty_dd : List ℕ → DdCard
-empty_dd name = record {
-  qualifier = None;
-  name = Some name;
-  word = None;
-  set_name = NotGiven;
-  disposition = NotGiven;
-  unit = NotGiven;
-  volume = NotGiven;
-  space = NotGiven;
-  sysout = NotGiven;
-  dd_name = NotGiven;
-  label = NotGiven;
-  control_blocks = NotGiven;
-  others = NotGiven;
-}
 
 abbrev pub output_dd : List ℕ → ℕ → DdCard
 output_dd name class = record (empty_dd name) { sysout = Value class }

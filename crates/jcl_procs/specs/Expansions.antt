@@ -10,7 +10,7 @@ use Rattle.jcl_plan.specs.declared.fault.Cause.{Cause}
 use Rattle.jcl_plan.specs.declared.fault.Cause.TheVariants.{C, P}
 use Rattle.jcl_plan.specs.declared.fault.StatementFault.TheVariants.{NoSuchProcedure, NoSuchProcedureStep}
 use Rattle.operand_core.specs.Faults.{told}
-use Rattle.value_core.specs.Conditions.{no_condition}
+use Rattle.list_values.specs.Conditions.{no_condition}
 use Rattle.jcl_symbols.specs.declared.symbol.Symbol.{Symbol}
 use Rattle.jcl_cards.specs.declared.dd.DdCard.{DdCard}
 use Rattle.jcl_cards.specs.declared.exec.ExecCard.{ExecCard}

@@ -7,7 +7,7 @@ use Rattle.jcl_plan.specs.declared.fault.Cause.{Cause}
 use Rattle.jcl_plan.specs.declared.fault.Cause.TheVariants.{P}
 use Rattle.jcl_plan.specs.declared.fault.StatementFault.TheVariants.{NoSuchProcedureStep, OverrideOutOfOrder}
 use Rattle.operand_core.specs.Faults.{or_fault, told}
-use Rattle.value_core.specs.declared.condition.Condition.{Condition}
+use Rattle.list_values.specs.declared.condition.Condition.{Condition}
 use Rattle.jcl_cards.specs.declared.dd.DdCard.{DdCard}
 use Rattle.jcl_cards.specs.declared.exec.ExecCard.{ExecCard}
 use Rattle.jcl_cards.specs.declared.exec.StepCondition.{StepCondition}

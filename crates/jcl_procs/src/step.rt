@@ -1,9 +1,9 @@
 //! Steps as they run one after another.
 use jcl_cards::dd::DdCard;
 use jname_core::name8::Name8;
+use list_values::condition::Condition;
 use plain::listed::Listed;
 use plain::text::Text;
-use value_core::condition::Condition;
 
 /// A step of the job: an EXEC statement of the deck, or one of a procedure that it calls.
 #[derive(Debug, Drop)]

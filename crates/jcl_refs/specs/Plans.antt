@@ -25,7 +25,7 @@ use Rattle.jcl_plan.specs.declared.plan.VolumePlan.TheVariants as volume
 use Rattle.jcl_plan.specs.declared.plan.Word.{Word}
 use Rattle.jcl_plan.specs.declared.plan.Word.TheVariants as word
 use Rattle.operand_core.specs.Faults.{told, when}
-use Rattle.value_core.specs.declared.condition.CodedTest.{CodedTest}
+use Rattle.list_values.specs.declared.condition.CodedTest.{CodedTest}
 use Rattle.value_core.specs.declared.reference.DdReference.{DdReference}
 use Rattle.value_core.specs.declared.reference.StepReference.{StepReference}
 use Rattle.value_core.specs.declared.set.Disposition.{Disposition}

@@ -1,22 +1,18 @@
 -- Values and what they mean, or the fault that is told. (This profile)
-use Rattle.std.specs.Prelude.{◌≡◌, ℕ, true, false, List, [], ◌∷◌, ◌++◌, codes, replicate, Some, None}
+use Rattle.std.specs.Prelude.{◌≡◌, true, false, [], ◌∷◌, ◌++◌, codes, replicate, Some, None}
 use Rattle.jname_core.specs.declared.key.Key.TheVariants.{Named, Relative, Temporary}
 use Rattle.jname_core.specs.declared.key.Sign.TheVariants.{Plus, Minus}
 use Rattle.jcl_plan.specs.declared.fault.Cause.TheVariants.{N, P}
-use Rattle.jcl_plan.specs.declared.fault.StatementFault.TheVariants.{BadValue, ExcludeOneAnother, KeywordTwice, LeftOut, MemberName, SeveralSerials, TooManyTests}
-use Rattle.jcl_plan.specs.declared.plan.AfterAbend.TheVariants as after
+use Rattle.jcl_plan.specs.declared.fault.StatementFault.TheVariants.{BadValue, ExcludeOneAnother, KeywordTwice, LeftOut, MemberName, SeveralSerials}
 use Rattle.jcl_plan.specs.declared.plan.ConditionalWord.TheVariants as conditional
-use Rattle.jcl_plan.specs.declared.plan.Operator.TheVariants as operator
 use Rattle.jcl_plan.specs.declared.plan.Status.TheVariants as status
 use Rattle.jcl_plan.specs.declared.plan.Word.TheVariants as word
 use Rattle.operand_core.specs.Faults.{told}
 use Rattle.value_core.specs.declared.reference.DdReference.TheVariants as dd
-use Rattle.value_core.specs.declared.reference.StepReference.TheVariants as step
 use Rattle.value_core.specs.declared.set.SetName.TheVariants as name
 use Rattle.value_core.specs.declared.set.VolumeName.TheVariants as volume
-use Rattle.value_core.specs.Conditions.{condition}
 use Rattle.value_core.specs.Dispositions.{disposition}
-use Rattle.value_core.specs.Labels.{control_blocks, label_faults}
+use Rattle.value_core.specs.Labels.{label_faults}
 use Rattle.value_core.specs.Parms.{parm_faults}
 use Rattle.value_core.specs.Reads.{good}
 use Rattle.value_core.specs.SetNames.{set_name}
@@ -73,32 +69,6 @@ pub record ReadsSpaces : Type 0 where
   pub long_block : told (space (codes "(7295,1)")).faults ≡ Some (P BadValue)
   pub alone : told (space (codes "TRK")).faults ≡ Some (P BadValue)
 
-abbrev pub nine_tests : List ℕ
-nine_tests = codes "((1,EQ),(1,EQ),(1,EQ),(1,EQ),(1,EQ),(1,EQ),(1,EQ),(1,EQ),(1,EQ))"
-
-pub record ReadsConditions : Type 0 where
-  pub one : condition true (codes "(0,EQ,S1)") ≡ good (record {
-    tests = record { items = record { code = 0; operator = operator.Eq; step = Some (step.Step (codes "S1")) } ∷ [] };
-    after_abend = after.Unsaid;
-  })
-  pub even : condition true (codes "((4095,GE,S1.P1),EVEN)") ≡ good (record {
-    tests = record { items = record { code = 4095; operator = operator.Ge; step = Some (step.ProcedureStep (codes "S1") (codes "P1")) } ∷ [] };
-    after_abend = after.Even;
-  })
-  pub only : condition true (codes "ONLY") ≡ good (record { tests = record { items = [] }; after_abend = after.Only })
-  pub of_a_job : condition false (codes "(8,LT)") ≡ good (record {
-    tests = record { items = record { code = 8; operator = operator.Lt; step = None } ∷ [] };
-    after_abend = after.Unsaid;
-  })
-  pub even_of_a_job : told (condition false (codes "EVEN")).faults ≡ Some (P BadValue)
-  pub step_of_a_job : told (condition false (codes "(8,LT,S1)")).faults ≡ Some (P BadValue)
-  pub code : told (condition true (codes "(4096,LT)")).faults ≡ Some (P BadValue)
-  pub unknown : told (condition true (codes "(8,XX)")).faults ≡ Some (P BadValue)
-  pub both : told (condition true (codes "(EVEN,ONLY)")).faults ≡ Some (P ExcludeOneAnother)
-  pub empty : told (condition true (codes "()")).faults ≡ Some (P BadValue)
-  pub nine : told (condition true nine_tests).faults ≡ Some (P TooManyTests)
-  pub bad_step : told (condition true (codes "(8,LT,1S)")).faults ≡ Some (N 3)
-
 pub record ReadsOthers : Type 0 where
   pub all_words : disposition (codes "(NEW,CATLG,DELETE)") ≡ good (record {
     status = status.New;
@@ -118,7 +88,6 @@ pub record ReadsOthers : Type 0 where
   pub no_label : told (label_faults (codes "(1,SL)")) ≡ Some (P BadValue)
   pub two_labels : told (label_faults (codes "(EXPDT=75100,RETPD=1)")) ≡ Some (P ExcludeOneAnother)
   pub one_label_twice : told (label_faults (codes "(RETPD=1,RETPD=1)")) ≡ Some (P KeywordTwice)
-  pub like_another : control_blocks (codes "(*.S1.X,BLKSIZE=80)") ≡ good (dd.OfStep (codes "S1") (codes "X") ∷ [])
   pub hundred : parm_faults (39 ∷ (replicate 100 65 ++ (39 ∷ []))) ≡ []
   pub over : told (parm_faults (replicate 101 65)) ≡ Some (P BadValue)
   pub doubled : parm_faults (40 ∷ (39 ∷ (replicate 99 65 ++ codes "''')"))) ≡ []

@@ -1,6 +1,5 @@
--- LABEL: EXPDT=yyddd or RETPD=nnnn, alone or behind four places at most; they have no effect yet. DCB: references to earlier DDs, and what is
--- read for its form alone. (GC28-6704, LABEL and DCB parameters)
-use Rattle.std.specs.Prelude.{ℕ, Bool, not, ◌&&◌, ◌||◌, ◌==◌, nat_lt, nat_le, List, [], ◌++◌, drop, length, Option, Some, None, is_some, codes, filter, map}
+-- LABEL: EXPDT=yyddd or RETPD=nnnn, alone or behind four places at most; they have no effect yet. (GC28-6704, LABEL parameter)
+use Rattle.std.specs.Prelude.{ℕ, Bool, not, ◌&&◌, ◌||◌, ◌==◌, nat_lt, nat_le, List, [], ◌++◌, drop, length, Option, Some, None, is_some, codes}
 use Rattle.std.specs.List.{flat_map, list_all, list_any}
 use Rattle.std.specs.Str.{bytes_eq}
 use Rattle.jname_core.specs.Characters.{is_digit}
@@ -11,10 +10,7 @@ use Rattle.jcl_plan.specs.declared.fault.StatementFault.TheVariants.{BadValue}
 use Rattle.operand_core.specs.Faults.{when}
 use Rattle.operand_core.specs.Operands.{behind_positional, keyword_of, is_positional, positional_parts}
 use Rattle.operand_core.specs.Subparameters.{subparameters_of}
-use Rattle.value_core.specs.declared.reference.DdReference.{DdReference}
 use Rattle.value_core.specs.Places.{together_faults}
-use Rattle.value_core.specs.Reads.{Read, all_of}
-use Rattle.value_core.specs.References.{dd_reference, is_reference}
 
 -- five digits, of which the last three are the day of the year
 abbrev pub is_day : List ℕ → Bool
@@ -43,7 +39,3 @@ label_faults_of places =
 
 abbrev pub label_faults : List ℕ → List Cause
 label_faults text = label_faults_of (subparameters_of text)
-
--- the references of DCB
-abbrev pub control_blocks : List ℕ → Read (List DdReference)
-control_blocks text = all_of (map dd_reference (filter is_reference (subparameters_of text)))

@@ -8,6 +8,5 @@ pub mod VolumeNames
 pub mod Capped
 pub mod Spaces
 pub mod Labels
-pub mod Conditions
 pub mod Parms
 pub mod Examples

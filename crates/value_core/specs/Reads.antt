@@ -4,6 +4,8 @@ use Rattle.std.specs.Prelude.{◌≡◌, ℕ, List, [], ◌∷◌, ◌++◌, Opt
 use Rattle.std.specs.List.{flat_map}
 use Rattle.jcl_plan.specs.declared.fault.Cause.{Cause}
 use Rattle.operand_core.specs.Faults.{lower, name_faults, or_fault, told}
+use Rattle.value_core.specs.declared.refusal.ReadError.{ReadError}
+use Rattle.value_core.specs.declared.refusal.ReadError.TheVariants.{Refused, Memory}
 
 pub record Read (A : Type 0) : Type 0 where
   pub value : A
@@ -27,8 +29,17 @@ abbrev pub all_of : {A : Type 0} → List (Read A) → Read (List A)
 all_of rs = record { value = map (λ r. r.value) rs; faults = flat_map (λ r. r.faults) rs }
 
 -- what a reader answers: the value, or the fault that is told
+abbrev pub answer : {A : Type 0} → Read A → Result A Cause
+answer r = or_fault (told r.faults) r.value
+
 abbrev pub IsRead : {A : Type 0} → Result A Cause → Read A → Type 0
-IsRead result r = result ≡ or_fault (told r.faults) r.value
+IsRead result r = result ≡ answer r
+
+-- and one that takes memory, want of it apart
+abbrev pub Gives : {A : Type 0} → Result A ReadError → Result A Cause → Type 0
+Gives (Ok a) given = given ≡ Ok a
+Gives (Err (Refused fault)) given = given ≡ Err fault
+Gives (Err Memory) given = Unit {0}
 
 -- two answers as one
 abbrev pub both : {A B : Type 0} → Result A Cause → Result B Cause → Result (A × B) Cause

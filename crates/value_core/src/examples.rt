@@ -1,5 +1,5 @@
 //! Values of worked examples, and their faults: laws that are computed.
-ghost use Rattle.value_core.specs.Examples.{ReadsConditions, ReadsNames, ReadsOthers, ReadsSpaces, ReadsVolumes};
+ghost use Rattle.value_core.specs.Examples.{ReadsNames, ReadsOthers, ReadsSpaces, ReadsVolumes};
 
 /// DSNAME.
 pub fn reads_names()
@@ -16,12 +16,7 @@ pub fn reads_spaces()
     ensures { ReadsSpaces }
 {}
 
-/// COND, of JOB and of EXEC.
-pub fn reads_conditions()
-    ensures { ReadsConditions }
-{}
-
-/// DISP, UNIT, LABEL, DCB and PARM.
+/// DISP, UNIT, LABEL and PARM.
 pub fn reads_others()
     ensures { ReadsOthers }
 {}

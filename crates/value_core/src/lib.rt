@@ -1,15 +1,15 @@
 //! The values of keywords: what each means, and its faults. (GC28-6704, "EXEC statement", "DD statement")
 #![tactic(auto)]
 
-pub mod condition;
 mod decimal;
 pub mod disposition;
 pub mod examples;
 pub mod label_fault;
 pub mod parm_fault;
 mod places;
-mod reads;
+pub mod reads;
 pub mod reference;
+pub mod refusal;
 pub mod set;
 pub mod set_name;
 pub mod space;

@@ -7,10 +7,7 @@ use jname_core::name8::Name8;
 use operand_core::fault::lower;
 
 /// Both values, or of the faults the one that is told.
-pub(crate) fn both<A: Drop, B: Drop>(
-    a: Result<A, Cause>,
-    b: Result<B, Cause>,
-) -> Result<(A, B), Cause>
+pub fn both<A: Drop, B: Drop>(a: Result<A, Cause>, b: Result<B, Cause>) -> Result<(A, B), Cause>
     ensures { result ≡ both a b }
 {
     match (a, b) {
@@ -22,7 +19,7 @@ pub(crate) fn both<A: Drop, B: Drop>(
 }
 
 /// The value, or of its fault and one more the one that is told.
-pub(crate) fn with_fault<A: Drop>(a: Result<A, Cause>, fault: Option<Cause>) -> Result<A, Cause>
+pub fn with_fault<A: Drop>(a: Result<A, Cause>, fault: Option<Cause>) -> Result<A, Cause>
     ensures { result ≡ with_fault a fault }
 {
     match (a, fault) {
@@ -33,7 +30,7 @@ pub(crate) fn with_fault<A: Drop>(a: Result<A, Cause>, fault: Option<Cause>) -> 
 }
 
 /// The name that the text is.
-pub(crate) fn name(text: &[u8]) -> Result<Name8, Cause>
+pub fn name(text: &[u8]) -> Result<Name8, Cause>
     ensures { IsRead result (name text.now) }
 {
     match Name8::read(text) {

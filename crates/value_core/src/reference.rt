@@ -63,7 +63,7 @@ fn further_fault(rest: Option<&[u8]>) -> Option<Cause>
 }
 
 /// Whether a text begins as a reference to a DD.
-pub(crate) fn is_reference(text: &[u8]) -> bool
+pub fn is_reference(text: &[u8]) -> bool
     ensures { result ≡ is_reference text.now }
 {
     text.starts_with(b"*.")

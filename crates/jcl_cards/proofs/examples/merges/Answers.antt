@@ -6,6 +6,7 @@ returns c = record {
   nothing = refl;
   replaced = refl;
   others_stay = refl;
+  form_stays = refl;
   nullified = refl;
   name_removes_dummy = refl;
   name_removes_class = refl;

@@ -17,7 +17,6 @@ returns c = record {
   no_label = refl;
   two_labels = refl;
   one_label_twice = refl;
-  like_another = refl;
   hundred = refl;
   over = refl;
   doubled = refl;

@@ -1,5 +1,5 @@
 use Rattle.std.proofs.Common.{refl}
-use Rattle.value_core.proofs.examples.reads_conditions.Goals as goal
+use Rattle.list_values.proofs.examples.reads_conditions.Goals as goal
 
 pub returns : goal.returns
 returns c = record {

@@ -1,8 +1,8 @@
 //! Tests of completion codes. (COND parameter)
-use crate::reference::StepReference;
 use arrayvec::ArrayVec;
 use jcl_plan::outcome::Code;
 use jcl_plan::plan::{AfterAbend, Operator};
+use value_core::reference::StepReference;
 
 /// A test of the steps that ended by a code, or of one of them.
 #[derive(Clone, Copy, Debug)]

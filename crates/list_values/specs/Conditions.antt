@@ -14,8 +14,8 @@ use Rattle.jcl_plan.specs.declared.plan.Operator.TheVariants as operator
 use Rattle.operand_core.specs.Faults.{when}
 use Rattle.operand_core.specs.Operands.{places_of}
 use Rattle.operand_core.specs.Subparameters.{inside, is_wrapped}
-use Rattle.value_core.specs.declared.condition.CodedTest.{CodedTest}
-use Rattle.value_core.specs.declared.condition.Condition.{Condition}
+use Rattle.list_values.specs.declared.condition.CodedTest.{CodedTest}
+use Rattle.list_values.specs.declared.condition.Condition.{Condition}
 use Rattle.value_core.specs.declared.reference.StepReference.{StepReference}
 use Rattle.value_core.specs.Reads.{Read, bad, good}
 use Rattle.value_core.specs.References.{step_reference}

@@ -1,0 +1,3 @@
+pub mod Conditions
+pub mod ControlBlocks
+pub mod Examples
