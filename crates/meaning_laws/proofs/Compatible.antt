@@ -17,7 +17,7 @@ agreeing xs ys a b all in_xs in_ys =
     All-contains (λ x. list_all (agree x) ys ≡ true) xs a (AllPass-from_list_all (λ x. list_all (agree x) ys) xs all) in_xs in
     All-contains (λ y. agree a y ≡ true) ys b (AllPass-from_list_all (agree a) ys inner) in_ys
 
-from_each : (p : HeldName → Bool) (xs : List HeldName) → ((x : HeldName) → Contains xs x → p x ≡ true) → list_all p xs ≡ true
+pub from_each : (p : HeldName → Bool) (xs : List HeldName) → ((x : HeldName) → Contains xs x → p x ≡ true) → list_all p xs ≡ true
 from_each p xs each = list_all-from_AllPass p xs (All-weaker (Contains xs) (λ x. p x ≡ true) each xs (All-contains_itself xs))
 
 same_bytes_back : (a b : List ℕ) → bytes_eq a b ≡ bytes_eq b a
@@ -29,7 +29,7 @@ or_back true false = refl
 or_back false true = refl
 or_back false false = refl
 
-agree_back : (a b : HeldName) → agree a b ≡ agree b a
+pub agree_back : (a b : HeldName) → agree a b ≡ agree b a
 agree_back a b = λ i. cond (same_bytes_back a.name b.name i) (not (or_back a.exclusive b.exclusive i)) true
 
 pub both_ways : (plan other : JobPlan) → IsCompatible plan other → IsCompatible other plan

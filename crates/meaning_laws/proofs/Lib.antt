@@ -1,4 +1,4 @@
-mod Compatible
+pub mod Compatible
 pub mod Parts
 pub mod Setless
 mod Splitting

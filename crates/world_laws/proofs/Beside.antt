@@ -88,7 +88,7 @@ module _ (c : Config) (old : Shared) (r : Running) (plan : JobPlan) (a : Admissi
           subst (λ (s : Shared). SamePart names (seen job old.store) (seen job s.store)) (sym n) (part_same names (seen job old.store))
       by_case (acts x growth primary free is grants further more t n conserved goes_on) =
           subst (λ (s : Shared). SamePart names (seen job old.store) (seen job s.store)) (sym n) (part_behind x growth primary is)
-      by_case (ends x growth primary free is further over t n conserved goes_on) =
+      by_case (ends x growth primary free is grants further over t n conserved goes_on) =
           subst (λ (s : Shared). SamePart names (seen job old.store) (seen job s.store)) (sym n) (part_behind x growth primary is)
 
   pub turn_fits : (lines : List JobLine) (new : Shared) (runs : Option Running) → FitsAt c r.stage → Advances c old r plan a count own lines new runs →
@@ -96,15 +96,15 @@ module _ (c : Config) (old : Shared) (r : Running) (plan : JobPlan) (a : Admissi
   turn_fits lines new runs fits (waits x growth primary is must t n goes_on) = subst (RunsFit c) (sym goes_on) fits
   turn_fits lines new runs fits (acts x growth primary free is grants further more t n conserved goes_on) =
       subst (RunsFit c) (sym goes_on) (behind x growth primary is).fits
-  turn_fits lines new runs fits (ends x growth primary free is further over t n conserved goes_on) = subst (RunsFit c) (sym goes_on) tt
+  turn_fits lines new runs fits (ends x growth primary free is grants further over t n conserved goes_on) = subst (RunsFit c) (sym goes_on) tt
 
 -- a job that is not admitted changes nothing of the store
-holds_store : (old : Shared) (r : Running) (plan : JobPlan) (lines : List JobLine) (new : Shared) (runs : Option Running) → Holds old r plan lines new runs →
+pub holds_store : (old : Shared) (r : Running) (plan : JobPlan) (lines : List JobLine) (new : Shared) (runs : Option Running) → Holds old r plan lines new runs →
     new.store ≡ old.store
 holds_store old r plan lines new runs (held free t n goes_on) = ap (λ (s : Shared). s.store) n
 holds_store old r plan lines new runs (blocked by is t n goes_on) = ap (λ (s : Shared). s.store) n
 
-reads_store : (c : Config) (old : Shared) (r : Running) (first : ℕ) (lines : List JobLine) (new : Shared) (runs : Option Running) →
+pub reads_store : (c : Config) (old : Shared) (r : Running) (first : ℕ) (lines : List JobLine) (new : Shared) (runs : Option Running) →
     ReadsRecords c old r first lines new runs → new.store ≡ old.store
 reads_store c old r first lines new runs (broken n free f t is conserved over) = ap (λ (s : Shared). s.store) is
 reads_store c old r first lines new runs (read plan rest denoted h) = holds_store old r plan lines new runs h
@@ -114,7 +114,7 @@ may_fail_store : (c : Config) (old : Shared) (r : Running) (plan : JobPlan) (fix
 may_fail_store c old r plan fixed told lines new runs (risky b t n goes_on) = ap (λ (s : Shared). s.store) n
 may_fail_store c old r plan fixed told lines new runs (refused free b t n conserved over) = ap (λ (s : Shared). s.store) n
 
-answered_store : (c : Config) (old : Shared) (r : Running) (plan : JobPlan) (fixed : Fixed) (lines : List JobLine) (new : Shared)
+pub answered_store : (c : Config) (old : Shared) (r : Running) (plan : JobPlan) (fixed : Fixed) (lines : List JobLine) (new : Shared)
     (runs : Option Running) → Answered c old r plan fixed lines new runs → new.store ≡ old.store
 answered_store c old r plan fixed lines new runs (assured kept free safe are t n conserved goes_on) = ap (λ (s : Shared). s.store) n
 answered_store c old r plan fixed lines new runs (no_space serial there t n goes_on) = ap (λ (s : Shared). s.store) n

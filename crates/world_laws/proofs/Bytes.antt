@@ -8,7 +8,7 @@ use Rattle.cb_meaning.specs.declared.layout.Layout.{Layout}
 use Rattle.cb_meaning.specs.Fields.{byte_at, is_in, is_zero_but, number_at, number_of, part, zero_from}
 use Rattle.cb_meaning.specs.Spelled.{status_bytes}
 use Rattle.world_meaning.specs.Records.{AgreeBut}
-use Rattle.world_laws.specs.RecordsKept.{HasOwnLink, IsBetween}
+use Rattle.world_meaning.specs.Records.{HasOwnLink, IsBetween}
 
 -- bytes in a row
 pub part_agrees : (r s : List ℕ) (at width : ℕ) → length s ≡ length r → ((k : ℕ) → at ≤ k → k < at + width → byte_at s k ≡ byte_at r k) →

@@ -26,7 +26,8 @@ use Rattle.world_meaning.specs.Transitions.{Acts, Does, GoesOn, Happens, Transit
 use Rattle.world_meaning.specs.Turns.{acts as does_act, ends, has_cancel, waits}
 use Rattle.world_meaning.specs.Worlds.{Admitted, Config, Initiator, IsAt, Named, Running, Selected, Shared, Stage, Wanting, World, counted, with_running}
 use Rattle.world_meaning.specs.Zaps.{ZapsRecord, has_initiator, not_owned, runs_job, selected as zaps_selected, zapped}
-use Rattle.world_laws.specs.RecordsKept.{HasOwnLink, IsAlone, KeepsRecords}
+use Rattle.world_meaning.specs.Records.{HasOwnLink}
+use Rattle.world_laws.specs.RecordsKept.{IsAlone, KeepsRecords}
 use Rattle.world_laws.proofs.Beside.{one_there, set_here}
 use Rattle.world_laws.proofs.Bytes.{low_byte, opened}
 
@@ -93,7 +94,7 @@ goes_records c old r (Named plan) lines new runs g = answered_records c old r pl
 goes_records c old r (Admitted plan a count own) lines new runs (waits x growth primary is must t n goes_on) = inl (ap (λ (s : Shared). s.records) n)
 goes_records c old r (Admitted plan a count own) lines new runs (does_act x growth primary free is grants further more t n conserved goes_on) =
     inl (ap (λ (s : Shared). s.records) n)
-goes_records c old r (Admitted plan a count own) lines new runs (ends x growth primary free is further over t n conserved gone) =
+goes_records c old r (Admitted plan a count own) lines new runs (ends x growth primary free is grants further over t n conserved gone) =
     inr (gone, ap (λ (s : Shared). s.records) n)
 
 module _ (old mid : World) (place job : ℕ) (alone : IsAlone old place job) (y : Initiator) (there : IsAt mid place y) (has : y.running ≢ None) where

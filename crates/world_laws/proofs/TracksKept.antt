@@ -90,7 +90,7 @@ module _ (job : ℕ) (c : Config) (old : Shared) (r : Running) (apart : r.job �
   advances_kept plan a count own (waits x growth primary is must t n goes_on) = ap (λ (s : Shared). kept_for job s.kept) n
   advances_kept plan a count own (acts x growth primary free is grants further more t n conserved goes_on) =
       ap (λ (s : Shared). kept_for job s.kept) n ∙ kept_behind_make job r.job apart old.kept x.done.made
-  advances_kept plan a count own (ends x growth primary free is further over t n conserved goes_on) =
+  advances_kept plan a count own (ends x growth primary free is grants further over t n conserved goes_on) =
       ap (λ (s : Shared). kept_for job s.kept) n
       ∙ (kept_behind_end job r.job apart (kept_unless_made old.kept r.job x.done.made) ∙ kept_behind_make job r.job apart old.kept x.done.made)
 

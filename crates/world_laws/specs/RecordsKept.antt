@@ -1,36 +1,16 @@
 -- The records of a job that an initiator has.
-use Rattle.std.specs.Prelude.{◌≡◌, ◌≢◌, ℕ, ◌+◌, ◌≤◌, false, List, length, All, None, Some}
+use Rattle.std.specs.Prelude.{◌≡◌, ◌≢◌, ℕ, false, List, length, All, None, Some}
 use Rattle.jcl_plan.specs.declared.entry.Entry.{Entry}
 use Rattle.jcl_plan.specs.declared.plan.JobPlan.{JobPlan}
-use Rattle.cb_meaning.specs.declared.layout.Field.{Field}
 use Rattle.cb_meaning.specs.declared.layout.Layout.{Layout}
 use Rattle.cb_meaning.specs.Spelled.{Denotes, Records}
 use Rattle.cb_meaning.specs.Walks.{is_free, owner_of}
 use Rattle.world_meaning.specs.declared.event.Event.{Event}
 use Rattle.world_meaning.specs.Cancels.{RunsNot}
 use Rattle.world_meaning.specs.Readings.{Denoting}
-use Rattle.world_meaning.specs.Records.{AgreeBut, open_fields}
+use Rattle.world_meaning.specs.Records.{AgreeBut, HasOwnLink, open_fields}
 use Rattle.world_meaning.specs.Transitions.{Transition}
 use Rattle.world_meaning.specs.Worlds.{Initiator, IsAt, Running, World}
-
--- a field between the link and the status bytes
-pub record IsBetween (f : Field) : Type 0 where
-  pub from : 8 ≤ f.at
-  pub to : f.at + f.width ≤ 168
-
--- The link stands in bytes 4 to 7, and no field of a layout meets it or the status bytes.
-pub record HasOwnLink (l : Layout) : Type 0 where
-  pub link_from : 4 ≤ l.link.at
-  pub link_to : l.link.at + l.link.width ≤ 8
-  pub first_step : IsBetween l.first_step
-  pub steps : IsBetween l.steps
-  pub next_step : IsBetween l.next_step
-  pub first_dd : IsBetween l.first_dd
-  pub dds : IsBetween l.dds
-  pub next_dd : IsBetween l.next_dd
-  pub below : IsBetween l.below
-  pub cards : IsBetween l.cards
-  pub next_cards : IsBetween l.next_cards
 
 -- the records of a job are in use still, and differ in what is open alone
 abbrev pub KeepsRecords : Layout → ℕ → Records → Records → Type 0

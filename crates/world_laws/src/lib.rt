@@ -5,7 +5,8 @@ ghost use Rattle.world_laws.specs.Beside.{FitsStay, PartsStay, RunningStays, Tur
 ghost use Rattle.world_laws.specs.JobTurns.{TurnsRun};
 ghost use Rattle.world_laws.specs.KeptTracks.{KeptStay};
 ghost use Rattle.world_laws.specs.Looks.{ActLooks};
-ghost use Rattle.world_laws.specs.RecordsKept.{DenotesStill, HasOwnLink, RecordsStay};
+ghost use Rattle.world_meaning.specs.Records.{HasOwnLink};
+ghost use Rattle.world_laws.specs.RecordsKept.{DenotesStill, RecordsStay};
 ghost use Rattle.cb_meaning.specs.declared.layout.TheConstants.{LAYOUT_1};
 
 /// An admitted job's turn changes nothing that a job with compatible names sees of the store.

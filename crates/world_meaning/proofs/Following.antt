@@ -68,11 +68,11 @@ abbrev over_now : Config → Shared → Running → JobPlan → Advanced → Sha
 over_now c s r plan x = released c (with_output (store_kept s r.job x) r plan x) r.job s.free
 
 pub ended : (c : Config) (s : Shared) (r : Running) (plan : JobPlan) (a : Admission) (count : ℕ) (own : Own) (x : Advanced) (growth primary : Bool) →
-    advanced c s r.job plan a count own growth primary ≡ Some x → must_wait s.operations r.job x ≡ false → is_over c plan x ≡ true →
-    x.done.state.store ≡ seen r.job s.store → kept_without (kept_unless_made s.kept r.job x.done.made) r.job ≡ s.kept →
+    advanced c s r.job plan a count own growth primary ≡ Some x → (a.assured ≡ true → primary ≡ true) → must_wait s.operations r.job x ≡ false →
+    is_over c plan x ≡ true → x.done.state.store ≡ seen r.job s.store → kept_without (kept_unless_made s.kept r.job x.done.made) r.job ≡ s.kept →
     Advances c s r plan a count own x.done.lines (over_now c s r plan x) None
-ended c s r plan a count own x growth primary is goes last same kept =
-    ends x growth primary s.free is goes last refl
+ended c s r plan a count own x growth primary is grants goes last same kept =
+    ends x growth primary s.free is grants goes last refl
     (λ i. record (over_now c s r plan x) { store = (sym (put_same r.job s.store) ∙ ap (λ t. put_back r.job s.store t) (sym same)) i })
     (conserved_same s (over_now c s r plan x) refl refl kept)
     refl

@@ -1,5 +1,5 @@
 -- The records of the queue: how they are taken and given back, and what may differ in them at any time.
-use Rattle.std.specs.Prelude.{◌≡◌, ℕ, zero, ◌+◌, Bool, false, ◌==◌, List, [], ◌∷◌, ◌++◌, length, filter, take, drop, if◌then◌else◌, suc}
+use Rattle.std.specs.Prelude.{◌≡◌, ℕ, zero, ◌+◌, ◌≤◌, Bool, false, ◌==◌, List, [], ◌∷◌, ◌++◌, length, filter, take, drop, if◌then◌else◌, suc}
 use Rattle.std.specs.List.{list_any}
 use Rattle.cb_meaning.specs.declared.layout.Field.{Field}
 use Rattle.cb_meaning.specs.declared.layout.Layout.{Layout}
@@ -49,3 +49,22 @@ pub record Reopened (l : Layout) (old new : Shared) : Type 0 where
   pub records : Records
   pub same : SameRecords l old.records records
   pub rest : new ≡ record old { records = records }
+
+-- a field between the link and the status bytes
+pub record IsBetween (f : Field) : Type 0 where
+  pub from : 8 ≤ f.at
+  pub to : f.at + f.width ≤ 168
+
+-- The link stands in bytes 4 to 7, and no field of a layout meets it or the status bytes.
+pub record HasOwnLink (l : Layout) : Type 0 where
+  pub link_from : 4 ≤ l.link.at
+  pub link_to : l.link.at + l.link.width ≤ 8
+  pub first_step : IsBetween l.first_step
+  pub steps : IsBetween l.steps
+  pub next_step : IsBetween l.next_step
+  pub first_dd : IsBetween l.first_dd
+  pub dds : IsBetween l.dds
+  pub next_dd : IsBetween l.next_dd
+  pub below : IsBetween l.below
+  pub cards : IsBetween l.cards
+  pub next_cards : IsBetween l.next_cards

@@ -8,6 +8,7 @@ use Rattle.cb_meaning.specs.Spelled.{Denotes, Records, are_different}
 use Rattle.cb_meaning.specs.Walks.{is_free, owner_of}
 use Rattle.jcl_plan.specs.declared.plan.JobPlan.{JobPlan}
 use Rattle.world_meaning.specs.Lenses.{WorldStore}
+use Rattle.world_meaning.specs.Records.{HasOwnLink}
 use Rattle.world_meaning.specs.Worlds.{Config, Shared, Waiting, World}
 use Rattle.jcl_meaning.specs.WellFormed.{IsEntry}
 
@@ -48,6 +49,7 @@ AreInOrder last [] = Unit {0}
 AreInOrder last (w ∷ ws) = (last < w.job) × AreInOrder w.job ws
 
 pub record IsStart (w : World) : Type 0 where
+  pub layout : HasOwnLink w.config.layout
   pub serials : Differ w.config.volumes
   pub programs : AreWellFormedPrograms w.config.programs
   pub store : IsWellFormed w.shared.store

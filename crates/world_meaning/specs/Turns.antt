@@ -172,6 +172,6 @@ pub data Advances (c : Config) (old : Shared) (r : Running) (plan : JobPlan) (a 
       lines ≡ x.done.lines → new ≡ shared_after old r.job x free → Conserves old new →
       runs ≡ going_on r lines (Admitted plan a x.count x.done.state.own) → Advances c old r plan a count own lines new runs
   ends : (x : Advanced) (growth primary : Bool) (free : List ℕ → ℕ) → advanced c old r.job plan a count own growth primary ≡ Some x →
-      must_wait old.operations r.job x ≡ false → is_over c plan x ≡ true →
+      (a.assured ≡ true → primary ≡ true) → must_wait old.operations r.job x ≡ false → is_over c plan x ≡ true →
       lines ≡ x.done.lines → new ≡ released c (with_output (shared_after old r.job x free) r plan x) r.job free → Conserves old new →
       runs ≡ None → Advances c old r plan a count own lines new runs

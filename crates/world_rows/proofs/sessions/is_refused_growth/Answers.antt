@@ -32,7 +32,7 @@ returns c job_of = record {
         (
           _,
           _,
-          turned job_of _ 1 _ _ _ _ _ (lit≤ tt) refl refl (ended _ _ _ _ _ _ _ _ true true refl refl refl refl refl),
+          turned job_of _ 1 _ _ _ _ _ (lit≤ tt) refl refl (ended _ _ _ _ _ _ _ _ true true refl (λ h. refl) refl refl refl refl),
           refl,
           refl,
         ),

@@ -149,7 +149,7 @@ third_part job_of = record {
   reach = (
     _,
     _,
-    turned job_of _ 0 _ _ _ _ _ (lit≤ tt) refl refl (ended _ _ _ _ _ _ _ _ true true refl refl refl refl refl),
+    turned job_of _ 0 _ _ _ _ _ (lit≤ tt) refl refl (ended _ _ _ _ _ _ _ _ true true refl (λ h. refl) refl refl refl refl),
     refl,
     (
       _,

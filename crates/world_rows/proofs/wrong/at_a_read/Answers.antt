@@ -45,7 +45,7 @@ writes : (lines : List JobLine) (shared : Shared) (runs : Option Running) →
     Advances start.config start.shared r reader (record { fixed = fixed; assured = false }) 2 own lines shared runs → lines ≡ line.GetStart (codes "IN") serial ∷ []
 writes lines shared runs (waits x growth primary is must e n m) = absurd (never (sym (goes_at_once x growth primary is) ∙ must))
 writes lines shared runs (acts x growth primary free is grants goes further e n c m) = e ∙ starts x growth primary is
-writes lines shared runs (ends x growth primary free is goes last e n c m) = e ∙ starts x growth primary is
+writes lines shared runs (ends x growth primary free is grants goes last e n c m) = e ∙ starts x growth primary is
 
 told : (told_now : List Entry) (new : World) → GoesSo start r told_now new → told_now ≡ of_job 1 (line.GetStart (codes "IN") serial ∷ [])
 told told_now new g = g.told_so ∙ ap (of_job 1) (writes g.lines g.shared g.runs g.goes)

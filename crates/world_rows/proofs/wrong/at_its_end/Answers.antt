@@ -39,7 +39,7 @@ released_so : (lines : List JobLine) (shared : Shared) (runs : Option Running) �
     Advances at_its_end.config at_its_end.shared r reader (record { fixed = fixed; assured = false }) 4 nothing_own lines shared runs → shared.holds ≡ []
 released_so lines shared runs (waits x growth primary is must e n m) = absurd (never (sym (waits_not x growth primary is) ∙ must))
 released_so lines shared runs (acts x growth primary free is grants goes further e n c m) = absurd (never (sym further ∙ ends_now x growth primary is))
-released_so lines shared runs (ends x growth primary free is goes last e n c m) = ap (λ (s : Shared). s.holds) n
+released_so lines shared runs (ends x growth primary free is grants goes last e n c m) = ap (λ (s : Shared). s.holds) n
 
 pub returns : goal.returns
 returns c job_of told new t =
