@@ -1,0 +1,14 @@
+//! Laws of whole runs of the machine. They have no code: a law is a function that does nothing, and its contract is the law.
+#![tactic(auto)]
+
+ghost use Rattle.run_laws.specs.Soundness.{SoundnessIsKept, StartsSound};
+
+/// The machine of a configuration is sound.
+pub fn starts_sound()
+    ensures { StartsSound }
+{}
+
+/// Each event leaves a sound machine sound.
+pub fn soundness_is_kept()
+    ensures { SoundnessIsKept }
+{}
