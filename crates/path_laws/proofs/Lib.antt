@@ -1,0 +1,7 @@
+pub mod Alike
+pub mod Asking
+pub mod Cleanly
+pub mod Ending
+pub mod Paths
+pub mod Shapes
+pub mod Taking
