@@ -1,3 +1,3 @@
-mod Budgets
+pub mod Budgets
 mod HeldNames
-mod LineCounts
+pub mod LineCounts

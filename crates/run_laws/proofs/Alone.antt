@@ -1,12 +1,10 @@
 -- Each job is at one place, behind an event too.
 use Rattle.std.proofs.Common.{◌≡◌, ◌≢◌, ◌==◌, ◌≤◌, ◌<◌, ◌+◌, ◌⊎◌, inl, inr, ◌++◌, arith, ℕ, zero, suc, Bool, true, false, cond, List, [], ◌∷◌, map, Option, Some, None, refl, sym, ap, ◌∙◌, subst}
-use Rattle.std.specs.Prelude.{All, not, filter, slice_get, slice_set}
+use Rattle.std.specs.Prelude.{All, not, filter, slice_get}
 use Rattle.std.specs.List.{Contains}
 use Rattle.std.proofs.lemmas.Bool.{both_ways, eq-eqb}
 use Rattle.std.proofs.lemmas.List.Elements.{All-contains, All-filter, All-head, All-push, All-tail, All-weaker, filter_passes}
-use Rattle.jcl_plan.specs.declared.entry.JobLine.{JobLine}
 use Rattle.world_meaning.specs.Starts.{AreInOrder, Differ}
-use Rattle.world_meaning.specs.Transitions.{GoesOn}
 use Rattle.world_meaning.specs.Worlds.{Initiator, IsAt, Running, Shared, Waiting, World, with_running, without_waiting}
 use Rattle.run_laws.specs.Soundness.{IsSound, IsThereAlone, RunsAt}
 use Rattle.run_laws.proofs.Moves.{Left, Moved, ended_early, enters, goes, named, over, picks, still, turn_left, turns, unqueued}

@@ -1,11 +1,9 @@
 -- The own states of admitted jobs fit, and groups are sound, behind an event too.
-use Rattle.std.proofs.Common.{◌≡◌, ◌⊎◌, inl, inr, ℕ, false, List, [], drop, Option, Some, None, refl, sym, ap, ◌∙◌, subst}
+use Rattle.std.proofs.Common.{◌≡◌, ◌⊎◌, inl, inr, ℕ, false, List, Option, Some, None, refl, sym, ap, ◌∙◌, subst}
 use Rattle.std.specs.Prelude.{slice_get}
 use Rattle.jcl_plan.specs.declared.entry.Entry.{Entry}
 use Rattle.jcl_plan.specs.declared.entry.JobLine.{JobLine}
 use Rattle.jcl_plan.specs.declared.plan.JobPlan.{JobPlan}
-use Rattle.jcl_meaning.specs.declared.state.Own.{Own}
-use Rattle.jcl_meaning.specs.Names.{names_of}
 use Rattle.jcl_meaning.specs.Solo.{nothing_own}
 use Rattle.jcl_meaning.specs.States.{Fixed}
 use Rattle.jcl_meaning.specs.WellFormed.{IsWellFormedPlan}
@@ -19,7 +17,7 @@ use Rattle.world_meaning.specs.Lenses.{WorldStore, put_back, seen}
 use Rattle.world_meaning.specs.Readings.{Denoting}
 use Rattle.world_meaning.specs.Transitions.{GoesOn, Transition}
 use Rattle.world_meaning.specs.Turns.{Advanced, Advances, acts, ends, waits}
-use Rattle.world_meaning.specs.Worlds.{Admission, Admitted, Config, Initiator, IsAt, Named, Running, Selected, Shared, Stage, Wanting, World, with_running}
+use Rattle.world_meaning.specs.Worlds.{Admitted, Config, Initiator, IsAt, Named, Running, Selected, Shared, Stage, Wanting, World}
 use Rattle.world_laws.specs.Beside.{FitsAt, RunsFit}
 use Rattle.world_laws.proofs.Beside.{answered_store, behind, holds_store, reads_store, turn_fits}
 use Rattle.world_laws.proofs.Effects.{Effect, changes, ended_early, goes, picks, still, unqueued}

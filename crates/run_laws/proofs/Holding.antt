@@ -1,11 +1,10 @@
 -- The names of jobs are held for them, and jobs that hold names are compatible, behind an event too.
-use Rattle.std.proofs.Common.{◌≡◌, ◌≢◌, ◌==◌, ◌⊎◌, inl, inr, ◌++◌, ℕ, Bool, true, false, cond, List, [], ◌∷◌, map, Option, Some, None, refl, sym, ap, ◌∙◌, subst}
+use Rattle.std.proofs.Common.{◌≡◌, ◌≢◌, ◌==◌, ◌++◌, ℕ, Bool, true, false, cond, List, map, Option, Some, None, refl, sym, ap, ◌∙◌, subst}
 use Rattle.std.specs.Prelude.{All, not, ◌&&◌, ◌||◌}
-use Rattle.std.specs.List.{Contains, list_all, list_any}
+use Rattle.std.specs.List.{Contains, list_all}
 use Rattle.std.specs.Str.{bytes_eq}
 use Rattle.std.proofs.lemmas.Bool.{ne_eqb}
 use Rattle.std.proofs.lemmas.List.Elements.{All-contains, All-weaker, Contains-append_left, Contains-append_right}
-use Rattle.jcl_plan.specs.declared.entry.JobLine.{JobLine}
 use Rattle.jcl_plan.specs.declared.plan.JobPlan.{JobPlan}
 use Rattle.jcl_meaning.specs.declared.names.HeldName.{HeldName}
 use Rattle.jcl_meaning.specs.Names.{IsCompatible, agree, names_of}
@@ -14,11 +13,11 @@ use Rattle.enq_core.specs.declared.table.Hold.{Hold}
 use Rattle.enq_core.specs.declared.table.Want.{Want}
 use Rattle.enq_core.specs.Holds.{conflicts, holds_of, is_blocked, without_job}
 use Rattle.world_meaning.specs.Holdings.{wants_of}
-use Rattle.world_meaning.specs.Worlds.{Initiator, IsAt, Running, Shared, Waiting, World, with_running}
-use Rattle.run_laws.specs.Soundness.{AreHeld, IsSound, IsThereAlone, RunsAt, named_plan}
+use Rattle.world_meaning.specs.Worlds.{Initiator, IsAt, Running, Shared, World, with_running}
+use Rattle.run_laws.specs.Soundness.{AreHeld, IsSound, RunsAt, named_plan}
 use Rattle.run_laws.proofs.Elements.{all_mapped, contains_filter, none_passes}
 use Rattle.run_laws.proofs.Moves.{Left, Moved, ended_early, enters, goes, named, over, picks, still, turn_left, turns, unqueued}
-use Rattle.run_laws.proofs.Places.{WasAt, here, one_running, runs_cases, runs_same, there}
+use Rattle.run_laws.proofs.Places.{WasAt, here, runs_cases, runs_same, there}
 
 abbrev hold_for : ℕ → Want → Hold
 hold_for job want = record { job = job; name = want.name; exclusive = want.exclusive }

@@ -1,7 +1,17 @@
+pub mod Admitting
 pub mod Alone
 pub mod Elements
 pub mod Fitting
+pub mod Following
+pub mod Gone
 pub mod Holding
 pub mod Moves
+pub mod NextTurns
+pub mod Over
 pub mod Places
+pub mod PlainLines
+pub mod Promising
 pub mod Reading
+pub mod Sound
+pub mod Starting
+pub mod Voices

@@ -1,5 +1,5 @@
 -- What each event changes of the jobs: who waits, who runs, what is held, and how many numbers were given.
-use Rattle.std.proofs.Common.{◌≡◌, ◌≢◌, ◌==◌, ◌⊎◌, inl, inr, ◌++◌, ◌+◌, ℕ, zero, suc, Bool, true, false, cond, List, [], ◌∷◌, length, Option, Some, None, refl, sym, ap, ◌∙◌, subst}
+use Rattle.std.proofs.Common.{◌≡◌, ◌⊎◌, inl, inr, ◌++◌, ◌+◌, ℕ, Bool, true, false, cond, List, [], ◌∷◌, Option, Some, None, refl, sym, ap, ◌∙◌, subst}
 use Rattle.std.specs.Prelude.{All}
 use Rattle.std.specs.List.{Contains}
 use Rattle.jcl_plan.specs.declared.entry.Entry.{Entry}
@@ -11,15 +11,15 @@ use Rattle.world_meaning.specs.declared.event.Event.{Event}
 use Rattle.world_meaning.specs.declared.event.Event.TheVariants as event
 use Rattle.world_meaning.specs.Admissions.{Answered, MayFail, assured, fixed_at, no_space, refused, risk, risky, too_many, unchecked}
 use Rattle.world_meaning.specs.Cancels.{CancelsJob, admitted as cancels_admitted, no_job, selected as cancels_selected, waiting as cancels_waiting}
-use Rattle.world_meaning.specs.Devices.{EndsDevice, Writes, ended, idle, no_volume, nothing_written, wrote}
-use Rattle.world_meaning.specs.Displays.{SetsDate, set}
+use Rattle.world_meaning.specs.Devices.{ended, idle, no_volume, nothing_written, wrote}
+use Rattle.world_meaning.specs.Displays.{set}
 use Rattle.world_meaning.specs.Holdings.{Holds, blocked, broken, held, read as reads_plan, wants_of}
 use Rattle.world_meaning.specs.Readings.{Denoting, Reads, full, no_number, read, rejected, waits as waits_with}
-use Rattle.world_meaning.specs.Selections.{Selects, nothing, selected, taken_by}
-use Rattle.world_meaning.specs.Transitions.{Acts, Does, Goes, GoesOn, Happens, Shows, Transition, Turns, acts, past, shown, taken, unknown}
-use Rattle.world_meaning.specs.Turns.{Advances, acts as does_act, ends, has_cancel, waits}
+use Rattle.world_meaning.specs.Selections.{nothing, selected, taken_by}
+use Rattle.world_meaning.specs.Transitions.{Acts, Does, GoesOn, Happens, Transition, acts, past, shown, taken, unknown}
+use Rattle.world_meaning.specs.Turns.{acts as does_act, ends, has_cancel, waits}
 use Rattle.world_meaning.specs.Worlds.{Admitted, Config, Initiator, IsAt, Named, Running, Selected, Shared, Stage, Waiting, Wanting, World, counted, with_running, without_waiting}
-use Rattle.world_meaning.specs.Zaps.{ZapsRecord, not_owned, selected as zaps_selected, zapped}
+use Rattle.world_meaning.specs.Zaps.{not_owned, selected as zaps_selected, zapped}
 use Rattle.run_laws.specs.Soundness.{IsDenoted, named_plan, plan_read}
 
 -- a plan that was read before, or is read in this turn

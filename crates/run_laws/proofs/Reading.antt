@@ -4,26 +4,23 @@ use Rattle.std.specs.Prelude.{All}
 use Rattle.std.proofs.lemmas.List.Elements.{All-cons, All-nil, All-weaker}
 use Rattle.jname_core.specs.declared.key.Key.{Key}
 use Rattle.jname_core.specs.declared.key.Key.TheVariants.{Named, Relative, Temporary, Unnamed}
-use Rattle.jname_core.specs.Grammar.{IsDsNameWithin, IsDotted}
 use Rattle.jcl_plan.specs.declared.entry.Entry.{Entry}
-use Rattle.jcl_plan.specs.declared.entry.JobLine.{JobLine}
 use Rattle.jcl_plan.specs.declared.outcome.TheConstants.{GREATEST_CODE}
 use Rattle.jcl_plan.specs.declared.plan.DdKind.{DdKind}
 use Rattle.jcl_plan.specs.declared.plan.DdKind.TheVariants.{Cards, Dummy, Set, Sysout}
 use Rattle.jcl_plan.specs.declared.plan.DdPlan.{DdPlan}
 use Rattle.jcl_plan.specs.declared.plan.JobPlan.{JobPlan}
 use Rattle.jcl_plan.specs.declared.plan.StepPlan.{StepPlan}
-use Rattle.jcl_plan.specs.declared.plan.Test.{Test}
 use Rattle.jcl_plan.specs.declared.plan.VolumePlan.{VolumePlan}
 use Rattle.jcl_plan.specs.declared.plan.VolumePlan.TheVariants as volume
 use Rattle.jcl_meaning.specs.WellFormed.{IsDdKind, IsKey, IsStep, IsVolumePlan, IsWellFormedPlan}
 use Rattle.cb_meaning.specs.Spelled.{Denotes}
-use Rattle.cb_meaning.specs.Writable.{AreDds, AreSteps, IsJobTest, IsKeyAt, IsKindAt, IsSetAt, IsStepAt, IsStepTest, IsVolumeAt, IsWritable}
+use Rattle.cb_meaning.specs.Writable.{AreDds, AreSteps, IsJobTest, IsKeyAt, IsKindAt, IsStepAt, IsStepTest, IsVolumeAt, IsWritable}
 use Rattle.world_meaning.specs.declared.event.Event.{Event}
 use Rattle.world_meaning.specs.Cancels.{RunsNot}
 use Rattle.world_meaning.specs.Readings.{Denoting}
 use Rattle.world_meaning.specs.Transitions.{Transition}
-use Rattle.world_meaning.specs.Worlds.{Config, Initiator, IsAt, Running, Shared, World, with_running}
+use Rattle.world_meaning.specs.Worlds.{Config, Running, Shared, World}
 use Rattle.world_laws.specs.RecordsKept.{IsAlone}
 use Rattle.world_laws.proofs.Denoting.{denotes_still}
 use Rattle.world_laws.proofs.Effects.{changes}

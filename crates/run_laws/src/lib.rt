@@ -2,6 +2,7 @@
 #![tactic(auto)]
 
 ghost use Rattle.run_laws.specs.Soundness.{SoundnessIsKept, StartsSound};
+ghost use Rattle.world_meaning.specs.Headlines.{AssuredRun};
 
 /// The machine of a configuration is sound.
 pub fn starts_sound()
@@ -11,4 +12,10 @@ pub fn starts_sound()
 /// Each event leaves a sound machine sound.
 pub fn soundness_is_kept()
     ensures { SoundnessIsKept }
+{}
+
+/// Whatever the events, a job that is answered ASSURED writes from there on a prefix of its solo meaning, which meets no fault, and at its end the
+/// whole.
+pub fn assured_run()
+    ensures { AssuredRun }
 {}

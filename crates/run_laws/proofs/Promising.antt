@@ -1,0 +1,119 @@
+-- What is promised of an assured job, from that its solo meaning meets no fault.
+use Rattle.std.proofs.Common.{◌≡◌, ◌≤◌, arith, ℕ, true, List, [], ◌∷◌, length, refl, sym, ap, ◌∙◌, subst, length-append}
+use Rattle.jcl_plan.specs.declared.entry.Entry.{Entry}
+use Rattle.jcl_plan.specs.declared.entry.Entry.TheVariants as entry
+use Rattle.jcl_plan.specs.declared.entry.JobLine.{JobLine}
+use Rattle.jcl_plan.specs.declared.entry.JobLine.TheVariants as line
+use Rattle.jcl_plan.specs.declared.plan.JobPlan.{JobPlan}
+use Rattle.jcl_meaning.specs.declared.program.SoloProgram.{SoloProgram}
+use Rattle.jcl_meaning.specs.declared.solo.SoloAnswers.{SoloAnswers}
+use Rattle.jcl_meaning.specs.declared.state.Place.{Place}
+use Rattle.jcl_meaning.specs.Agendas.{agenda, budget_of}
+use Rattle.jcl_meaning.specs.Names.{names_of}
+use Rattle.jcl_meaning.specs.Parts.{SamePart}
+use Rattle.jcl_meaning.specs.Solo.{Ran, answers_of, is_clean, nothing_own, run}
+use Rattle.jcl_meaning.specs.States.{Fixed}
+use Rattle.jcl_meaning.specs.Stores.{Store}
+use Rattle.jcl_meaning.specs.WellFormed.{AreWellFormedPrograms}
+use Rattle.jcl_meaning.proofs.Budgets.{budget_is-length}
+use Rattle.jcl_meaning.proofs.LineCounts.{run-clean}
+use Rattle.meaning_laws.proofs.Parts.{part_same}
+use Rattle.part_laws.specs.Fits.{Fits}
+use Rattle.part_laws.proofs.PlansFit.{start_fits}
+use Rattle.world_meaning.specs.declared.event.Event.{Event}
+use Rattle.world_meaning.specs.Admissions.{IsSafe, first_state, fixed_at}
+use Rattle.world_meaning.specs.Headlines.{IsPrefix, KeepsMeaning, Promised, lines_of}
+use Rattle.world_meaning.specs.Lenses.{WorldStore, seen}
+use Rattle.world_meaning.specs.Readings.{Denoting}
+use Rattle.world_meaning.specs.Transitions.{Runs, Transition}
+use Rattle.world_meaning.specs.Worlds.{Config, World}
+use Rattle.world_laws.specs.JobTurns.{Mean}
+use Rattle.world_laws.proofs.Effects.{changes}
+use Rattle.world_laws.proofs.TurnsRunning.{turns_run}
+use Rattle.run_laws.specs.Soundness.{IsDenoted, IsSound, plan_read}
+use Rattle.run_laws.proofs.Admitting.{IsAdmitted, admitted_at}
+use Rattle.run_laws.proofs.Following.{Turned, follow}
+use Rattle.run_laws.proofs.Reading.{plan_formed}
+use Rattle.run_laws.proofs.Sound.{sound_behind}
+
+-- a prefix is no longer than the whole
+prefix_short : (lines whole : List JobLine) → IsPrefix lines whole → length lines ≤ length whole
+prefix_short lines whole p = omega (arith, length-append lines p.behind, ap length p.joined)
+
+-- where it meets no fault for any outcomes, it meets none for its programs
+abbrev pub CleansPrograms : Type 0
+CleansPrograms = (fixed : Fixed) (plan : JobPlan) (programs : List SoloProgram) (s : Store) (answers : SoloAnswers) → AreWellFormedPrograms programs →
+    IsSafe fixed plan s → is_clean (run fixed (agenda plan programs) (first_state s (answers_of plan programs answers))) ≡ true
+
+module _ (cleans : CleansPrograms) (job_of : Denoting) (w v end : World) (after : List Event) (e : Event) (told_after : List (List Entry)) (job tracks actions : ℕ)
+    (sound : IsSound w) (t : Transition job_of w e (entry.Job job (line.Assured tracks actions) ∷ []) v) (runs : Runs job_of v after told_after end) where
+  a : IsAdmitted w v job actions
+  a = admitted_at tracks actions job_of w v job e t
+
+  abbrev fixed : Fixed
+  fixed = fixed_at w.config w.shared a.r.job a.plan a.places
+
+  abbrev start : Store
+  start = seen a.r.job w.shared.store
+
+  abbrev written : List JobLine
+  written = lines_of a.q.job told_after
+
+  denoted : IsDenoted w.config w.shared.records a.r.job a.plan
+  denoted = sound.denoted a.place a.r a.plan a.run (ap plan_read a.stage)
+
+  fits : Fits (names_of a.plan) fixed.meanings (agenda a.plan w.config.programs) nothing_own
+  fits =
+      start_fits a.plan w.config.programs start (plan_formed w.config.layout.most_steps _ a.plan denoted.denoted.in_range) (sound.groups a.r.job)
+
+  turned : Turned w.config.programs a.plan fixed start 0 nothing_own written
+  turned =
+      follow job_of v end after told_after w.config.programs a.place a.q a.plan (record { fixed = fixed; assured = true }) 0 nothing_own start
+      (ap (λ (c : Config). c.programs) (changes job_of w v e _ t).config) (sound_behind job_of w v e _ sound t) a.goes_on a.admission refl
+      (subst (λ (s : WorldStore). SamePart (names_of a.plan) start (seen a.q.job s)) (sym a.store)
+      (subst (λ (n : ℕ). SamePart (names_of a.plan) start (seen n w.shared.store)) (sym a.same_job) (part_same (names_of a.plan) start))) runs
+
+  mean : Mean w.config.programs a.plan fixed start turned.turns
+  mean = turns_run w.config.programs a.plan fixed start turned.turns fits turned.are
+
+  abbrev solo : Ran
+  solo = run fixed (agenda a.plan w.config.programs) (first_state start (answers_of a.plan w.config.programs mean.answers))
+
+  clean : is_clean solo ≡ true
+  clean = cleans fixed a.plan w.config.programs start mean.answers sound.programs a.safe
+
+  prefix : IsPrefix written solo.lines
+  prefix = subst (λ (lines : List JobLine). IsPrefix lines solo.lines) (sym turned.told) mean.prefix
+
+  few : length written ≤ budget_of a.plan w.config.programs
+  few =
+      let some : length written ≤ length solo.lines = prefix_short written solo.lines prefix in
+      let most : length solo.lines ≤ length (agenda a.plan w.config.programs) =
+      run-clean fixed (agenda a.plan w.config.programs) (first_state start (answers_of a.plan w.config.programs mean.answers)) clean in
+      omega (arith, some, most, budget_is-length a.plan w.config.programs)
+
+  keeps : KeepsMeaning w a.r.job a.plan fixed written
+  keeps = record {
+    answers = mean.answers;
+    clean = clean;
+    prefix = prefix;
+    whole = λ h. turned.told ∙ mean.whole (turned.whole h);
+    few = few;
+  }
+
+  promised_so : Promised w a.r.job actions a.plan a.places written
+  promised_so = record {
+    numbers = denoted.numbers;
+    denoted = denoted.denoted;
+    placed = a.placed;
+    budget = a.budget;
+    keeps = keeps;
+  }
+
+  pub promised : (plan : JobPlan) × (places : List Place) × Promised w job actions plan places (lines_of job told_after)
+  promised = (
+    a.plan,
+    a.places,
+    subst (λ (n : ℕ). Promised w job actions a.plan a.places (lines_of n told_after)) (a.same_job ∙ a.its_job)
+        (subst (λ (n : ℕ). Promised w n actions a.plan a.places written) a.its_job promised_so),
+  )
