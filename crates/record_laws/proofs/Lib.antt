@@ -1,0 +1,4 @@
+pub mod Blanks
+pub mod Chains
+pub mod Sets
+pub mod Words
