@@ -1,4 +1,5 @@
 pub mod Blanks
 pub mod Chains
+pub mod Owners
 pub mod Sets
 pub mod Words
