@@ -13,7 +13,5 @@ pub mod refusal;
 pub mod set;
 pub mod set_name;
 pub mod space;
-#[cfg(test)]
-mod tests;
 pub mod unit;
 pub mod volume_name;

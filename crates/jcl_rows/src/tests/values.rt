@@ -1,13 +1,4 @@
 //! Values of keywords, as they are read, and the faults that are told.
-use crate::disposition::disposition;
-use crate::label_fault::label_fault;
-use crate::parm_fault::parm_fault;
-use crate::reference::{DdReference, StepReference, dd_reference, step_reference};
-use crate::set::{Disposition, SetName, VolumeName};
-use crate::set_name::set_name;
-use crate::space::space;
-use crate::unit::unit;
-use crate::volume_name::volume_name;
 use jcl_plan::fault::{Cause, StatementFault};
 use jcl_plan::plan::{ConditionalWord, Space, Status, Word};
 use jname_core::ds_name::{read_base, read_ds_name};
@@ -15,6 +6,15 @@ use jname_core::key::{Key, Sign};
 use jname_core::name8::{Name8, UnitName};
 use jname_core::serial::Serial;
 use std::test::Fail;
+use value_core::disposition::disposition;
+use value_core::label_fault::label_fault;
+use value_core::parm_fault::parm_fault;
+use value_core::reference::{DdReference, StepReference, dd_reference, step_reference};
+use value_core::set::{Disposition, SetName, VolumeName};
+use value_core::set_name::set_name;
+use value_core::space::space;
+use value_core::unit::unit;
+use value_core::volume_name::volume_name;
 
 const BAD_VALUE: Cause = Cause::P(StatementFault::BadValue);
 

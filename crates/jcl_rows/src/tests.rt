@@ -1,0 +1,2 @@
+//! The tests, by what is read.
+mod values;
