@@ -1,0 +1,10 @@
+pub mod Among
+pub mod CardsFit
+pub mod Chains
+pub mod Entered
+pub mod Linked
+pub mod PutBehind
+pub mod Small
+pub mod SoFar
+pub mod Stored
+pub mod Whole

@@ -1,1 +1,4 @@
+pub mod Composed
+pub mod Entries
+pub mod Taking
 pub mod Written

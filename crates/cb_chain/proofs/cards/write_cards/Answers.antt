@@ -1,0 +1,54 @@
+use Rattle.std.proofs.Common.{◌≡◌, ℕ, ◌+◌, ◌≤◌, List, ◌++◌, length, take, drop, min, suc, arith, ap, ◌∙◌, sym, refl, length-drop}
+use Rattle.std.proofs.lemmas.List.{take-append-drop}
+use Rattle.cb_chain.specs.Taking.{CardsFrom, cards_needed}
+use Rattle.cb_chain.proofs.SoFar.{begins, ends, goes_on, ready_now, room_now, some_more}
+use Rattle.cb_chain.proofs.cards.write_cards.Goals as goal
+
+pub loop-rest-init : goal.loop-rest-init
+loop-rest-init g c =
+    begins c.args.job cards_needed (CardsFrom c.args.layout.now c.args.job) c.args.cards.now (g.S.RecordStore.queue c.args.store.now) c.take_if-first.result
+    (g.S.RecordStore.queue c.take_if-first.new.store) c.is_more.result c.is_more.ensures c.take_if-first.ensures
+
+pub write_pair-here-requires-clause-ready : goal.write_pair-here-requires-clause-ready
+write_pair-here-requires-clause-ready g c =
+    ready_now c.args.job cards_needed (CardsFrom c.args.layout.now c.args.job) c.args.cards.now c.loop-rest.rest.now (g.S.RecordStore.queue c.args.store.now)
+    (g.S.RecordStore.queue c.loop-rest.store) c.take_if-first.result c.loop-rest.here c.loop-rest.invariant c.requires.ready
+
+-- two cards fewer are left, or none
+needed_by : (cards : List (List ℕ)) (k : ℕ) (behind : List (List ℕ)) → k ≡ min (length cards) 2 → behind ≡ drop k cards → 1 ≤ length cards →
+    cards_needed cards ≡ suc (0 + cards_needed behind)
+needed_by cards k behind is tail some = let size = ap length tail in let left = length-drop k cards in omega (arith, size, left, is, some)
+
+parted : (k : ℕ) (cards front behind : List (List ℕ)) → front ≡ take k cards → behind ≡ drop k cards → cards ≡ front ++ behind
+parted k cards front behind first last =
+    sym (take-append-drop k cards) ∙ ap (λ xs. xs ++ drop k cards) (sym first) ∙ ap (λ ys. front ++ ys) (sym last)
+
+pub write_pair-here-requires-clause-room : goal.write_pair-here-requires-clause-room
+write_pair-here-requires-clause-room g c = λ more.
+    let some = sym c.is_more-in-loop-rest.ensures ∙ c.loop-rest-test.true in
+    let room = room_now c.args.job cards_needed (CardsFrom c.args.layout.now c.args.job) c.args.cards.now c.loop-rest.rest.now
+    (g.S.RecordStore.queue c.args.store.now)
+    (g.S.RecordStore.queue c.loop-rest.store) c.take_if-first.result c.loop-rest.here c.loop-rest.invariant some c.requires.room in
+    let needed = needed_by c.loop-rest.rest.now c.min.result c.split_at.result.1.now c.min.ensures c.split_at.ensures.back
+    (some_more c.loop-rest.rest.now some) in
+    let behind = some_more c.split_at.result.1.now (sym c.is_more-in-loop-rest-2.ensures ∙ more) in
+    omega (arith, room, needed, behind)
+
+pub loop-rest-preserved : goal.loop-rest-preserved
+loop-rest-preserved g c =
+    let some = sym c.is_more-in-loop-rest.ensures ∙ c.loop-rest-test.true in
+    let rest = c.loop-rest.rest.now in
+    let both = parted c.min.result rest c.split_at.result.0.now c.split_at.result.1.now c.split_at.ensures.front c.split_at.ensures.back in
+    goes_on c.args.job cards_needed (CardsFrom c.args.layout.now c.args.job) c.args.cards.now (g.S.RecordStore.queue c.args.store.now)
+    c.take_if-first.result rest
+    c.split_at.result.1.now c.split_at.result.0.now (g.S.RecordStore.queue c.loop-rest.store) (g.S.RecordStore.queue c.write_pair-here.new.store)
+    c.loop-rest.here
+    c.write_pair-here.result 0 c.is_more-in-loop-rest-2.result c.is_more-in-loop-rest-2.ensures c.requires.ready some both
+    (needed_by rest c.min.result c.split_at.result.1.now c.min.ensures c.split_at.ensures.back (some_more rest some)) c.loop-rest.invariant
+    c.write_pair-here.ensures
+
+pub returns : goal.returns
+returns g c =
+    ends c.args.job cards_needed (CardsFrom c.args.layout.now c.args.job) c.args.cards.now (g.S.RecordStore.queue c.args.store.now) c.take_if-first.result
+    (g.S.RecordStore.queue c.loop-rest.store) c.loop-rest.here c.loop-rest.rest.now (sym c.is_more-in-loop-rest.ensures ∙ c.loop-rest-test.false) refl
+    c.take_if-first.ensures.most (λ later. (refl, refl)) c.loop-rest.invariant

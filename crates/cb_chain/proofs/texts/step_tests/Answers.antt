@@ -1,0 +1,10 @@
+use Rattle.std.proofs.Common.{arith, refl}
+use Rattle.cb_meaning.specs.Codes.{step_test_bytes}
+use Rattle.cb_chain.proofs.PutBehind.{more_put}
+use Rattle.cb_chain.proofs.texts.step_tests.Goals as goal
+
+pub loop-i-preserved : goal.loop-i-preserved
+loop-i-preserved c =
+    let few = c.as_slice-tests.ensures.fits in
+    more_put step_test_bytes 5 40 c.as_slice-tests.result.now c.loop-i.i c.index-tests-i.result c.loop-i.own c.put_behind.new.own c.step_test_bytes.result
+    (λ t. refl) (omega (arith, few)) c.loop-i-test.true c.index-tests-i.is c.step_test_bytes.ensures c.loop-i.invariant c.put_behind.ensures
