@@ -1,2 +1,4 @@
 //! The tests, by what is read.
+mod lists;
+mod symbols;
 mod values;

@@ -1,0 +1,4 @@
+pub mod Joined
+pub mod Lookup
+pub mod Walk
+pub mod Written

@@ -1,2 +1,3 @@
 pub mod Substitutions
 pub mod Examples
+pub mod Writing

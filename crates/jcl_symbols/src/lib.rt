@@ -2,4 +2,7 @@
 #![tactic(auto)]
 
 pub mod examples;
+pub mod substitution;
 pub mod symbol;
+mod symbols;
+mod writing;

@@ -1,3 +1,4 @@
 pub mod Conditions
 pub mod ControlBlocks
 pub mod Examples
+pub mod Found

@@ -1,0 +1,3 @@
+pub mod PlaceByPlace
+pub mod References
+pub mod Told
