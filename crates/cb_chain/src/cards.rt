@@ -1,6 +1,6 @@
 //! The cards of a DD are written, two in a record.
-ghost use Rattle.std.specs.Prelude.{◌≡◌, ◌≢◌, ◌≤◌, ◌+◌, Bool, IsTrue, length, if◌then◌else◌};
-ghost use Rattle.cb_chain.specs.Taking.{IsReady, IsTaken, Links, Writes, OfKind, CardsFrom, cards_needed};
+ghost use Rattle.std.specs.Prelude.{◌≡◌, ◌≢◌, ◌≤◌, IsTrue, length};
+ghost use Rattle.cb_chain.specs.Taking.{CardsFrom, IsReady, IsTaken, Links, OfKind, Writes, cards_needed};
 
 use crate::cards_record::cards_record;
 use crate::take::{is_more, take_if};

@@ -1,5 +1,5 @@
 //! The record of a DD: SIOT.
-ghost use Rattle.std.specs.Prelude.{◌≡◌, ◌≤◌, ◌<◌, ◌^◌, [], ◌∷◌, length};
+ghost use Rattle.std.specs.Prelude.{◌≤◌, ◌<◌, ◌^◌, length};
 ghost use Rattle.cb_meaning.specs.Spelled.{cards_of};
 ghost use Rattle.cb_chain.specs.Composed.{IsSiot, set_entries, word_entries};
 ghost use Rattle.cb_chain.specs.Entries.{AreEntered};

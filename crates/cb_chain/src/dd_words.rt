@@ -1,5 +1,5 @@
 //! What the record of a DD says of each kind, in bytes and numbers.
-ghost use Rattle.std.specs.Prelude.{◌≡◌, ◌+◌, ◌++◌, ◌⊎◌, length, is_none, is_some};
+ghost use Rattle.std.specs.Prelude.{◌≡◌, ◌+◌, ◌++◌, ◌⊎◌, is_some, length};
 ghost use Rattle.cb_meaning.specs.Codes.{conditional_code, mark, normal_code, or_zero, status_code};
 ghost use Rattle.cb_meaning.specs.Fields.{two_bytes};
 ghost use Rattle.cb_meaning.specs.Spelled.{cards_of, class_of, kind_code, marks_of, of_set, of_space, set_of, volume_code, volume_dd_bytes, volume_dd_of};

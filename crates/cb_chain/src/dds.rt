@@ -1,7 +1,7 @@
 //! The DDs of a step are written, each with what stands below it.
 ghost use Rattle.std.specs.Prelude.{◌≡◌, ◌≢◌, ◌≤◌, ◌+◌, [], ◌∷◌, IsTrue, length};
 ghost use Rattle.cb_meaning.specs.Needs.{records_below};
-ghost use Rattle.cb_chain.specs.Taking.{IsReady, IsTaken, Links, Writes, OfKind, DdsFrom, dds_needed, OfDds};
+ghost use Rattle.cb_chain.specs.Taking.{DdsFrom, IsReady, IsTaken, Links, OfDds, OfKind, Writes, dds_needed};
 
 use crate::cards::write_cards;
 use crate::dd_record::siot_record;

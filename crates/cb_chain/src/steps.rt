@@ -1,7 +1,7 @@
 //! The steps of a job are written, each with its DDs.
 ghost use Rattle.std.specs.Prelude.{◌≡◌, ◌≢◌, ◌≤◌, ◌+◌, [], ◌∷◌, All, IsTrue, length};
 ghost use Rattle.cb_meaning.specs.Writable.{most_dds};
-ghost use Rattle.cb_chain.specs.Taking.{IsReady, IsTaken, Links, Writes, dds_needed, OfSteps, StepsFrom, steps_needed};
+ghost use Rattle.cb_chain.specs.Taking.{IsReady, IsTaken, Links, OfSteps, StepsFrom, Writes, dds_needed, steps_needed};
 
 use crate::dds::write_dds;
 use crate::step_record::sct_record;

@@ -1,7 +1,7 @@
 //! Bytes of names, numbers, tests and cards, as fields have them.
-ghost use Rattle.std.specs.Prelude.{◌≡◌, ◌+◌, ◌*◌, ◌<◌, ◌≤◌, ℕ, List, ◌++◌, length, ◌^◌, slice_range};
+ghost use Rattle.std.specs.Prelude.{◌≡◌, ◌+◌, ◌≤◌, ◌++◌, List, length, ℕ};
 ghost use Rattle.std.specs.List.{flat_map};
-ghost use Rattle.cb_meaning.specs.Codes.{job_test_bytes, step_test_bytes, or_zero};
+ghost use Rattle.cb_meaning.specs.Codes.{job_test_bytes, or_zero, step_test_bytes};
 ghost use Rattle.cb_meaning.specs.Fields.{filled, filled_or_blank, then_zeros, two_bytes};
 
 use crate::codes::operator_code;

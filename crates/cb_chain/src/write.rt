@@ -1,5 +1,5 @@
 //! A job is written into free records.
-ghost use Rattle.std.specs.Prelude.{◌≡◌, ◌≢◌, ◌≤◌, ◌↔◌, ℕ, IfErr, IfOk, IsOk, OnErr, length};
+ghost use Rattle.std.specs.Prelude.{◌≡◌, ◌≢◌, ◌≤◌, ◌↔◌, IfErr, IfOk, IsOk, OnErr, length, ℕ};
 ghost use Rattle.cb_meaning.specs.Needs.{records_needed};
 ghost use Rattle.cb_meaning.specs.Writable.{IsWritable};
 ghost use Rattle.cb_chain.specs.Written.{HoldsJobs, Written};

@@ -1,0 +1,8 @@
+pub mod Twice
+pub mod Answered
+pub mod Symbols
+pub mod Later
+pub mod JobWords
+pub mod ExecNames
+pub mod Five
+pub mod DdWords

@@ -4,4 +4,7 @@ pub mod ExecCards
 pub mod ProcedureCards
 pub mod DdCards
 pub mod Merging
+pub mod Dds
+pub mod Execs
+pub mod Reading
 pub mod Examples

@@ -1,10 +1,33 @@
 //! The DD statement. (GC28-6704, "DD statement")
+ghost use Rattle.std.specs.Prelude.{◌≡◌, count_by, nat_lt};
+ghost use Rattle.std.specs.Option.{option_copied};
+ghost use Rattle.operand_core.specs.Faults.{told};
+ghost use Rattle.operand_core.specs.Operands.{operand_of};
+ghost use Rattle.value_core.specs.Reads.{Gives, IsRead, answer};
+ghost use Rattle.jcl_cards.specs.DdCards.{behind_period, dd_card, dd_name_faults, dd_with, has_data, is_read_word};
+ghost use Rattle.jcl_cards.specs.DdCards.{known_on_dd, left_out_on_dd, positional_faults, word_of};
+ghost use Rattle.jcl_cards.specs.Dds.{blocks_in, dd_names, dd_values, dd_words, excluded_faults, qualified_names};
+ghost use Rattle.jcl_cards.specs.Reading.{ReadsOperand};
+
+use crate::blocks_in::{Blocks, blocks_in};
 use crate::coded::Coded;
+use crate::dd_value::{OfDdName, OfLabel, OfSysout, SetValues, coding, set_values};
+use crate::given::{given_in, is_excluded, is_read_word, is_word};
+use crate::rules::{KeywordRule, Spelling, each_fault, long_operand, spelled_by, twice_fault};
+use crate::value_in::coded_in;
 use card_core::statement::DataCard;
+use jcl_plan::fault::{Cause, StatementFault};
 use jcl_plan::plan::Space;
 use jname_core::name8::{Name8, UnitName};
+use operand_core::fault::{earlier, name_fault, when, written_name_fault};
+use operand_core::keyword::{is_long, unknown_fault};
+use operand_core::operand::{Keyword, Operand, Positional, first_of, operand_of};
+use operand_core::qualified::{head_len, head_of, is_qualified};
 use plain::listed::Listed;
+use std::alloc::Global;
+use value_core::reads::{both, name as read_name, with_fault};
 use value_core::reference::DdReference;
+use value_core::refusal::ReadError;
 use value_core::set::{Disposition, SetName, VolumeName};
 
 /// The positional operand of a DD.
@@ -47,4 +70,283 @@ pub struct DdCard {
     pub forms_control: Coded<()>,
     /// OUTLIM, which is not looked at.
     pub output_limit: Coded<()>,
+}
+
+/// What stands behind the first period.
+fn behind_period(name: &[u8]) -> &[u8]
+    ensures { result.now ≡ behind_period name.now }
+{
+    let (_, behind) = name.split_at(head_len(name));
+    match behind.split_first() {
+        Some((_, tail)) => tail,
+        None => behind,
+    }
+}
+
+/// The names of a qualified DD.
+fn qualified_names(name: &[u8]) -> Result<(Name8, Name8), Cause>
+    ensures { IsRead result (qualified_names name.now) }
+{
+    both(read_name(head_of(name)), read_name(behind_period(name)))
+}
+
+/// The name of the step that is overridden, and that of the DD.
+fn dd_names(name: &[u8]) -> Result<(Option<Name8>, Option<Name8>), Cause>
+    ensures { IsRead result (dd_names name.now) }
+{
+    if is_qualified(name) {
+        let (step, dd) = qualified_names(name)?;
+        return Ok((Some(step), Some(dd)));
+    }
+    if name.is_empty() {
+        return Ok((None, None));
+    }
+    let dd = read_name(name)?;
+    Ok((None, Some(dd)))
+}
+
+/// The fault of a DD's name.
+#[tactic(auto, using(operand_core::proofs::Told::told_append))]
+fn dd_name_fault(name: &[u8]) -> Option<Cause>
+    ensures { result ≡ told (dd_name_faults name.now) }
+{
+    if is_qualified(name) {
+        earlier(name_fault(head_of(name)), name_fault(behind_period(name)))
+    } else {
+        written_name_fault(name)
+    }
+}
+
+fn is_known(key: &[u8]) -> bool
+    ensures { result ≡ known_on_dd key.now }
+{
+    let key = spelled_by(Spelling::Two, key);
+    key == b"DSNAME".as_slice()
+        || key == b"DISP".as_slice()
+        || key == b"UNIT".as_slice()
+        || key == b"VOLUME".as_slice()
+        || key == b"SPACE".as_slice()
+        || key == b"SYSOUT".as_slice()
+        || key == b"DDNAME".as_slice()
+        || key == b"LABEL".as_slice()
+        || key == b"DCB".as_slice()
+        || key == b"UCS".as_slice()
+        || key == b"FCB".as_slice()
+        || key == b"OUTLIM".as_slice()
+}
+
+fn is_left_out(key: &[u8]) -> bool
+    ensures { result ≡ left_out_on_dd key.now }
+{
+    key == b"AFF".as_slice()
+        || key == b"SEP".as_slice()
+        || key == b"SPLIT".as_slice()
+        || key == b"SUBALLOC".as_slice()
+        || key == b"QNAME".as_slice()
+        || key == b"DYNAM".as_slice()
+        || key == b"TERM".as_slice()
+}
+
+/// A DD takes the keywords that it knows.
+struct KnownOnDd;
+
+impl KeywordRule for KnownOnDd {
+    ghost use Rattle.jcl_cards.specs.DdCards.{unknown_on_dd};
+
+    ghost faults = { λ rule k. unknown_on_dd k };
+
+    fn fault(&self, keyword: &Keyword<'_>) -> Option<Cause> {
+        let key = keyword.key();
+        if is_known(key) {
+            None
+        } else {
+            Some(unknown_fault(is_left_out(key)))
+        }
+    }
+}
+
+fn positional_fault(part: Option<&[u8]>) -> Option<Cause>
+    ensures { result ≡ told (positional_faults (option_copied part.entry)) }
+{
+    match part {
+        None => None,
+        Some(text) => {
+            if is_word(text) {
+                None
+            } else if text == b"DYNAM".as_slice() {
+                Some(Cause::P(StatementFault::LeftOut))
+            } else {
+                Some(Cause::P(StatementFault::BadValue))
+            }
+        }
+    }
+}
+
+/// The positional operand, with the cards behind the statement.
+fn word_of(alloc: Global, part: Option<&[u8]>, cards: Option<Listed<DataCard>>) -> Option<Word>
+    ensures { result ≡ word_of (option_copied part.entry) cards }
+{
+    let text = part?;
+    if text == b"DUMMY".as_slice() {
+        return Some(Word::Dummy);
+    }
+    if !is_word(text) {
+        return None;
+    }
+    match cards {
+        Some(cards) => Some(Word::Cards(cards)),
+        None => Some(Word::Cards(Listed::empty(alloc))),
+    }
+}
+
+fn has_two_words(positional: &[Positional<'_>]) -> bool
+    ensures { result ≡ nat_lt 1 (count_by is_read_word positional.now) }
+{
+    let words = positional
+        .iter()
+        .filter(|part| is_read_word(part.text()))
+        .count();
+    words > 1
+}
+
+/// What a DD codes of keywords whose values are looked at.
+#[derive(Debug, Drop)]
+pub(crate) struct DdValues {
+    set: SetValues,
+    sysout: Coded<u8>,
+    dd_name: Coded<Name8>,
+    label: Coded<()>,
+    control_blocks: Coded<Listed<DdReference>>,
+}
+
+/// The names of a DD, and what it codes of keywords whose values are looked at.
+type DdWords = ((Option<Name8>, Option<Name8>), DdValues);
+
+fn dd_values(keywords: &[Keyword<'_>], blocks: Blocks) -> Result<DdValues, Cause>
+    ensures { IsRead blocks (blocks_in keywords.now) → IsRead result (dd_values keywords.now) }
+{
+    let with_sysout = both(
+        set_values(keywords),
+        coded_in::<OfSysout>(keywords, b"SYSOUT"),
+    );
+    let with_dd_name = both(with_sysout, coded_in::<OfDdName>(keywords, b"DDNAME"));
+    let with_label = both(with_dd_name, coded_in::<OfLabel>(keywords, b"LABEL"));
+    let all = both(with_label, blocks);
+    let ((((set, sysout), dd_name), label), control_blocks) = all?;
+    Ok(DdValues {
+        set,
+        sysout,
+        dd_name,
+        label,
+        control_blocks,
+    })
+}
+
+/// The fault of words and keywords that exclude one another.
+fn excluded_fault(positional: &[Positional<'_>], keywords: &[Keyword<'_>]) -> Option<Cause>
+    ensures { result ≡ told (excluded_faults positional.now keywords.now) }
+{
+    let given = given_in(first_of(positional), keywords);
+    when(
+        has_two_words(positional) || is_excluded(given),
+        Cause::P(StatementFault::ExcludeOneAnother),
+    )
+}
+
+/// The names of a DD and the values of its keywords, or of all of its faults the one that is told.
+fn dd_words(name: &[u8], operand: &Operand<'_>, blocks: Blocks) -> Result<DdWords, Cause>
+    ensures { IsRead blocks (blocks_in operand.now.keywords.items) → ReadsOperand (dd_words name.now) operand.now result }
+{
+    let positional = operand.positional.as_slice();
+    let keywords = operand.keywords.as_slice();
+    let first = first_of(positional);
+    let named = with_fault(dd_names(name), operand.fault);
+    let placed = with_fault(named, positional_fault(first));
+    let values = dd_values(keywords, blocks);
+    let known = with_fault(values, each_fault(&KnownOnDd, keywords));
+    let words = both(placed, known);
+    let spelled = with_fault(words, twice_fault(Spelling::Two, keywords));
+    with_fault(spelled, excluded_fault(positional, keywords))
+}
+
+fn dd_of(
+    alloc: Global,
+    name: &[u8],
+    operand: &Operand<'_>,
+    cards: Option<Listed<DataCard>>,
+    blocks: Blocks,
+) -> Result<DdCard, Cause>
+    ensures { IsRead blocks (blocks_in operand.now.keywords.items) → ReadsOperand (λ denoted. dd_with name.now denoted cards) operand.now result }
+{
+    let keywords = operand.keywords.as_slice();
+    let ((qualifier, dd), values) = dd_words(name, operand, blocks)?;
+    let DdValues {
+        set,
+        sysout,
+        dd_name,
+        label,
+        control_blocks,
+    } = values;
+    let SetValues {
+        set_name,
+        disposition,
+        unit,
+        volume,
+        space,
+    } = set;
+    Ok(DdCard {
+        qualifier,
+        name: dd,
+        word: word_of(alloc, first_of(operand.positional.as_slice()), cards),
+        set_name,
+        disposition,
+        unit,
+        volume,
+        space,
+        sysout,
+        dd_name,
+        label,
+        control_blocks,
+        character_set: coding(keywords, b"UCS"),
+        forms_control: coding(keywords, b"FCB"),
+        output_limit: coding(keywords, b"OUTLIM"),
+    })
+}
+
+fn own_dd_card(
+    alloc: Global,
+    name: &[u8],
+    operand: &[u8],
+    cards: Option<Listed<DataCard>>,
+) -> Result<DdCard, ReadError>
+    ensures { Gives result (answer (dd_with name.now (operand_of 1 operand.now) cards)) }
+{
+    let operand = operand_of(alloc, 1, operand)?;
+    let blocks = blocks_in(alloc, operand.keywords.as_slice())?;
+    Ok(dd_of(alloc, name, &operand, cards, blocks)?)
+}
+
+/// The card that a DD statement is, with the data cards behind it.
+pub fn dd_card(
+    alloc: Global,
+    name: &[u8],
+    operand: &[u8],
+    cards: Option<Listed<DataCard>>,
+) -> Result<DdCard, ReadError>
+    ensures { Gives result (answer (dd_card name.now operand.now cards)) }
+{
+    if is_long(operand) {
+        return Err(ReadError::Refused(long_operand(dd_name_fault(name))));
+    }
+    own_dd_card(alloc, name, operand, cards)
+}
+
+/// Whether it has data cards behind it.
+pub fn has_data(dd: &DdCard) -> bool
+    ensures { result ≡ has_data dd.now }
+{
+    match &dd.word {
+        Some(Word::Cards(_)) => true,
+        Some(Word::Dummy) | None => false,
+    }
 }

@@ -1,0 +1,14 @@
+use Rattle.std.proofs.Common.{sym, ◌∙◌}
+use Rattle.operand_core.specs.Faults.{written_name_faults}
+use Rattle.operand_core.specs.Keywords.{is_long}
+use Rattle.operand_core.specs.Operands.{operand_of}
+use Rattle.jcl_cards.specs.ProcedureCards.{procedure_with}
+use Rattle.jcl_cards.proofs.Answered.{long_refused}
+use Rattle.jcl_cards.proofs.procedure.procedure_card.Goals as goal
+
+pub returns-then-is_long : goal.returns-then-is_long
+returns-then-is_long c =
+    let name = c.args.name.now in
+    let operand = c.args.operand.now in
+    long_refused (is_long operand) (written_name_faults name) (procedure_with c.args.in_stream name (operand_of 0 operand))
+    (sym c.is_long.ensures ∙ c.if-is_long.true) c.written_name_fault.ensures c.long_operand.ensures

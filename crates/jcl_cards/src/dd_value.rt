@@ -1,0 +1,213 @@
+//! The values of a DD's keywords.
+ghost use Rattle.std.specs.Prelude.{◌≡◌};
+ghost use Rattle.std.specs.Option.{option_copied};
+ghost use Rattle.operand_core.specs.Subparameters.{first_place, subparameters_of};
+ghost use Rattle.operand_core.specs.Values.{class_of};
+ghost use Rattle.value_core.specs.Reads.{IsRead};
+ghost use Rattle.jcl_cards.specs.DdCards.{any_text, is_key, is_sysout};
+ghost use Rattle.jcl_cards.specs.Dds.{coding, set_values};
+ghost use Rattle.jcl_cards.specs.Keywords.{coded_in, coded_text, is_given};
+
+use crate::coded::Coded;
+use crate::rules::{Spelling, spelled_by};
+use crate::value_in::{ValueReader, coded_in};
+use jcl_plan::fault::{Cause, StatementFault};
+use jcl_plan::plan::Space;
+use jname_core::name8::{Name8, UnitName};
+use operand_core::operand::Keyword;
+use operand_core::subparameter::{first_subparameter, subparameter_count};
+use operand_core::value::{class_of, is_output_class};
+use value_core::disposition::disposition;
+use value_core::label_fault::label_fault;
+use value_core::reads::{both, name as read_name};
+use value_core::set::{Disposition, SetName, VolumeName};
+use value_core::set_name::set_name;
+use value_core::space::space;
+use value_core::unit::unit;
+use value_core::volume_name::volume_name;
+
+/// DSNAME.
+struct OfSetName;
+
+impl ValueReader for OfSetName {
+    ghost use Rattle.value_core.specs.SetNames.{set_name};
+
+    type Value = SetName;
+
+    ghost reads = { set_name };
+
+    fn read(text: &[u8]) -> Result<SetName, Cause> {
+        set_name(text)
+    }
+}
+
+/// DISP.
+struct OfDisposition;
+
+impl ValueReader for OfDisposition {
+    ghost use Rattle.value_core.specs.Dispositions.{disposition};
+
+    type Value = Disposition;
+
+    ghost reads = { disposition };
+
+    fn read(text: &[u8]) -> Result<Disposition, Cause> {
+        disposition(text)
+    }
+}
+
+/// UNIT.
+struct OfUnit;
+
+impl ValueReader for OfUnit {
+    ghost use Rattle.value_core.specs.Units.{unit};
+
+    type Value = UnitName;
+
+    ghost reads = { unit };
+
+    fn read(text: &[u8]) -> Result<UnitName, Cause> {
+        unit(text)
+    }
+}
+
+/// VOLUME.
+struct OfVolume;
+
+impl ValueReader for OfVolume {
+    ghost use Rattle.value_core.specs.VolumeNames.{volume_name};
+
+    type Value = VolumeName;
+
+    ghost reads = { volume_name };
+
+    fn read(text: &[u8]) -> Result<VolumeName, Cause> {
+        volume_name(text)
+    }
+}
+
+/// SPACE.
+struct OfSpace;
+
+impl ValueReader for OfSpace {
+    ghost use Rattle.value_core.specs.Spaces.{space};
+
+    type Value = Space;
+
+    ghost reads = { space };
+
+    fn read(text: &[u8]) -> Result<Space, Cause> {
+        space(text)
+    }
+}
+
+/// SYSOUT.
+pub(crate) struct OfSysout;
+
+impl ValueReader for OfSysout {
+    ghost use Rattle.jcl_cards.specs.DdCards.{sysout};
+
+    type Value = u8;
+
+    ghost reads = { sysout };
+
+    fn read(text: &[u8]) -> Result<u8, Cause> {
+        if is_sysout(text) {
+            Ok(class_of(Some(first_subparameter(text))))
+        } else {
+            Err(Cause::P(StatementFault::BadValue))
+        }
+    }
+}
+
+/// DDNAME.
+pub(crate) struct OfDdName;
+
+impl ValueReader for OfDdName {
+    ghost use Rattle.jcl_cards.specs.DdCards.{dd_name};
+
+    type Value = Name8;
+
+    ghost reads = { dd_name };
+
+    fn read(text: &[u8]) -> Result<Name8, Cause> {
+        read_name(text)
+    }
+}
+
+/// LABEL, whose form alone is read.
+pub(crate) struct OfLabel;
+
+impl ValueReader for OfLabel {
+    ghost use Rattle.jcl_cards.specs.DdCards.{label};
+
+    type Value = ();
+
+    ghost reads = { label };
+
+    fn read(text: &[u8]) -> Result<(), Cause> {
+        match label_fault(text) {
+            None => Ok(()),
+            Some(fault) => Err(fault),
+        }
+    }
+}
+
+/// Whether a value begins with a class, and has at most three places.
+fn is_sysout(text: &[u8]) -> bool
+    ensures { result ≡ is_sysout text.now }
+{
+    is_output_class(first_subparameter(text)) && subparameter_count(text) <= 3
+}
+
+/// Whether a value is coded.
+fn coding_of(value: Option<&[u8]>) -> Coded<()>
+    ensures { result ≡ (coded_text any_text (option_copied value.entry)).value }
+{
+    match value {
+        None => Coded::NotGiven,
+        Some([]) => Coded::Nullified,
+        Some(_) => Coded::Value(()),
+    }
+}
+
+/// Whether a DD codes a keyword, whose value is not looked at.
+pub(crate) fn coding(keywords: &[Keyword<'_>], key: &[u8]) -> Coded<()>
+    ensures { result ≡ coding key.now keywords.now }
+{
+    for keyword in keywords {
+        if spelled_by(Spelling::Two, keyword.key()) == key {
+            return coding_of(keyword.value());
+        }
+    }
+    Coded::NotGiven
+}
+
+/// What a DD codes of a data set.
+#[derive(Debug, Drop)]
+pub(crate) struct SetValues {
+    pub(crate) set_name: Coded<SetName>,
+    pub(crate) disposition: Coded<Disposition>,
+    pub(crate) unit: Coded<UnitName>,
+    pub(crate) volume: Coded<VolumeName>,
+    pub(crate) space: Coded<Space>,
+}
+
+/// The keywords of a data set.
+pub(crate) fn set_values(keywords: &[Keyword<'_>]) -> Result<SetValues, Cause>
+    ensures { IsRead result (set_values keywords.now) }
+{
+    let named = coded_in::<OfSetName>(keywords, b"DSNAME");
+    let disposed = both(named, coded_in::<OfDisposition>(keywords, b"DISP"));
+    let on_unit = both(disposed, coded_in::<OfUnit>(keywords, b"UNIT"));
+    let on_volume = both(on_unit, coded_in::<OfVolume>(keywords, b"VOLUME"));
+    let all = both(on_volume, coded_in::<OfSpace>(keywords, b"SPACE"));
+    let ((((set_name, disposition), unit), volume), space) = all?;
+    Ok(SetValues {
+        set_name,
+        disposition,
+        unit,
+        volume,
+        space,
+    })
+}

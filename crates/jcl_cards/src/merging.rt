@@ -1,0 +1,159 @@
+//! A DD with its override. (GC28-6704, "Overriding, adding, and nullifying parameters on DD statements")
+ghost use Rattle.std.specs.Prelude.{◌≡◌};
+ghost use Rattle.value_core.specs.Reads.{IsRead};
+ghost use Rattle.jcl_cards.specs.DdCards.{excludes, has_set_keyword, has_word};
+ghost use Rattle.jcl_cards.specs.Dds.{given_on};
+ghost use Rattle.jcl_cards.specs.Merging.{by_itself, keyword_by_keyword, merged, overridden, replaces, settled, without_dummy, without_sysout};
+
+use crate::coded::Coded;
+use crate::dd::{DdCard, Word, has_data};
+use crate::given::{Given, is_excluded, is_given};
+use jcl_plan::fault::{Cause, StatementFault};
+
+/// What one keyword codes, as an override leaves it.
+fn overridden<T: Drop>(there: Coded<T>, over: Coded<T>) -> Coded<T>
+    ensures { result ≡ overridden there over }
+{
+    match over {
+        Coded::NotGiven => there,
+        Coded::Nullified => Coded::NotGiven,
+        Coded::Value(value) => Coded::Value(value),
+    }
+}
+
+/// What one keyword codes on a DD of its own.
+fn settled<T: Drop>(there: Coded<T>) -> Coded<T>
+    ensures { result ≡ settled there }
+{
+    overridden(Coded::NotGiven, there)
+}
+
+/// The word, as a data set's name that is given leaves it.
+fn without_dummy(named: bool, word: Option<Word>) -> Option<Word>
+    ensures { result ≡ without_dummy named word }
+{
+    match word {
+        Some(Word::Dummy) if named => None,
+        word => word,
+    }
+}
+
+/// SYSOUT, as a data set's name that is given leaves it.
+fn without_sysout(named: bool, class: Coded<u8>) -> Coded<u8>
+    ensures { result ≡ without_sysout named class }
+{
+    if named { Coded::NotGiven } else { class }
+}
+
+/// A DD of its own: what is nullified is not given, and it has no step's name.
+pub fn by_itself(dd: DdCard) -> DdCard
+    ensures { result ≡ by_itself dd }
+{
+    DdCard {
+        qualifier: None,
+        name: dd.name,
+        word: dd.word,
+        set_name: settled(dd.set_name),
+        disposition: settled(dd.disposition),
+        unit: settled(dd.unit),
+        volume: settled(dd.volume),
+        space: settled(dd.space),
+        sysout: settled(dd.sysout),
+        dd_name: settled(dd.dd_name),
+        label: settled(dd.label),
+        control_blocks: settled(dd.control_blocks),
+        character_set: settled(dd.character_set),
+        forms_control: settled(dd.forms_control),
+        output_limit: settled(dd.output_limit),
+    }
+}
+
+fn has_word(dd: &DdCard) -> bool
+    ensures { result ≡ has_word dd.now }
+{
+    dd.word.is_some()
+}
+
+/// Whether SYSOUT, a word or DDNAME is given, so that the whole DD is replaced.
+fn replaces(over: &DdCard) -> bool
+    ensures { result ≡ replaces over.now }
+{
+    has_word(over) || is_given(&over.sysout) || is_given(&over.dd_name)
+}
+
+/// The DD as its override leaves it, keyword by keyword.
+fn keyword_by_keyword(dd: DdCard, over: DdCard) -> DdCard
+    ensures { result ≡ keyword_by_keyword dd over }
+{
+    let named = is_given(&over.set_name);
+    DdCard {
+        qualifier: None,
+        name: dd.name,
+        word: without_dummy(named, dd.word),
+        set_name: overridden(dd.set_name, over.set_name),
+        disposition: overridden(dd.disposition, over.disposition),
+        unit: overridden(dd.unit, over.unit),
+        volume: overridden(dd.volume, over.volume),
+        space: overridden(dd.space, over.space),
+        sysout: without_sysout(named, overridden(dd.sysout, over.sysout)),
+        dd_name: overridden(dd.dd_name, over.dd_name),
+        label: overridden(dd.label, over.label),
+        control_blocks: overridden(dd.control_blocks, over.control_blocks),
+        character_set: overridden(dd.character_set, over.character_set),
+        forms_control: overridden(dd.forms_control, over.forms_control),
+        output_limit: overridden(dd.output_limit, over.output_limit),
+    }
+}
+
+/// Whether a keyword other than SYSOUT, DDNAME and DCB is given.
+fn has_set_keyword(dd: &DdCard) -> bool
+    ensures { result ≡ has_set_keyword dd.now }
+{
+    is_given(&dd.set_name)
+        || is_given(&dd.disposition)
+        || is_given(&dd.unit)
+        || is_given(&dd.volume)
+        || is_given(&dd.space)
+        || is_given(&dd.label)
+        || is_given(&dd.character_set)
+        || is_given(&dd.forms_control)
+        || is_given(&dd.output_limit)
+}
+
+fn given_on(dd: &DdCard) -> Given
+    ensures { result ≡ given_on dd.now }
+{
+    Given {
+        word: has_word(dd),
+        cards: has_data(dd),
+        set: is_given(&dd.set_name) || is_given(&dd.disposition),
+        any: has_set_keyword(dd),
+        sysout: is_given(&dd.sysout),
+        dd_name: is_given(&dd.dd_name),
+    }
+}
+
+/// Whether keywords and words of a DD exclude one another.
+fn excludes(dd: &DdCard) -> bool
+    ensures { result ≡ excludes dd.now }
+{
+    is_excluded(given_on(dd))
+}
+
+/// The DD with its override. It keeps its name.
+pub fn merged(dd: DdCard, overriding: DdCard) -> Result<DdCard, Cause>
+    ensures { IsRead result (merged dd overriding) }
+{
+    let name = dd.name;
+    if replaces(&overriding) {
+        return Ok(DdCard {
+            name,
+            ..by_itself(overriding)
+        });
+    }
+    let both = keyword_by_keyword(dd, overriding);
+    if excludes(&both) {
+        return Err(Cause::P(StatementFault::ExcludeOneAnother));
+    }
+    Ok(both)
+}
