@@ -29,6 +29,7 @@ pub record ReadsNames : Type 0 where
   pub next : set_name (codes "PAY.G(+1)") ≡ good (name.Of (Relative (codes "PAY.G") Plus 1))
   pub before : set_name (codes "PAY.G(-010)") ≡ good (name.Of (Relative (codes "PAY.G") Minus 10))
   pub newest : set_name (codes "PAY.G(0)") ≡ good (name.Of (Relative (codes "PAY.G") Plus 0))
+  pub newest_before : set_name (codes "PAY.G(-0)") ≡ good (name.Of (Relative (codes "PAY.G") Plus 0))
   pub begins_with_a_hyphen : told (set_name (codes "-PAY.DATA")).faults ≡ Some (N 3)
   pub too_far : told (set_name (codes "PAY.G(+256)")).faults ≡ Some (N 4)
   pub without_a_sign : told (set_name (codes "PAY.G(1)")).faults ≡ Some (P BadValue)

@@ -89,8 +89,15 @@ amount_faults text =
     else (if not (is_signed text) && nat_lt 0 (decimal_value (digits_of text)) then P BadValue ∷ []
     else []))
 
+-- 0 is the newest, whatever sign stands before it
+abbrev pub sign_with : List ℕ → ℕ → Sign
+sign_with text number = if number == 0 then Plus else sign_of text
+
 abbrev pub amount : List ℕ → Read (Sign × ℕ)
-amount text = record { value = (sign_of text, decimal_value (digits_of text)); faults = amount_faults text }
+amount text = record {
+  value = (sign_with text (decimal_value (digits_of text)), decimal_value (digits_of text));
+  faults = amount_faults text;
+}
 
 -- the base of a group has at most 35 characters
 abbrev pub base : List ℕ → Read (List ℕ)

@@ -3,7 +3,7 @@ ghost use Rattle.std.specs.Prelude.{◌≡◌, ◌≤◌, length};
 ghost use Rattle.std.specs.Option.{option_copied};
 ghost use Rattle.operand_core.specs.Faults.{told};
 ghost use Rattle.value_core.specs.Reads.{IsRead};
-ghost use Rattle.value_core.specs.SetNames.{amount, base, before_parenthesis, begins_amount, behind_ampersands, digits_of, ds_name, is_signed, key_of, member_faults, named_part, of_dd, of_key, plain, relative, set_name, sign_of, temporary, within_parentheses};
+ghost use Rattle.value_core.specs.SetNames.{amount, base, before_parenthesis, begins_amount, behind_ampersands, digits_of, ds_name, is_signed, key_of, member_faults, named_part, of_dd, of_key, plain, relative, set_name, sign_of, sign_with, temporary, within_parentheses};
 
 use crate::decimal::capped;
 use crate::reads::{both, name, with_fault};
@@ -93,6 +93,17 @@ fn sign_of(text: &[u8]) -> Sign
     }
 }
 
+/// The sign of a number: 0 is the newest, whatever sign stands before it.
+fn sign_with(text: &[u8], number: u32) -> Sign
+    ensures { result ≡ sign_with text.now number }
+{
+    if number == 0 {
+        Sign::Plus
+    } else {
+        sign_of(text)
+    }
+}
+
 fn is_signed(text: &[u8]) -> bool
     ensures { result ≡ is_signed text.now }
 {
@@ -126,7 +137,7 @@ fn amount(text: &[u8]) -> Result<(Sign, u8), Cause>
     if needs_sign && !is_signed(text) {
         return Err(Cause::P(StatementFault::BadValue));
     }
-    Ok((sign_of(text), number as u8))
+    Ok((sign_with(text, number), number as u8))
 }
 
 fn base(text: &[u8]) -> Result<DsName, Cause>

@@ -11,6 +11,7 @@ returns c = record {
   next = refl;
   before = refl;
   newest = refl;
+  newest_before = refl;
   begins_with_a_hyphen = refl;
   too_far = refl;
   without_a_sign = refl;
