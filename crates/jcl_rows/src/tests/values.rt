@@ -279,7 +279,7 @@ fn reads_relative_names(rt: HostRuntime) -> Result<(), Fail> {
         ("PAY.G(+1)", Sign::Plus, 1),
         ("PAY.G(+255)", Sign::Plus, 255),
         ("PAY.G(-0255)", Sign::Minus, 255),
-        ("PAY.G(-0)", Sign::Minus, 0),
+        ("PAY.G(-0)", Sign::Plus, 0),
         ("PAY.G(0)", Sign::Plus, 0),
         ("PAY.G(00)", Sign::Plus, 0),
     ] {
