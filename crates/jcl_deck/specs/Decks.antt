@@ -19,16 +19,10 @@ use Rattle.jcl_cards.specs.ProcedureCards.{procedure_card}
 use Rattle.jcl_deck.specs.declared.deck.Deck.{Deck}
 use Rattle.jcl_deck.specs.declared.deck.DeckStep.{DeckStep}
 use Rattle.jcl_deck.specs.declared.deck.Procedure.{Procedure}
+use Rattle.jcl_deck.specs.declared.operation.Operation.{Operation}
+use Rattle.jcl_deck.specs.declared.operation.Operation.TheVariants.{IsJob, IsExec, IsDd, IsProc, IsPend, IsOther}
 
 -- what a statement is by its operation
-pub data Operation : Type 0 where
-  IsJob : Operation
-  IsExec : Operation
-  IsDd : Operation
-  IsProc : Operation
-  IsPend : Operation
-  IsOther : Operation
-
 abbrev pub operation_of : List ℕ → Operation
 operation_of text =
     if bytes_eq text (codes "JOB") then IsJob

@@ -17,7 +17,9 @@ use Rattle.jcl_cards.specs.declared.exec.Runs.TheVariants.{Program, Procedure}
 use Rattle.jcl_cards.specs.DdCards.{dd_card, dd_name_faults, has_data}
 use Rattle.jcl_cards.specs.ExecCards.{exec_card}
 use Rattle.jcl_cards.specs.Merging.{by_itself}
-use Rattle.jcl_deck.specs.Decks.{Operation, IsJob, IsExec, IsDd, IsProc, IsPend, IsOther, dd_place_faults, operation_of}
+use Rattle.jcl_deck.specs.declared.operation.Operation.{Operation}
+use Rattle.jcl_deck.specs.declared.operation.Operation.TheVariants.{IsJob, IsExec, IsDd, IsProc, IsPend, IsOther}
+use Rattle.jcl_deck.specs.Decks.{dd_place_faults, operation_of}
 use Rattle.jcl_procs.specs.declared.step.FlatStep.{FlatStep}
 
 -- what is the same for all steps of a call: the name on the EXEC statement that calls, its place, and the symbols that have values

@@ -21,7 +21,9 @@ use Rattle.jcl_cards.specs.ProcedureCards.{procedure_card}
 use Rattle.jcl_deck.specs.declared.deck.Deck.{Deck}
 use Rattle.jcl_deck.specs.declared.deck.DeckStep.{DeckStep}
 use Rattle.jcl_deck.specs.declared.deck.Procedure as in_stream
-use Rattle.jcl_deck.specs.Decks.{Operation, IsProc, operation_of}
+use Rattle.jcl_deck.specs.declared.operation.Operation.{Operation}
+use Rattle.jcl_deck.specs.declared.operation.Operation.TheVariants.{IsProc}
+use Rattle.jcl_deck.specs.Decks.{operation_of}
 use Rattle.jcl_procs.specs.declared.step.FlatStep.{FlatStep}
 use Rattle.jcl_procs.specs.declared.step.LibraryProcedure.{LibraryProcedure}
 use Rattle.jcl_procs.specs.Calls.{steps_of}

@@ -1,0 +1,4 @@
+pub mod Decks
+pub mod Lasts
+pub mod Named
+pub mod Taken
