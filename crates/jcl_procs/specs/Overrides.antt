@@ -12,6 +12,7 @@ use Rattle.jcl_cards.specs.declared.dd.DdCard.{DdCard}
 use Rattle.jcl_cards.specs.declared.exec.ExecCard.{ExecCard}
 use Rattle.jcl_cards.specs.declared.exec.StepCondition.{StepCondition}
 use Rattle.jcl_cards.specs.Merging.{by_itself, merged}
+use Rattle.jcl_procs.specs.declared.overriding.Place.{Place}
 use Rattle.jcl_procs.specs.declared.step.FlatStep.{FlatStep}
 
 -- the steps of a procedure by their names
@@ -49,21 +50,15 @@ conditions_overridden steps exec =
     if names_steps steps exec.named_steps then Ok (with_step_conditions (with_condition exec.condition steps) exec.step_conditions)
     else Err (P NoSuchProcedureStep)
 
--- Where the overrides are: the steps, the one of the override before, counted from 0, and in it the next member of the concatenation.
-pub record Place : Type 0 where
-  pub steps : List FlatStep
-  pub at : ℕ
-  pub member : ℕ
-
 -- the first step of a name at or behind the one reached; one that stands before it alone is out of order
+abbrev pub step_by_position : ℕ → Option ℕ → Bool → Result ℕ Cause
+step_by_position at (Some n) there = Ok (at + n)
+step_by_position at None true = Err (P OverrideOutOfOrder)
+step_by_position at None false = Err (P NoSuchProcedureStep)
+
 abbrev pub step_at : List FlatStep → ℕ → Option (List ℕ) → Result ℕ Cause
 step_at steps at None = Ok at
-step_at steps at (Some name) = by_position (position (is_step name) (drop at steps)) (list_any (is_step name) steps)
-  where
-    by_position : Option ℕ → Bool → Result ℕ Cause
-    by_position (Some n) there = Ok (at + n)
-    by_position None true = Err (P OverrideOutOfOrder)
-    by_position None false = Err (P NoSuchProcedureStep)
+step_at steps at (Some name) = step_by_position at (position (is_step name) (drop at steps)) (list_any (is_step name) steps)
 
 -- the DDs of a step
 abbrev pub dds_at : List FlatStep → ℕ → List DdCard
@@ -100,31 +95,32 @@ abbrev pub adds : Place → ℕ → DdCard → Place
 adds place at dd =
     record { steps = with_dds place.steps at (dds_at place.steps at ++ by_itself dd ∷ []); at = at; member = length (dds_at place.steps at) + 1 }
 
-abbrev pub overrides_named : Place → ℕ → DdCard → Result Place Cause
-overrides_named place at dd = by_position (position (is_of_name dd.name) (dds_at place.steps at))
-  where
-    by_dd : ℕ → Option DdCard → Result Place Cause
-    by_dd n None = Ok (adds place at dd)
-    by_dd n (Some there) = puts_merged place at n there dd
+abbrev pub overrides_there : Place → ℕ → DdCard → ℕ → Option DdCard → Result Place Cause
+overrides_there place at dd n None = Ok (adds place at dd)
+overrides_there place at dd n (Some there) = puts_merged place at n there dd
 
-    by_position : Option ℕ → Result Place Cause
-    by_position None = Ok (adds place at dd)
-    by_position (Some n) = by_dd n (slice_get (dds_at place.steps at) n)
+abbrev pub overrides_by_position : Place → ℕ → DdCard → Option ℕ → Result Place Cause
+overrides_by_position place at dd None = Ok (adds place at dd)
+overrides_by_position place at dd (Some n) = overrides_there place at dd n (slice_get (dds_at place.steps at) n)
+
+abbrev pub overrides_named : Place → ℕ → DdCard → Result Place Cause
+overrides_named place at dd = overrides_by_position place at dd (position (is_of_name dd.name) (dds_at place.steps at))
 
 -- one without a name changes the next member of the concatenation, or is added to it
-abbrev pub overrides_member : Place → DdCard → Result Place Cause
-overrides_member place dd = by_dd (slice_get (dds_at place.steps place.at) place.member)
-  where
-    inserts : Result Place Cause
-    inserts = Ok (record {
-      steps = with_dds place.steps place.at (with_dd_between (dds_at place.steps place.at) place.member (by_itself dd));
-      at = place.at;
-      member = place.member + 1;
-    })
+abbrev pub inserts : Place → DdCard → Place
+inserts place dd = record {
+  steps = with_dds place.steps place.at (with_dd_between (dds_at place.steps place.at) place.member (by_itself dd));
+  at = place.at;
+  member = place.member + 1;
+}
 
-    by_dd : Option DdCard → Result Place Cause
-    by_dd None = inserts
-    by_dd (Some there) = if is_none there.name then puts_merged place place.at place.member there dd else inserts
+abbrev pub overrides_next : Place → DdCard → Option DdCard → Result Place Cause
+overrides_next place dd None = Ok (inserts place dd)
+overrides_next place dd (Some there) =
+    if is_none there.name then puts_merged place place.at place.member there dd else Ok (inserts place dd)
+
+abbrev pub overrides_member : Place → DdCard → Result Place Cause
+overrides_member place dd = overrides_next place dd (slice_get (dds_at place.steps place.at) place.member)
 
 abbrev pub place_behind : {A : Type 0} → Result A Cause → (A → Result Place Cause) → Result Place Cause
 place_behind (Err fault) next = Err fault
@@ -136,13 +132,13 @@ overrides_one place dd =
     else place_behind (step_at place.steps place.at dd.qualifier) (λ at. overrides_named place at dd)
 
 -- one after another: a DD that one added is found by the next
+abbrev pub steps_behind : Result Place Cause → (Place → Result (List FlatStep) Cause) → Result (List FlatStep) Cause
+steps_behind (Err fault) next = Err fault
+steps_behind (Ok place) next = next place
+
 abbrev pub overrides_from : Place → List DdCard → Result (List FlatStep) Cause
 overrides_from place [] = Ok place.steps
-overrides_from place (dd ∷ dds) = by (overrides_one place dd) (λ next. overrides_from next dds)
-  where
-    by : Result Place Cause → (Place → Result (List FlatStep) Cause) → Result (List FlatStep) Cause
-    by (Err fault) next = Err fault
-    by (Ok place) next = next place
+overrides_from place (dd ∷ dds) = steps_behind (overrides_one place dd) (λ next. overrides_from next dds)
 
 abbrev pub dds_overridden : List FlatStep → List DdCard → Result (List FlatStep) Cause
 dds_overridden steps dds = overrides_from (record { steps = steps; at = 0; member = 0 }) dds
