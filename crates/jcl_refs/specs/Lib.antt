@@ -1,4 +1,5 @@
 pub mod LaterDds
 pub mod Targets
+pub mod Meant
 pub mod Plans
 pub mod Examples

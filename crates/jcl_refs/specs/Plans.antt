@@ -44,8 +44,9 @@ use Rattle.jcl_cards.specs.Keywords.{is_given}
 use Rattle.jcl_procs.specs.declared.step.FlatStep.{FlatStep}
 use Rattle.jcl_procs.specs.Expansions.{and_then}
 use Rattle.jcl_meaning.specs.Names.{is_temporary, names_of}
+use Rattle.jcl_refs.specs.declared.targets.Target.{Target}
 use Rattle.jcl_refs.specs.LaterDds.{dds_left, references_of}
-use Rattle.jcl_refs.specs.Targets.{Target, earlier_step, target_of}
+use Rattle.jcl_refs.specs.Targets.{earlier_step, target_of}
 
 abbrev pub most_steps : ℕ
 most_steps = 32

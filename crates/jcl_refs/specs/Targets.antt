@@ -1,5 +1,5 @@
 -- What references mean: of tests to steps, and of DDs to earlier DDs. (GC28-6704, "Backward references", COND parameter)
-use Rattle.std.specs.Prelude.{ℕ, ◌+◌, ◌-◌, Bool, false, ◌&&◌, ◌||◌, ◌==◌, nat_lt, List, [], ◌∷◌, drop, Option, Some, None, is_none, is_some, Result, Ok, Err, if◌then◌else◌}
+use Rattle.std.specs.Prelude.{ℕ, ◌+◌, ◌-◌, Bool, true, false, ◌&&◌, ◌||◌, ◌==◌, nat_lt, List, [], ◌∷◌, drop, Option, Some, None, is_none, is_some, Result, Ok, Err, if◌then◌else◌}
 use Rattle.std.specs.List.{list_any, position}
 use Rattle.std.specs.Str.{bytes_eq}
 use Rattle.jcl_plan.specs.declared.fault.Cause.{Cause}
@@ -11,6 +11,7 @@ use Rattle.value_core.specs.declared.reference.StepReference.{StepReference}
 use Rattle.value_core.specs.declared.reference.StepReference.TheVariants as step
 use Rattle.jcl_cards.specs.declared.dd.DdCard.{DdCard}
 use Rattle.jcl_procs.specs.declared.step.FlatStep.{FlatStep}
+use Rattle.jcl_refs.specs.declared.targets.Target.{Target}
 use Rattle.jcl_refs.specs.LaterDds.{has_name}
 
 abbrev pub is_name : Option (List ℕ) → List ℕ → Bool
@@ -76,11 +77,6 @@ dds_of steps k = first (drop (k - 1) steps)
     first [] = []
     first (s ∷ more) = s.dds
 
--- A place of a DD: its step and its number in that, each from 1.
-pub record Target : Type 0 where
-  pub step : ℕ
-  pub dd : ℕ
-
 -- a DD of the same step: an earlier one, else it looks forward or to nothing
 abbrev pub in_step : List ℕ → ℕ → ℕ → List DdCard → Result Target Cause
 in_step name k d dds = by (place_of name dds)
@@ -89,23 +85,33 @@ in_step name k d dds = by (place_of name dds)
     by None = Err (P ReferenceToNothing)
     by (Some n) = if nat_lt n d then Ok (record { step = k; dd = n }) else Err (P ForwardReference)
 
--- a DD of an earlier step
-abbrev pub in_earlier : Option ℕ → StepReference → List ℕ → ℕ → List FlatStep → Result Target Cause
-in_earlier call s name k steps = by_step (earlier_step call s k steps)
+-- the DD of an earlier step that a reference means, where there is one
+abbrev pub earlier_dd : Option ℕ → StepReference → List ℕ → ℕ → List FlatStep → Option Target
+earlier_dd call s name k steps = by_step (earlier_step call s k steps)
   where
-    looks_forward : Bool
-    looks_forward = list_any (λ other. may_mean call s other && list_any (has_name name) other.dds) (drop (k - 1) steps)
+    by_place : ℕ → Option ℕ → Option Target
+    by_place t None = None
+    by_place t (Some n) = Some (record { step = t; dd = n })
 
-    missing : Result Target Cause
-    missing = if looks_forward then Err (P ForwardReference) else Err (P ReferenceToNothing)
-
-    by_place : ℕ → Option ℕ → Result Target Cause
-    by_place t None = missing
-    by_place t (Some n) = Ok (record { step = t; dd = n })
-
-    by_step : Option ℕ → Result Target Cause
-    by_step None = missing
+    by_step : Option ℕ → Option Target
+    by_step None = None
     by_step (Some t) = by_place t (place_of name (dds_of steps t))
+
+-- whether a step from the k-th on has the DD
+abbrev pub looks_forward : Option ℕ → StepReference → List ℕ → ℕ → List FlatStep → Bool
+looks_forward call s name k steps = list_any (λ other. may_mean call s other && list_any (has_name name) other.dds) (drop (k - 1) steps)
+
+-- a DD of an earlier step, else it looks forward or to nothing
+abbrev pub missing : Bool → Cause
+missing true = P ForwardReference
+missing false = P ReferenceToNothing
+
+abbrev pub in_earlier : Option ℕ → StepReference → List ℕ → ℕ → List FlatStep → Result Target Cause
+in_earlier call s name k steps = by (earlier_dd call s name k steps)
+  where
+    by : Option Target → Result Target Cause
+    by None = Err (missing (looks_forward call s name k steps))
+    by (Some t) = Ok t
 
 -- what a reference of the d-th DD of the k-th step, which is one of this call, means
 abbrev pub target_of : Option ℕ → ℕ → ℕ → List FlatStep → DdReference → Result Target Cause

@@ -3,3 +3,4 @@
 #![tactic(auto)]
 
 pub mod examples;
+pub mod targets;
