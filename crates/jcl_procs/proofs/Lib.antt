@@ -1,2 +1,4 @@
 pub mod Reached
 pub mod Overridden
+pub mod Conditioned
+pub mod Called

@@ -21,7 +21,7 @@ use Rattle.jcl_cards.specs.declared.dd.Word.TheVariants.{Dummy}
 use Rattle.jcl_cards.specs.Examples.{empty_dd}
 use Rattle.jcl_deck.specs.Decks.{deck_of}
 use Rattle.jcl_procs.specs.declared.step.FlatStep.{FlatStep}
-use Rattle.jcl_procs.specs.declared.step.LibraryProcedure.{LibraryProcedure}
+use Rattle.proc_library.specs.declared.library.LibraryProcedure.{LibraryProcedure}
 use Rattle.jcl_procs.specs.Expansions.{and_then, flat_of}
 
 abbrev pub statements_in : List (List ℕ) → Result (List Statement) Cause

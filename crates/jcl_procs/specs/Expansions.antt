@@ -25,7 +25,8 @@ use Rattle.jcl_deck.specs.declared.operation.Operation.{Operation}
 use Rattle.jcl_deck.specs.declared.operation.Operation.TheVariants.{IsProc}
 use Rattle.jcl_deck.specs.Decks.{operation_of}
 use Rattle.jcl_procs.specs.declared.step.FlatStep.{FlatStep}
-use Rattle.jcl_procs.specs.declared.step.LibraryProcedure.{LibraryProcedure}
+use Rattle.proc_library.specs.declared.library.LibraryProcedure.{LibraryProcedure}
+use Rattle.proc_library.specs.Libraries.{in_library}
 use Rattle.jcl_procs.specs.Calls.{steps_of}
 use Rattle.jcl_procs.specs.Overrides.{conditions_overridden, dds_overridden}
 
@@ -52,10 +53,6 @@ body_of [] = Ok (record { symbols = []; statements = [] })
 body_of (s ∷ statements) = body_by (operation_of s.operation) s statements
 
 -- a procedure of a name: the first in the stream, else that of the library
-abbrev pub in_library : List LibraryProcedure → List ℕ → Option LibraryProcedure
-in_library [] name = None
-in_library (p ∷ library) name = if bytes_eq p.name name then Some p else in_library library name
-
 abbrev pub in_deck : List in_stream.Procedure → List ℕ → Option in_stream.Procedure
 in_deck [] name = None
 in_deck (p ∷ procedures) name = if bytes_eq p.name name then Some p else in_deck procedures name

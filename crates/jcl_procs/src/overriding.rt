@@ -51,14 +51,14 @@ fn is_step(name: Name8, step: &FlatStep) -> bool
     is_named(step.procedure_step, name)
 }
 
-fn has_step(name: Name8, steps: &[FlatStep]) -> bool
+pub(crate) fn has_step(name: Name8, steps: &[FlatStep]) -> bool
     ensures { result ≡ list_any (is_step name) steps.now }
 {
     steps.iter().any(|step| is_step(name, step))
 }
 
 /// The first step of a name, from 0.
-fn step_of(name: Name8, steps: &[FlatStep]) -> Option<usize>
+pub(crate) fn step_of(name: Name8, steps: &[FlatStep]) -> Option<usize>
     ensures is { result ≡ position (is_step name) steps.now }
     ensures there { IfSome result (λ n. n < length steps.now) }
 {

@@ -3,7 +3,6 @@ use jcl_cards::dd::DdCard;
 use jname_core::name8::Name8;
 use list_values::condition::Condition;
 use plain::listed::Listed;
-use plain::text::Text;
 
 /// A step of the job: an EXEC statement of the deck, or one of a procedure that it calls.
 #[derive(Debug, Drop)]
@@ -17,11 +16,4 @@ pub struct FlatStep {
     pub program: Name8,
     pub condition: Condition,
     pub dds: Listed<DdCard>,
-}
-
-/// A procedure of the library, by its name: its lines.
-#[derive(Debug, Drop)]
-pub struct LibraryProcedure {
-    pub name: Name8,
-    pub lines: Listed<Text>,
 }

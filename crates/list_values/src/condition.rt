@@ -1,4 +1,6 @@
 //! Tests of completion codes. (COND parameter)
+ghost use Rattle.std.specs.Prelude.{◌≡◌};
+
 use arrayvec::ArrayVec;
 use jcl_plan::outcome::Code;
 use jcl_plan::plan::{AfterAbend, Operator};
@@ -31,4 +33,24 @@ pub type CodedTests = ArrayVec<CodedTest, 8>;
 pub struct Condition {
     pub tests: CodedTests,
     pub after_abend: AfterAbend,
+}
+
+fn copied_tests(tests: &CodedTests) -> CodedTests
+    ensures { result ≡ tests.now }
+{
+    let mut copy = CodedTests::new();
+    let Ok(()) = copy.try_extend_from_slice(tests.as_slice()) else {
+        unreachable!();
+    };
+    copy
+}
+
+/// The condition again, for another step.
+pub fn copied(condition: &Condition) -> Condition
+    ensures { result ≡ condition.now }
+{
+    Condition {
+        tests: copied_tests(&condition.tests),
+        after_abend: condition.after_abend,
+    }
 }

@@ -1,0 +1,8 @@
+use Rattle.std.proofs.Common.{◌≡◌, drop}
+use Rattle.jcl_procs.specs.Calls.{steps_from, steps_of}
+use Rattle.jcl_procs.specs.Calling.{call_of, denoted}
+use Rattle.jcl_procs.proofs.calls.steps_from.Given as goal
+
+abbrev pub invariant-loop-statement : goal.invariant-loop-statement
+invariant-loop-statement l =
+    steps_of (call_of l.caller) l.statements ≡ steps_from (call_of l.caller) (denoted l.place) (drop l.statement-index l.statements)

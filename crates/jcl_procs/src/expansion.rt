@@ -1,0 +1,314 @@
+//! A deck's steps, call by call. (GC28-6704, "Cataloged and in-stream procedures")
+ghost use Rattle.std.specs.Prelude.{◌≡◌, ◌++◌, IfOk, OnOk, map, is_some, unwrap_or};
+ghost use Rattle.std.specs.List.{list_any};
+ghost use Rattle.std.specs.Option.{option_copied};
+ghost use Rattle.value_core.specs.Reads.{Gives};
+ghost use Rattle.list_values.specs.Conditions.{no_condition};
+ghost use Rattle.jcl_cards.specs.Merging.{by_itself};
+ghost use Rattle.jcl_deck.specs.declared.operation.Operation.TheVariants.{IsProc};
+ghost use Rattle.jcl_procs.specs.Calls.{steps_of};
+ghost use Rattle.jcl_procs.specs.Bodies.{call_with, is_proc, statements_in, steps_of_lines, steps_with};
+ghost use Rattle.jcl_procs.specs.Expansions.{and_then, body_by, body_named, body_of, called, flat_from, in_deck, plain_step, steps_by};
+
+use crate::calls::{Caller, steps_of};
+use crate::conditions::override_conditions;
+use crate::overriding::override_dds;
+use crate::step::FlatStep;
+use card_core::read::{ReadError as CardsError, read_statements};
+use card_core::statement::Statement;
+use jcl_cards::dd::DdCard;
+use jcl_cards::exec::{ExecCard, Runs};
+use jcl_cards::merging::by_itself;
+use jcl_cards::procedure::procedure_card;
+use jcl_deck::deck::{DeckStep, Procedure};
+use jcl_deck::operation::{Operation, operation_of};
+use jcl_plan::fault::{Cause, StatementFault};
+use jcl_plan::plan::AfterAbend;
+use jcl_symbols::symbol::Symbol;
+use jname_core::name8::Name8;
+use list_values::condition::{CodedTests, Condition, copied};
+use plain::lent::Lent;
+use plain::listed::Listed;
+use plain::text::Text;
+use proc_library::library::{LibraryProcedure, ProcLibrary};
+use std::alloc::{AllocError, Global};
+use value_core::refusal::ReadError;
+
+/// Where a call finds its procedure.
+#[derive(Drop)]
+struct Sources<'a> {
+    library: &'a ProcLibrary,
+    /// Those of the stream.
+    procedures: &'a [Procedure],
+}
+
+/// What a call gives to the steps of the procedure.
+#[derive(Drop)]
+struct Calling<'a> {
+    /// The name on the EXEC statement that calls.
+    name: Option<Name8>,
+    /// Its place, from 1.
+    place: usize,
+    /// The symbols to which it gives values.
+    symbols: &'a [Symbol],
+}
+
+/// The cards that lines lend.
+fn cards_of<'a>(alloc: Global, lines: &'a [Text]) -> Result<Vec<Lent<'a>>, AllocError>
+    ensures { IfOk result (λ cards. cards.items ≡ lines.now) }
+{
+    let mut cards = Vec::new(alloc);
+    for line in lines {
+        cards.push(Lent::new(line.as_slice()))?;
+    }
+    Ok(cards)
+}
+
+/// The statements of a procedure of the library.
+fn statements_in(alloc: Global, lines: &[Text]) -> Result<Listed<Statement>, ReadError>
+    ensures { Gives result (statements_in lines.now) }
+{
+    let cards = cards_of(alloc, lines)?;
+    match read_statements(alloc, cards.as_slice()) {
+        Ok(statements) => Ok(Listed::new(statements)),
+        Err(CardsError::Fault(fault)) => Err(ReadError::Refused(Cause::C(fault.number()))),
+        Err(CardsError::Memory) => Err(ReadError::Memory),
+    }
+}
+
+/// The steps that a procedure's statements bring.
+fn body_steps(
+    alloc: Global,
+    call: &Calling<'_>,
+    own_symbols: &[Symbol],
+    statements: &[Statement],
+) -> Result<Listed<FlatStep>, ReadError>
+    ensures { Gives result (steps_of (call_with call.now own_symbols.now) statements.now) }
+{
+    let caller = Caller {
+        name: call.name,
+        place: call.place,
+        symbols: call.symbols,
+        own_symbols,
+    };
+    steps_of(alloc, caller, statements)
+}
+
+/// Those behind a PROC statement, which gives symbols values where the call gives none.
+fn steps_behind_proc(
+    alloc: Global,
+    call: &Calling<'_>,
+    first: &Statement,
+    behind: &[Statement],
+) -> Result<Listed<FlatStep>, ReadError>
+    ensures { Gives result (and_then (body_by IsProc first.now behind.now) (steps_with call.now)) }
+{
+    let card = procedure_card(
+        alloc,
+        false,
+        first.name.as_slice(),
+        first.operand.as_slice(),
+    )?;
+    body_steps(alloc, call, card.symbols.as_slice(), behind)
+}
+
+fn is_proc(statement: &Statement) -> bool
+    ensures { result ≡ is_proc statement.now }
+{
+    match operation_of(statement.operation.as_slice()) {
+        Operation::IsProc => true,
+        _ => false,
+    }
+}
+
+/// The steps of a procedure of the library, which may begin with a PROC statement.
+fn statements_steps(
+    alloc: Global,
+    call: &Calling<'_>,
+    statements: &[Statement],
+) -> Result<Listed<FlatStep>, ReadError>
+    ensures { Gives result (and_then (body_of statements.now) (steps_with call.now)) }
+{
+    if let Some((first, behind)) = statements.split_first() {
+        if is_proc(first) {
+            return steps_behind_proc(alloc, call, first, behind);
+        }
+    }
+    body_steps(alloc, call, &[], statements)
+}
+
+/// The cards of a procedure of the library are read at each call.
+fn library_steps(
+    alloc: Global,
+    call: &Calling<'_>,
+    procedure: &LibraryProcedure,
+) -> Result<Listed<FlatStep>, ReadError>
+    ensures { Gives result (steps_of_lines call.now procedure.now.lines) }
+{
+    let statements = statements_in(alloc, procedure.lines.as_slice())?;
+    statements_steps(alloc, call, statements.as_slice())
+}
+
+/// The first procedure of a name in the stream.
+fn in_deck<'a>(procedures: &'a [Procedure], name: Name8) -> Option<&'a Procedure>
+    ensures { option_copied result ≡ in_deck procedures.now name }
+{
+    for procedure in procedures {
+        if procedure.name.as_slice() == name.as_slice() {
+            return Some(procedure);
+        }
+    }
+    None
+}
+
+/// The steps of the procedure of a name: the first in the stream, else that of the library.
+fn procedure_steps(
+    alloc: Global,
+    sources: &Sources<'_>,
+    name: Name8,
+    call: &Calling<'_>,
+) -> Result<Listed<FlatStep>, ReadError>
+    ensures { Gives result (and_then (body_named sources.now.library.now sources.now.procedures.now name) (steps_with call.now)) }
+{
+    if let Some(procedure) = in_deck(sources.procedures, name) {
+        let symbols = procedure.symbols.as_slice();
+        return body_steps(alloc, call, symbols, procedure.statements.as_slice());
+    }
+    match sources.library.find(&name) {
+        Some(procedure) => library_steps(alloc, call, procedure),
+        None => Err(ReadError::Refused(Cause::P(StatementFault::NoSuchProcedure))),
+    }
+}
+
+/// A call: the procedure's steps, then its overrides.
+fn called(
+    alloc: Global,
+    sources: &Sources<'_>,
+    place: usize,
+    exec: &ExecCard,
+    dds: Listed<DdCard>,
+    name: Name8,
+    symbols: &[Symbol],
+) -> Result<Listed<FlatStep>, ReadError>
+    ensures { Gives result (called sources.now.library.now sources.now.procedures.now place exec.now dds name symbols.now) }
+{
+    let call = Calling {
+        name: exec.name,
+        place,
+        symbols,
+    };
+    let steps = procedure_steps(alloc, sources, name, &call)?;
+    let changed = override_conditions(steps, exec)?;
+    override_dds(alloc, changed, dds)
+}
+
+/// Whether a DD is for a procedure's step.
+fn some_qualified(dds: &[DdCard]) -> bool
+    ensures { result ≡ list_any (λ dd. is_some dd.qualifier) dds.now }
+{
+    dds.iter().any(|dd| dd.qualifier.is_some())
+}
+
+/// COND of a step, which may be absent.
+fn condition_or_none(condition: &Option<Condition>) -> Condition
+    ensures { result ≡ unwrap_or condition.now no_condition }
+{
+    match condition {
+        Some(condition) => copied(condition),
+        None => Condition {
+            tests: CodedTests::new(),
+            after_abend: AfterAbend::Unsaid,
+        },
+    }
+}
+
+/// The DDs of a step of the deck itself.
+fn each_by_itself(alloc: Global, dds: Listed<DdCard>) -> Result<Listed<DdCard>, AllocError>
+    ensures { IfOk result (λ own. own ≡ map by_itself dds) }
+{
+    let mut own = Vec::new(alloc);
+    for dd in dds.into_vec() {
+        own.push(by_itself(dd))?;
+    }
+    Ok(Listed::new(own))
+}
+
+/// A step of the deck itself: no DD of it is for a procedure's step.
+fn plain_step(
+    alloc: Global,
+    exec: &ExecCard,
+    dds: Listed<DdCard>,
+    program: Name8,
+) -> Result<Listed<FlatStep>, ReadError>
+    ensures { Gives result (plain_step exec.now dds program) }
+{
+    if some_qualified(dds.as_slice()) {
+        return Err(ReadError::Refused(Cause::P(StatementFault::NoSuchProcedureStep)));
+    }
+    let step = FlatStep {
+        name: exec.name,
+        procedure_step: None,
+        call: None,
+        program,
+        condition: condition_or_none(&exec.condition),
+        dds: each_by_itself(alloc, dds)?,
+    };
+    let mut steps = Listed::empty(alloc);
+    steps.push(step)?;
+    Ok(steps)
+}
+
+/// The steps of a deck's step.
+fn steps_by(
+    alloc: Global,
+    sources: &Sources<'_>,
+    place: usize,
+    step: DeckStep,
+) -> Result<Listed<FlatStep>, ReadError>
+    ensures { Gives result (steps_by step.exec.runs sources.now.library.now sources.now.procedures.now place step) }
+{
+    let DeckStep { exec, dds } = step;
+    match &exec.runs {
+        Runs::Program(name) => plain_step(alloc, &exec, dds, *name),
+        Runs::Procedure { name, symbols } => called(
+            alloc,
+            sources,
+            place,
+            &exec,
+            dds,
+            *name,
+            symbols.as_slice(),
+        ),
+    }
+}
+
+fn put_behind(flat: &mut Vec<FlatStep>, steps: Listed<FlatStep>) -> Result<(), AllocError>
+    ensures { OnOk result (flat.new.items ≡ flat.old.items ++ steps) }
+{
+    let mut steps = steps.into_vec();
+    flat.append(&mut steps)?;
+    Ok(())
+}
+
+/// The steps of a deck in order, those of the procedures that it calls in their places, or the first refusal, call by call.
+pub fn expand(
+    alloc: Global,
+    library: &ProcLibrary,
+    procedures: &[Procedure],
+    steps: Listed<DeckStep>,
+) -> Result<Listed<FlatStep>, ReadError>
+    ensures { Gives result (flat_from library.now procedures.now 1 steps) }
+{
+    let sources = Sources {
+        library,
+        procedures,
+    };
+    let mut flat = Vec::new(alloc);
+    let mut place = 0;
+    for step in steps.into_vec() {
+        place += 1;
+        let found = steps_by(alloc, &sources, place, step)?;
+        put_behind(&mut flat, found)?;
+    }
+    Ok(Listed::new(flat))
+}

@@ -1,0 +1,2 @@
+pub mod Libraries
+pub mod Places
