@@ -1,1 +1,10 @@
 pub mod Latest
+pub mod Looking
+pub mod Earlier
+pub mod Numbering
+pub mod TestLists
+pub mod Placed
+pub mod Left
+pub mod Counts
+pub mod StepLists
+pub mod PlannedDds

@@ -2,4 +2,8 @@ pub mod LaterDds
 pub mod Targets
 pub mod Meant
 pub mod Plans
+pub mod Kinds
+pub mod Planning
+pub mod Numbered
+pub mod Looking
 pub mod Examples

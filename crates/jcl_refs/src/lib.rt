@@ -3,4 +3,10 @@
 #![tactic(auto)]
 
 pub mod examples;
+mod kinds;
+pub mod later_dds;
+mod placing;
+pub mod plan;
 pub mod targets;
+pub mod tests_of;
+pub mod units;

@@ -1,6 +1,8 @@
 //! The tests, by what is read.
 mod cards;
 mod decks;
+mod jobs;
 mod lists;
+mod procedures;
 mod symbols;
 mod values;

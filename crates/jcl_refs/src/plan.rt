@@ -1,0 +1,251 @@
+//! The plan of a job. (This profile)
+ghost use Rattle.std.specs.Prelude.{◌≡◌, ◌+◌, ◌≤◌, [], length, map, nat_lt, IfOk, OnOk, count_by};
+ghost use Rattle.std.specs.List.{All};
+ghost use Rattle.value_core.specs.Reads.{Gives};
+ghost use Rattle.jcl_plan.specs.declared.fault.Cause.TheVariants.{P};
+ghost use Rattle.jcl_meaning.specs.Names.{names_of};
+ghost use Rattle.jcl_refs.specs.Plans.{job_with, kinds_in, most_names, plan_of, with_dds_left};
+ghost use Rattle.jcl_refs.specs.Planning.{counts_in, has_many_dd_names, job_by, looks_for_later, plan_with, planned_counts, step_by, steps_by, with_units};
+
+use crate::kinds::planned_dds;
+use crate::later_dds::dds_left;
+use crate::placing::placed;
+use crate::tests_of::{job_tests, tests_of};
+use crate::units::UnitNames;
+use jcl_cards::coded::Coded;
+use jcl_cards::dd::DdCard;
+use jcl_cards::job::JobCard;
+use jcl_meaning::names::names_of;
+use jcl_plan::fault::{Cause, StatementFault};
+use jcl_plan::plan::{JobPlan, StepPlan};
+use jcl_procs::step::FlatStep;
+use plain::listed::Listed;
+use std::alloc::{AllocError, Global};
+use std::mem::replace;
+use value_core::refusal::ReadError;
+
+/// The most steps of a job. (This profile)
+const MOST_STEPS: usize = 32;
+
+/// The most DDs of a step. (This profile)
+const MOST_DDS: usize = 64;
+
+/// The most DDs of a step that look for a later one. (DDNAME parameter)
+const MOST_DD_NAMES: usize = 5;
+
+/// The most names that a job holds. (This profile)
+const MOST_NAMES: usize = 255;
+
+fn refusal(fault: StatementFault) -> ReadError
+    ensures { result ≡ ReadError.Refused (P fault) }
+{
+    ReadError::Refused(Cause::P(fault))
+}
+
+fn looks_for_later(dd: &DdCard) -> bool
+    ensures { result ≡ looks_for_later dd.now }
+{
+    match dd.dd_name {
+        Coded::NotGiven | Coded::Nullified => false,
+        Coded::Value(_) => true,
+    }
+}
+
+/// How many DDs look for a later one.
+fn count_dd_names(dds: &[DdCard]) -> usize
+    ensures { result ≡ count_by looks_for_later dds.now }
+{
+    dds.iter().filter(|dd| looks_for_later(*dd)).count()
+}
+
+/// Whether a step, as it stands, has too many DDs that look for a later one.
+fn has_many_dd_names(step: &FlatStep) -> bool
+    ensures { result ≡ has_many_dd_names step.now }
+{
+    count_dd_names(step.dds.as_slice()) > MOST_DD_NAMES
+}
+
+/// The same of each step.
+fn many_dd_names(alloc: Global, steps: &[FlatStep]) -> Result<Vec<bool>, AllocError>
+    ensures { IfOk result (λ many. many.items ≡ map has_many_dd_names steps.now) }
+{
+    let mut many = Vec::new(alloc);
+    for step in steps {
+        many.push(has_many_dd_names(step))?;
+    }
+    Ok(many)
+}
+
+/// The DDs that are left stand in the place of those of a step.
+fn leave_dds(alloc: Global, step: &mut FlatStep) -> Result<(), AllocError>
+    ensures { OnOk result (step.new ≡ with_dds_left step.old) }
+{
+    let dds = replace(&mut step.dds, Listed::empty(alloc));
+    step.dds = dds_left(alloc, dds)?;
+    Ok(())
+}
+
+fn leave_each(alloc: Global, steps: &mut [FlatStep]) -> Result<(), AllocError>
+    ensures { OnOk result (steps.new ≡ map with_dds_left steps.old) }
+{
+    for step in steps.iter_mut() {
+        leave_dds(alloc, step)?;
+    }
+    Ok(())
+}
+
+/// The steps with the DDs that are left of each.
+fn steps_left(alloc: Global, steps: Listed<FlatStep>) -> Result<Listed<FlatStep>, AllocError>
+    ensures { IfOk result (λ left. left ≡ map with_dds_left steps) }
+{
+    let mut steps = steps.into_vec();
+    leave_each(alloc, steps.as_mut_slice())?;
+    Ok(Listed::new(steps))
+}
+
+/// The k-th step, of which is known whether it has too many DDs that look for a later one.
+fn planned_step(
+    alloc: Global,
+    steps: &[FlatStep],
+    k: usize,
+    done: &[StepPlan],
+    many_dd_names: bool,
+    step: &FlatStep,
+) -> Result<StepPlan, ReadError>
+    requires few_steps { length steps.now ≤ 32 }
+    requires k { k ≤ 32 }
+    requires few_done { length done.now ≤ 32 }
+    requires few_in_each { All (λ s. length s.dds ≤ 64) done.now }
+    ensures gives { Gives result (step_by steps.now k (map kinds_in done.now) many_dd_names step.now) }
+    ensures count { IfOk result (λ plan. length plan.dds ≡ length step.now.dds) }
+    ensures few { IfOk result (λ plan. length plan.dds ≤ 64) }
+{
+    let tests = tests_of(step.call, k, steps, &step.condition.tests)?;
+    if many_dd_names {
+        return Err(refusal(StatementFault::TooManyDdNames));
+    }
+    if step.dds.len() > MOST_DDS {
+        return Err(refusal(StatementFault::TooManyDds));
+    }
+    let dds = planned_dds(alloc, steps, step.call, k, done, step.dds.as_slice())?;
+    Ok(StepPlan {
+        name: step.name,
+        procedure_step: step.procedure_step,
+        program: step.program,
+        after_abend: step.condition.after_abend,
+        tests,
+        dds,
+    })
+}
+
+/// The steps one after another.
+fn planned_steps(
+    alloc: Global,
+    left: &[FlatStep],
+    many_dd_names: &[bool],
+) -> Result<Listed<StepPlan>, ReadError>
+    requires few { length left.now ≤ 32 }
+    requires as_many { length many_dd_names.now ≡ length left.now }
+    ensures gives { Gives result (steps_by left.now 1 [] many_dd_names.now left.now) }
+    ensures counts { IfOk result (λ steps. counts_in left.now ≡ planned_counts steps) }
+{
+    let mut done = Listed::empty(alloc);
+    for (n, step) in left.iter().enumerate() {
+        let plan = planned_step(alloc, left, n + 1, done.as_slice(), many_dd_names[n], step)?;
+        done.push(plan)?;
+    }
+    Ok(done)
+}
+
+/// The plan of a job, before units of sets are told.
+fn job_with(job: JobCard, steps: Listed<StepPlan>) -> JobPlan
+    ensures { result ≡ job_with job steps }
+{
+    let tests = job_tests(&job.tests);
+    JobPlan {
+        name: job.name,
+        class: job.class,
+        priority: job.priority,
+        message_class: job.message_class,
+        tests,
+        steps,
+    }
+}
+
+/// Whether a job holds too many names.
+fn holds_many(alloc: Global, plan: &JobPlan) -> Result<bool, AllocError>
+    ensures { IfOk result (λ many. many ≡ nat_lt most_names (length (names_of plan.now))) }
+{
+    let names = names_of(alloc, plan)?;
+    Ok(names.len() > MOST_NAMES)
+}
+
+/// A plan with the units of sets.
+fn with_units(
+    alloc: Global,
+    units: &UnitNames,
+    left: &[FlatStep],
+    plan: JobPlan,
+) -> Result<JobPlan, Cause>
+    requires { counts_in left.now ≡ planned_counts plan.steps }
+    ensures { result ≡ with_units units.now left.now plan }
+{
+    let mut plan = plan;
+    let steps = replace(&mut plan.steps, Listed::empty(alloc));
+    plan.steps = placed(alloc, units, left, steps)?;
+    Ok(plan)
+}
+
+/// The plan of a job, before units of sets are told, or the first refusal.
+fn job_by(
+    alloc: Global,
+    job: JobCard,
+    left: &[FlatStep],
+    many_dd_names: &[bool],
+) -> Result<JobPlan, ReadError>
+    requires few { length left.now ≤ 32 }
+    requires as_many { length many_dd_names.now ≡ length left.now }
+    ensures gives { Gives result (job_by job left.now many_dd_names.now) }
+    ensures counts { IfOk result (λ plan. counts_in left.now ≡ planned_counts plan.steps) }
+{
+    let steps = planned_steps(alloc, left, many_dd_names)?;
+    let plan = job_with(job, steps);
+    if holds_many(alloc, &plan)? {
+        return Err(refusal(StatementFault::TooManyNames));
+    }
+    Ok(plan)
+}
+
+/// The plan of a job with these steps left.
+fn plan_with(
+    alloc: Global,
+    units: &UnitNames,
+    job: JobCard,
+    left: &[FlatStep],
+    many_dd_names: &[bool],
+) -> Result<JobPlan, ReadError>
+    requires few { length left.now ≤ 32 }
+    requires as_many { length many_dd_names.now ≡ length left.now }
+    ensures { Gives result (plan_with units.now job left.now many_dd_names.now) }
+{
+    let plan = job_by(alloc, job, left, many_dd_names)?;
+    let plan = with_units(alloc, units, left, plan)?;
+    Ok(plan)
+}
+
+/// The plan of a job whose steps are these, or the first refusal.
+pub fn plan_of(
+    alloc: Global,
+    units: &UnitNames,
+    job: JobCard,
+    steps: Listed<FlatStep>,
+) -> Result<JobPlan, ReadError>
+    ensures { Gives result (plan_of units.now job steps) }
+{
+    if steps.len() > MOST_STEPS {
+        return Err(refusal(StatementFault::TooManySteps));
+    }
+    let many = many_dd_names(alloc, steps.as_slice())?;
+    let left = steps_left(alloc, steps)?;
+    plan_with(alloc, units, job, left.as_slice(), many.as_slice())
+}
