@@ -52,26 +52,52 @@ def cards():
     return INITIATOR + head + b"X" * 80 + b"\n" + (b"X" * 79 + b"\n") * 9996 + b"./ END\n"
 
 
-def statements():
-    """A deck of 10,000 statements."""
-    return INITIATOR + b"./ READ\n//J JOB 1\n//S EXEC PGM=IEFBR14\n" + b"//D DD SYSOUT=A\n" * 9998 + b"./ END\n"
-
-
 def line_feeds():
     """One byte more than a session may have, all of them line feeds."""
     return b"\n" * (LIMIT + 1)
 
 
-def dummies(n):
-    """One step of {:,} `DD DUMMY`, run as far as the events go."""
-    deck = b"./ READ\n//J JOB 1\n//S EXEC PGM=IEFBR14\n" + b"//D DD DUMMY\n" * n + b"./ END\n"
-    return INITIATOR + deck + b"./ TURN 1*9999\n" * 6 + b"./ TURN 1*5540\n"
+def steps_of(count, dds):
+    """So many steps of so many DDs."""
+    return (b"//S EXEC PGM=IEFBR14\n" + b"//D DD DUMMY\n" * dds) * count
 
 
-def run_deck(n):
-    """A deck of {:,} statements, run to its end."""
-    deck = b"./ READ\n//J JOB 1\n//S EXEC PGM=IEFBR14\n" + b"//D DD SYSOUT=A\n" * (n - 2) + b"./ END\n"
-    return INITIATOR + deck + b"./ TURN 1*9999\n" * (2 * n // 9999 + 1)
+def run(decks, turns):
+    """Decks, and so many turns of one initiator."""
+    text = INITIATOR + b"".join(b"./ READ\n//J JOB 1\n" + deck + b"./ END\n" for deck in decks)
+    return text + b"./ TURN 1*9999\n" * (turns // 9999) + b"./ TURN 1*%d\n" % (turns % 9999 + 1)
+
+
+def many_steps(n):
+    """{:,} jobs of 32 steps of 16 DDs, run to their ends."""
+    return run([steps_of(32, 16)] * n, n * (4 + 32 * 34))
+
+
+def one_step(n):
+    """{:,} jobs of one step of 16 DDs, run to their ends."""
+    return run([steps_of(1, 16)] * n, n * (4 + 34))
+
+
+def most_dds(n):
+    """A job of {:,} DDs in 32 steps, run to its end."""
+    return run([steps_of(32, n // 32)], 4 + 2 * n + 2 * 32)
+
+
+def calls(n):
+    """A deck of {:,} cards: 15 procedures, 32 calls, 64 DDs a step, half of them overrides, each continued, and comments."""
+    name = [b"P%d" % k for k in range(15)]
+    body = b"".join(b"//D%d DD DUMMY\n" % j for j in range(32))
+    deck = b"".join(b"//%s PROC\n//A EXEC PGM=IEFBR14\n" % p + body + b"// PEND\n" for p in name)
+    over = b"".join(b"//A.D%d DD DUMMY,\n//     DCB=BLKSIZE=80\n//A.E%d DD DUMMY,\n//     DCB=BLKSIZE=80\n" % (j, j) for j in range(32))
+    count = 32 * n // 10_000
+    deck += b"".join(b"//S%d EXEC %s\n" % (k, name[k % 15]) + over for k in range(count))
+    return INITIATOR + b"./ READ\n//J JOB 1\n" + deck + b"//*\n" * (n - 1 - deck.count(b"\n")) + b"./ END\n"
+
+
+def procedures(n):
+    """{:,} procedures of the library, and as many jobs, each of which calls one of them."""
+    library = b"".join(b"./ PROC P%d\n//A EXEC PGM=IEFBR14\n./ END\n" % k for k in range(n))
+    return INITIATOR + library + b"".join(b"./ READ\n//J JOB 1\n// EXEC P%d\n./ END\n" % k for k in reversed(range(n)))
 
 
 def idle(n):
@@ -117,8 +143,11 @@ def past(n):
 
 
 SIZED = [
-    (dummies, 79_000),
-    (run_deck, 10_000),
+    (calls, 10_000),
+    (procedures, 9_999),
+    (most_dds, 2_048),
+    (many_steps, 20),
+    (one_step, 640),
     (idle, 55_000),
     (waiting, 9_999),
     (initiators, 9_999),
@@ -127,7 +156,7 @@ SIZED = [
     (past, 7_000_000),
 ]
 
-SESSIONS = [turns, events, refused, rejected, jobs, cards, statements, line_feeds]
+SESSIONS = [turns, events, refused, rejected, jobs, cards, line_feeds]
 
 
 def listing_of(program, text):
@@ -135,7 +164,7 @@ def listing_of(program, text):
     return subprocess.run([program], input=text, stdout=subprocess.PIPE, stderr=subprocess.DEVNULL).stdout
 
 
-def run(command, text):
+def measured(command, text):
     """The time of one run in seconds, its memory in bytes, and the bytes that it wrote."""
     with tempfile.TemporaryFile() as given, tempfile.TemporaryFile() as taken:
         given.write(text)
@@ -150,7 +179,7 @@ def run(command, text):
 
 
 def least(command, text, rounds):
-    runs = [run(command, text) for _ in range(rounds)]
+    runs = [measured(command, text) for _ in range(rounds)]
     return min(r[0] for r in runs), max(r[1] for r in runs), runs[0][2]
 
 
