@@ -35,7 +35,7 @@ use Rattle.law_core.proofs.Spools.{Given, given_or_none}
 abbrev Done : (List Entry → World → Type 0) → Type 0
 Done allows = (lines : List Entry) × (new : World) × allows lines new
 
-reads_done : (job_of : Denoting) (w : World) (deck : List (List ℕ)) (r : Result JobPlan Cause) → job_of deck ≡ r → (w.jobs < MOST_JOBS) ⊎ (MOST_JOBS ≤ w.jobs) → Done (Reads job_of w deck)
+reads_done : (job_of : Denoting) (w : World) (deck : List (List ℕ)) (r : Result JobPlan Cause) → job_of w.units w.library deck ≡ r → (w.jobs < MOST_JOBS) ⊎ (MOST_JOBS ≤ w.jobs) → Done (Reads job_of w deck)
 reads_done job_of w deck (Ok plan) e (inl less) = (_, _, read plan less e refl refl)
 reads_done job_of w deck (Err cause) e (inl less) = (_, _, rejected cause less e refl refl)
 reads_done job_of w deck (Ok plan) e (inr more) = (_, _, full more refl refl)
@@ -100,7 +100,7 @@ writes_done w class (inl none) = (_, _, nothing_written none refl refl)
 writes_done w class (inr g) = (_, _, wrote g.job g.line g.left g.takes refl refl)
 
 does_done : (job_of : Denoting) (w : World) (e : Event) → IsSound w → Done (Does job_of w e)
-does_done job_of w (event.Read deck) s = reads_done job_of w deck (job_of deck) refl (cases_lt w.jobs MOST_JOBS)
+does_done job_of w (event.Read deck) s = reads_done job_of w deck (job_of w.units w.library deck) refl (cases_lt w.jobs MOST_JOBS)
 does_done job_of w (event.Turn number) s = turns_by w number s (found_or_none w.initiators number)
 does_done job_of w (event.Write class) s = writes_done w class (given_or_none w.spool class s.spooled)
 

@@ -92,7 +92,7 @@ reads_kept job_of w new deck l d s (rejected cause less f e n) =
 reads_kept job_of w new deck l d s (read plan less f e n) =
     subst IsSound (sym n) (record {
       numbers = s.numbers;
-      waiting = All-push (λ v. HasNoSets v.plan) w.waiting (waits (w.jobs + 1) plan) s.waiting (d deck plan f);
+      waiting = All-push (λ v. HasNoSets v.plan) w.waiting (waits (w.jobs + 1) plan) s.waiting (d w.units w.library deck plan f);
       running = s.running;
       spooled = s.spooled;
     })

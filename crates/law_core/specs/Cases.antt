@@ -8,6 +8,7 @@ use Rattle.machine_meaning.specs.declared.event.Event.{Event}
 use Rattle.machine_meaning.specs.declared.machine.Initiator.{Initiator}
 use Rattle.machine_meaning.specs.declared.machine.Running.{Running}
 use Rattle.machine_meaning.specs.Configs.{Configuration, start_of}
+use Rattle.proc_library.specs.declared.library.LibraryProcedure.{LibraryProcedure}
 use Rattle.machine_meaning.specs.Transitions.{Denoting, Transition}
 use Rattle.machine_meaning.specs.Worlds.{World, IsAt}
 
@@ -38,7 +39,7 @@ LinesAreDetermined = (job_of : Denoting) (w one other : World) (e : Event) (line
 
 -- decks denote jobs that name no set
 abbrev pub DenotesNoSets : Denoting → Type 0
-DenotesNoSets job_of = (deck : List (List ℕ)) (plan : JobPlan) → job_of deck ≡ Ok plan → HasNoSets plan
+DenotesNoSets job_of = (units : List (List ℕ)) (library : List LibraryProcedure) (deck : List (List ℕ)) (plan : JobPlan) → job_of units library deck ≡ Ok plan → HasNoSets plan
 
 abbrev pub SoundnessIsKept : Type 0
 SoundnessIsKept = (job_of : Denoting) (w new : World) (e : Event) (lines : List Entry) → DenotesNoSets job_of → IsSound w →

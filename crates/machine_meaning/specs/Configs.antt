@@ -6,20 +6,25 @@ use Rattle.jname_core.specs.Characters.{is_job_class}
 use Rattle.machine_meaning.specs.declared.config.TheConstants.{LAST_INITIATOR, MOST_TRACKS, MOST_UNITS, MOST_VOLUMES}
 use Rattle.machine_meaning.specs.declared.config.ConfigFault.{ConfigFault}
 use Rattle.machine_meaning.specs.declared.config.ConfigFault.TheVariants.{BadValue, DefinedTwice}
+use Rattle.machine_meaning.specs.declared.config.ConfigStatement.{ConfigStatement}
+use Rattle.machine_meaning.specs.declared.config.ConfigStatement.TheVariants as statement
 use Rattle.machine_meaning.specs.declared.config.ConfiguredInitiator.{ConfiguredInitiator}
 use Rattle.machine_meaning.specs.declared.config.ConfiguredUnit.{ConfiguredUnit}
 use Rattle.machine_meaning.specs.declared.config.ConfiguredVolume.{ConfiguredVolume}
 use Rattle.machine_meaning.specs.declared.machine.Initiator.{Initiator}
+use Rattle.proc_library.specs.declared.library.LibraryProcedure.{LibraryProcedure}
+use Rattle.proc_library.specs.Libraries.{has_procedure}
 use Rattle.machine_meaning.specs.Worlds.{World}
 
 -- in the order of the statements
 pub record Configuration : Type 0 where
   pub volumes : List ConfiguredVolume
   pub units : List ConfiguredUnit
+  pub library : List LibraryProcedure
   pub initiators : List ConfiguredInitiator
 
 abbrev pub nothing_configured : Configuration
-nothing_configured = record { volumes = []; units = []; initiators = [] }
+nothing_configured = record { volumes = []; units = []; library = []; initiators = [] }
 
 -- a value is refused before a name that is there
 abbrev pub refused_by : Bool → Bool → Option ConfigFault
@@ -37,8 +42,11 @@ volume_fault c serial tracks =
 abbrev pub with_volume : Configuration → List ℕ → ℕ → Configuration
 with_volume c serial tracks = record c { volumes = c.volumes ++ record { serial = serial; tracks = tracks } ∷ [] }
 
+abbrev pub unit_names : List ConfiguredUnit → List (List ℕ)
+unit_names units = map (λ u. u.name) units
+
 abbrev pub has_unit : List ConfiguredUnit → List ℕ → Bool
-has_unit units name = list_any (λ u. bytes_eq u.name name) units
+has_unit units name = list_any (bytes_eq name) (unit_names units)
 
 abbrev pub unit_fault : Configuration → List ℕ → List (List ℕ) → Option ConfigFault
 unit_fault c name serials =
@@ -46,6 +54,13 @@ unit_fault c name serials =
 
 abbrev pub with_unit : Configuration → List ℕ → List (List ℕ) → Configuration
 with_unit c name serials = record c { units = c.units ++ record { name = name; serials = serials } ∷ [] }
+
+-- a procedure by any name; its lines are read where it is called
+abbrev pub procedure_fault : Configuration → List ℕ → Option ConfigFault
+procedure_fault c name = refused_by false (has_procedure c.library name)
+
+abbrev pub with_procedure : Configuration → List ℕ → List (List ℕ) → Configuration
+with_procedure c name lines = record c { library = c.library ++ record { name = name; lines = lines } ∷ [] }
 
 -- one to eight different letters A to O
 abbrev pub has_class : List ℕ → ℕ → Bool
@@ -68,6 +83,19 @@ initiator_fault c number classes =
 abbrev pub with_initiator : Configuration → ℕ → List ℕ → Configuration
 with_initiator c number classes = record c { initiators = c.initiators ++ record { number = number; classes = classes } ∷ [] }
 
+-- what refuses a statement, and what it adds
+abbrev pub config_fault : Configuration → ConfigStatement → Option ConfigFault
+config_fault c (statement.Volume serial tracks) = volume_fault c serial tracks
+config_fault c (statement.Unit name serials) = unit_fault c name serials
+config_fault c (statement.Procedure name lines) = procedure_fault c name
+config_fault c (statement.Initiator number classes) = initiator_fault c number classes
+
+abbrev pub configured : Configuration → ConfigStatement → Configuration
+configured c (statement.Volume serial tracks) = with_volume c serial tracks
+configured c (statement.Unit name serials) = with_unit c name serials
+configured c (statement.Procedure name lines) = with_procedure c name lines
+configured c (statement.Initiator number classes) = with_initiator c number classes
+
 -- the machine at its start
 abbrev pub idle : ConfiguredInitiator → Initiator
 idle x = record { number = x.number; classes = x.classes; running = None }
@@ -75,6 +103,8 @@ idle x = record { number = x.number; classes = x.classes; running = None }
 abbrev pub start_of : Configuration → World
 start_of c = record {
   volumes = map (λ v. v.serial) c.volumes;
+  units = unit_names c.units;
+  library = c.library;
   programs = [];
   initiators = map idle c.initiators;
   waiting = [];

@@ -25,14 +25,15 @@ use Rattle.machine_meaning.specs.declared.machine.SpoolSet.{SpoolSet}
 use Rattle.machine_meaning.specs.declared.machine.Stage.{Stage}
 use Rattle.machine_meaning.specs.declared.machine.Stage.TheVariants.{Selected, Named, Admitted}
 use Rattle.machine_meaning.specs.declared.machine.Waiting.{Waiting}
+use Rattle.proc_library.specs.declared.library.LibraryProcedure.{LibraryProcedure}
 use Rattle.machine_meaning.specs.Queues.{HasNone, IsSelected, others_than}
 use Rattle.machine_meaning.specs.Spools.{HasNoSet, Takes, sets_of, with_sets}
 use Rattle.machine_meaning.specs.Turns.{Advanced, IsSafe, advanced, first_progress, progress_after}
 use Rattle.machine_meaning.specs.Worlds.{World, IsAt, HasNoInitiator, counted, of_job, with_running}
 
--- the job that a deck denotes, or why it is rejected
+-- the job that a deck denotes with these names of units and these procedures, or why it is rejected
 abbrev pub Denoting : Type 0
-Denoting = List (List ℕ) → Result JobPlan Cause
+Denoting = List (List ℕ) → List LibraryProcedure → List (List ℕ) → Result JobPlan Cause
 
 abbrev pub waits : ℕ → JobPlan → Waiting
 waits job plan = record {
@@ -46,9 +47,9 @@ waits job plan = record {
 -- A deck is read: its job takes the next number.
 pub data Reads (job_of : Denoting) (old : World) (deck : List (List ℕ)) (lines : List Entry) (new : World) : Type 0 where
   full : MOST_JOBS ≤ old.jobs → lines ≡ entry.Refused (A PastLimit) ∷ [] → new ≡ old → Reads job_of old deck lines new
-  rejected : (cause : Cause) → old.jobs < MOST_JOBS → job_of deck ≡ Err cause →
+  rejected : (cause : Cause) → old.jobs < MOST_JOBS → job_of old.units old.library deck ≡ Err cause →
       lines ≡ of_job (old.jobs + 1) (line.Rejected cause ∷ []) → new ≡ record old { jobs = old.jobs + 1 } → Reads job_of old deck lines new
-  read : (plan : JobPlan) → old.jobs < MOST_JOBS → job_of deck ≡ Ok plan →
+  read : (plan : JobPlan) → old.jobs < MOST_JOBS → job_of old.units old.library deck ≡ Ok plan →
       lines ≡ of_job (old.jobs + 1) (waits (old.jobs + 1) plan).listing →
       new ≡ record old { jobs = old.jobs + 1; waiting = old.waiting ++ waits (old.jobs + 1) plan ∷ [] } → Reads job_of old deck lines new
 

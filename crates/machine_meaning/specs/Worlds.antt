@@ -9,10 +9,13 @@ use Rattle.machine_meaning.specs.declared.machine.Initiator.{Initiator}
 use Rattle.machine_meaning.specs.declared.machine.Running.{Running}
 use Rattle.machine_meaning.specs.declared.machine.SpoolSet.{SpoolSet}
 use Rattle.machine_meaning.specs.declared.machine.Waiting.{Waiting}
+use Rattle.proc_library.specs.declared.library.LibraryProcedure.{LibraryProcedure}
 
 pub record World : Type 0 where
-  -- the serials as configured, and the session's programs
+  -- as configured: the serials, the names of units, the procedures, and the session's programs
   pub volumes : List (List ℕ)
+  pub units : List (List ℕ)
+  pub library : List LibraryProcedure
   pub programs : List SoloProgram
   pub initiators : List Initiator
   -- the jobs in the queue, in the order of reading

@@ -1,8 +1,10 @@
 //! The configuration of a machine.
-use jname_core::name8::UnitName;
+use jname_core::name8::{Name8, UnitName};
 use jname_core::serial::Serial;
+use plain::lent::Lent;
 use plain::listed::Listed;
 use plain::short::Short;
+use plain::text::Text;
 
 /// The most volumes.
 pub const MOST_VOLUMES: usize = 16;
@@ -35,6 +37,28 @@ pub struct ConfiguredUnit {
 pub struct ConfiguredInitiator {
     pub number: u8,
     pub classes: Short<8>,
+}
+
+/// A statement of the configuration.
+#[derive(Debug, Drop)]
+pub enum ConfigStatement<'a> {
+    Volume {
+        serial: Serial,
+        tracks: u16,
+    },
+    Unit {
+        name: UnitName,
+        serials: Listed<Serial>,
+    },
+    /// A procedure of the library, and its lines.
+    Procedure {
+        name: Name8,
+        lines: Listed<Lent<'a>>,
+    },
+    Initiator {
+        number: u16,
+        classes: Text,
+    },
 }
 
 /// Why a statement of the configuration is refused. It changes nothing.

@@ -1,6 +1,7 @@
 mod Cards
 mod Columns
 mod Continuations
+mod DdStatements
 mod Decks
 mod Examples
 mod Fields
@@ -9,6 +10,7 @@ mod Groups
 mod InStream
 mod Laws
 mod Lines
+mod NamedStatements
 mod Names
 mod Numbers
 mod OperandExamples
@@ -18,6 +20,8 @@ mod Quotes
 mod Said
 mod SessionExamples
 mod Sessions
+mod SetStatements
+mod StatementExamples
 mod Statements
 mod TextLines
 mod Values

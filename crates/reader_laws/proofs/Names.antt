@@ -4,6 +4,7 @@ use Rattle.std.specs.Prelude.{not, ◌&&◌, ◌||◌, ◌==◌, suc, nat_le, na
 use Rattle.std.specs.List.{list_all, list_any}
 use Rattle.std.proofs.lemmas.Bool.{and_parts, eqb-true, or_cases}
 use Rattle.std.proofs.lemmas.List.Elements.{All-weaker}
+use Rattle.std.proofs.lemmas.List.Folds.{list_all-append}
 use Rattle.std.proofs.lemmas.List.Splits.{slice_split_at, slice_split_none}
 use Rattle.std.proofs.lemmas.List.Sums.{AllPass-from_list_all}
 use Rattle.jname_core.specs.Characters.{is_component_character, is_first, is_name_character}
@@ -56,6 +57,23 @@ of_kind kind others (c ∷ cs) h k e =
       begins = ap not (among_passes is_first first_characters c refl first.0);
       consists = ap (λ (b : Bool). b && list_all kind cs) (among_passes kind first_characters c h first.0) ∙ all_among kind others cs k rest.0;
     }
+
+-- all of a name, and of a component, passes a test
+pub name_all : (p : ℕ → Bool) (text : List ℕ) → list_all p first_characters ≡ true → list_all p name_characters ≡ true → is_name text ≡ true →
+    list_all p text ≡ true
+name_all p text f n h = (of_kind p name_characters text f n h).consists
+
+pub component_all : (p : ℕ → Bool) (part : List ℕ) → list_all p first_characters ≡ true → list_all p component_characters ≡ true →
+    is_component part ≡ true → list_all p part ≡ true
+component_all p part f n h = (of_kind p component_characters part f n h).consists
+
+-- and all of a data set name
+pub joined_all : (p : ℕ → Bool) (part : List ℕ) (parts : List (List ℕ)) → list_all p first_characters ≡ true → list_all p component_characters ≡ true →
+    p 46 ≡ true → list_all is_component (part ∷ parts) ≡ true → list_all p (joined (part ∷ parts)) ≡ true
+joined_all p part [] f n d h = component_all p part f n (and_parts (is_component part) true h).0
+joined_all p part (next ∷ parts) f n d h =
+    let halves = and_parts (is_component part) (list_all is_component (next ∷ parts)) h in
+    list_all-append p part (46 ∷ joined (next ∷ parts)) ∙ λ i. component_all p part f n halves.0 i && (d i && joined_all p next parts f n d halves.1 i)
 
 pub none_other : (kind : ℕ → Bool) (text : List ℕ) → list_all kind text ≡ true → has_other_than kind text ≡ false
 none_other kind [] h = refl

@@ -12,11 +12,11 @@ use Rattle.jname_core.specs.Faults.{has_other_than, is_no_serial, unit_name_faul
 use Rattle.jname_core.specs.Faults as names
 use Rattle.session_text.specs.Fields.{before_star, repeated, star_in, times_at, times_in}
 use Rattle.session_text.specs.Statements.{says_by, says_in, says_of}
-use Rattle.reader_laws.specs.Spelled.{component_characters, is_among, name_characters}
+use Rattle.reader_laws.specs.Spelled.{component_characters, is_among, is_name, name_characters}
 use Rattle.reader_laws.specs.SpelledSessions.{Form, class_characters, is_of_line, is_serial, is_unit, is_word, line_with, number, spaced, times}
 use Rattle.reader_laws.specs.WrittenCards.{blanks, is_blank, is_empty}
 use Rattle.reader_laws.proofs.Fields.{is_false, is_field, no_position, none_pass, position_is, spaced_are}
-use Rattle.reader_laws.proofs.Names.{all_among, among_passes, neither, none_of, none_other, not_zero}
+use Rattle.reader_laws.proofs.Names.{all_among, among_passes, name_all, neither, none_of, none_other, not_zero}
 use Rattle.reader_laws.proofs.Numbers.{Spells, more_zeros, spelled, within_is}
 
 -- what a field is made of
@@ -119,6 +119,10 @@ not_past n most h = grind (arith)
 not_empty : (text : List ℕ) → is_empty text ≡ false → names.is_empty text ≡ false
 not_empty [] h = absurd cc
 not_empty (c ∷ text) h = not_zero (length text)
+
+pub name_good : (text : List ℕ) → is_name text ≡ true → is_good_field text ≡ true
+name_good [] h = absurd cc
+name_good (c ∷ cs) h = both (list_all is_good (c ∷ cs)) true (name_all is_good (c ∷ cs) refl refl h) refl
 
 pub serial_is : (text : List ℕ) → is_serial text ≡ true → is_no_serial text ≡ false
 serial_is text h =

@@ -3,6 +3,7 @@ use Rattle.std.proofs.Common.{◌≡◌, ◌++◌, ℕ, true, false, List, [], �
 use Rattle.std.specs.Prelude.{codes}
 use Rattle.std.specs.Fmt.{digits}
 use Rattle.std.proofs.lemmas.List.Elements.{All-cons, All-nil}
+use Rattle.machine_meaning.specs.declared.config.ConfigStatement.TheVariants as config
 use Rattle.machine_meaning.specs.declared.event.Event.TheVariants as event
 use Rattle.session_text.specs.declared.statement.Says.{Says}
 use Rattle.session_text.specs.declared.statement.Says.TheVariants as says
@@ -18,13 +19,16 @@ abbrev cards : List (List ℕ)
 cards = codes "//ONE JOB 1" ∷ codes "" ∷ codes "./ ENDED" ∷ []
 
 abbrev volume : Spelled
-volume = in_form (says.Volume (codes "VOL001") 100)
+volume = in_form (says.Config (config.Volume (codes "VOL001") 100) true)
 
 abbrev unit : Spelled
-unit = in_form (says.Unit (codes "3330") (codes "VOL001" ∷ codes "VOL-2" ∷ []))
+unit = in_form (says.Config (config.Unit (codes "3330") (codes "VOL001" ∷ codes "VOL-2" ∷ [])) true)
 
 abbrev initiator : Spelled
-initiator = in_form (says.Initiator 1 (codes "AB"))
+initiator = in_form (says.Config (config.Initiator 1 (codes "AB")) true)
+
+abbrev procedure : Spelled
+procedure = in_form (says.Config (config.Procedure (codes "COPY") (codes "//S EXEC PGM=COPY" ∷ codes "./" ∷ [])) true)
 
 abbrev deck : Spelled
 deck = in_form (says.Events (event.Read cards) 1)
@@ -36,7 +40,7 @@ abbrev write : Spelled
 write = wide (says.Events (event.Write 65) 12)
 
 abbrev session : List Spelled
-session = volume ∷ unit ∷ initiator ∷ deck ∷ turn ∷ write ∷ []
+session = volume ∷ unit ∷ initiator ∷ procedure ∷ deck ∷ turn ∷ write ∷ []
 
 abbrev line : List ℕ → List ℕ → List ℕ
 line text more = text ++ (10 ∷ more)
@@ -44,9 +48,12 @@ line text more = text ++ (10 ∷ more)
 abbrev block : List ℕ → List ℕ
 block more = line (codes "./ READ") (line (codes "//ONE JOB 1") (line [] (line (codes "./ ENDED") (line (codes "./ END") more))))
 
+abbrev procedure_block : List ℕ → List ℕ
+procedure_block more = line (codes "./ PROC COPY") (line (codes "//S EXEC PGM=COPY") (line (codes "./") (line (codes "./ END") more)))
+
 spelled : text_of session ≡
     line (codes "./ VOLUME VOL001 100") (line (codes "./ UNIT 3330 VOL001,VOL-2") (line (codes "./ INIT 1 AB")
-    (block (line (codes "./ TURN 15") (codes "./  WRITE  A*012  " ++ (13 ∷ 10 ∷ []))))))
+    (procedure_block (block (line (codes "./ TURN 15") (codes "./  WRITE  A*012  " ++ (13 ∷ 10 ∷ [])))))))
 unfolding digits
 spelled = refl
 
@@ -55,9 +62,10 @@ Sayable s = IsSaid s.says
 
 it_is_said : All Sayable session
 it_is_said =
-    All-cons Sayable volume (unit ∷ initiator ∷ deck ∷ turn ∷ write ∷ []) (refl, omega arith)
-    (All-cons Sayable unit (initiator ∷ deck ∷ turn ∷ write ∷ []) (refl, refl, refl)
-    (All-cons Sayable initiator (deck ∷ turn ∷ write ∷ []) (omega arith, refl)
+    All-cons Sayable volume (unit ∷ initiator ∷ procedure ∷ deck ∷ turn ∷ write ∷ []) (refl, omega arith)
+    (All-cons Sayable unit (initiator ∷ procedure ∷ deck ∷ turn ∷ write ∷ []) (refl, refl, refl)
+    (All-cons Sayable initiator (procedure ∷ deck ∷ turn ∷ write ∷ []) (omega arith, refl)
+    (All-cons Sayable procedure (deck ∷ turn ∷ write ∷ []) (refl, refl)
     (All-cons Sayable deck (turn ∷ write ∷ []) (refl, refl)
     (All-cons Sayable turn (write ∷ []) (omega arith, omega arith, omega arith, omega arith)
-    (All-cons Sayable write [] (refl, omega arith, omega arith) (All-nil Sayable))))))
+    (All-cons Sayable write [] (refl, omega arith, omega arith) (All-nil Sayable)))))))

@@ -9,7 +9,11 @@ use Rattle.std.proofs.lemmas.List.Folds.{list_all-append}
 use Rattle.std.proofs.Math.Seq.{take-append_seam}
 use Rattle.jname_core.specs.Decimals.{number_within}
 use Rattle.jname_core.specs.Faults.{is_no_serial}
+use Rattle.machine_meaning.specs.declared.config.ConfigStatement.{ConfigStatement}
+use Rattle.machine_meaning.specs.declared.config.ConfigStatement.TheVariants as config
 use Rattle.machine_meaning.specs.declared.event.Event.TheVariants as event
+use Rattle.session_text.specs.declared.fault.Fault.TheVariants.{BadValue}
+use Rattle.session_text.specs.declared.statement.Block.{Block}
 use Rattle.session_text.specs.declared.statement.Ending.TheVariants.{Whole}
 use Rattle.session_text.specs.declared.statement.LineSays.{LineSays}
 use Rattle.session_text.specs.declared.statement.Says.{Says}
@@ -17,12 +21,13 @@ use Rattle.session_text.specs.declared.statement.Says.TheVariants as says
 use Rattle.session_text.specs.declared.statement.Statement.{Statement}
 use Rattle.session_text.specs.Fields.{class_of, times_in}
 use Rattle.session_text.specs.Lines.{lines_of as rows_of}
-use Rattle.session_text.specs.Statements.{bad, behind_end, block_to, by_line, initiator_with, is_end, is_end_by, read_with, says_of, statement_at, statements_from, statements_of, turns_with, unit_with, volume_with, writes_with}
+use Rattle.session_text.specs.Statements.{bad, behind_end, block_says, block_to, by_line, configures, initiator_with, is_end, is_end_by, says_of, statement_at, statements_from, statements_of, turns_with, unit_with, volume_with, writes_with}
 use Rattle.reader_laws.specs.Spelled.{component_characters, name_characters}
-use Rattle.reader_laws.specs.SpelledSessions.{Form, IsSaid, Spelled, block_of, fields_of, is_card, is_of_line, line_with, lines_of, number, numbered, text_of, times}
+use Rattle.reader_laws.specs.SpelledSessions.{Form, IsConfigured, IsSaid, Spelled, block_of, config_block, config_fields, fields_of, is_card, is_of_line, line_with, lines_of, number, numbered, text_of, times, to_end}
 use Rattle.reader_laws.proofs.Fields.{is_false, position_is, spaced_are}
+use Rattle.reader_laws.proofs.Names.{name_is}
 use Rattle.reader_laws.proofs.Numbers.{within_is}
-use Rattle.reader_laws.proofs.Said.{class_good, class_is, class_no_star, is_good_field, line_of_line, line_says, listed_is, no_bad_serial, number_good, number_no_star, serial_is, serials_good, times_are, times_good, unit_is, word_good}
+use Rattle.reader_laws.proofs.Said.{class_good, class_is, class_no_star, is_good_field, line_of_line, line_says, listed_is, name_good, no_bad_serial, number_good, number_no_star, serial_is, serials_good, times_are, times_good, unit_is, word_good}
 use Rattle.reader_laws.proofs.TextLines.{lines_are}
 
 three : (a b c : Bool) → a ≡ true → b ≡ true → c ≡ true → (a && (b && (c && true))) ≡ true
@@ -32,18 +37,23 @@ two : (a b : Bool) → a ≡ true → b ≡ true → (a && (b && true)) ≡ true
 two a b h k = λ i. h i && (k i && true)
 
 -- the fields of what can be said are fields
-fields_good : (form : Form) (s : Says) → IsSaid s → list_all is_good_field (fields_of form s) ≡ true
-fields_good form (says.Volume serial tracks) h =
+config_good : (form : Form) (s : ConfigStatement) → IsConfigured s → list_all is_good_field (config_fields form s) ≡ true
+config_good form (config.Volume serial tracks) h =
     let k : tracks ≤ 65535 = h.1 in
     three true (is_good_field serial) (is_good_field (number form tracks)) refl (word_good 6 component_characters serial refl h.0)
     (number_good form tracks (omega arith))
-fields_good form (says.Unit name []) h = absurd cc
-fields_good form (says.Unit name (serial ∷ serials)) h =
+config_good form (config.Unit name []) h = absurd cc
+config_good form (config.Unit name (serial ∷ serials)) h =
     three true (is_good_field name) _ refl (word_good 8 name_characters name refl h.0) (serials_good serial serials h.2)
-fields_good form (says.Initiator n classes) h =
+config_good form (config.Procedure name lines) h = two true (is_good_field name) refl (name_good name h.0)
+config_good form (config.Initiator n classes) h =
     let k : n ≤ 65535 = h.0 in
     three true (is_good_field (number form n)) (is_good_field classes) refl (number_good form n (omega arith)) (word_good 8
     (codes "ABCDEFGHIJKLMNO") classes refl h.1)
+
+fields_good : (form : Form) (s : Says) → IsSaid s → list_all is_good_field (fields_of form s) ≡ true
+fields_good form (says.Config s true) h = config_good form s h
+fields_good form (says.Config s false) h = absurd h
 fields_good form (says.Events (event.Read cards) n) h = refl
 fields_good form (says.Events (event.Turn i) n) h =
     let low : i ≤ 15 = h.1 in
@@ -53,31 +63,44 @@ fields_good form (says.Events (event.Write class) n) h =
 fields_good form (says.Refused fault) h = absurd h
 
 -- what a statement's line says by itself
-abbrev line_of : Says → LineSays
-line_of (says.Events (event.Read cards) n) = LineSays.Opens None
-line_of s = LineSays.One s
+abbrev config_line : ConfigStatement → LineSays
+config_line (config.Volume serial tracks) = LineSays.One (configures (config.Volume serial tracks))
+config_line (config.Unit name serials) = LineSays.One (configures (config.Unit name serials))
+config_line (config.Procedure name lines) = LineSays.Opens (Block.Procedure name)
+config_line (config.Initiator n classes) = LineSays.One (configures (config.Initiator n classes))
 
-chosen_says : (b : Bool) (s other : LineSays) → b ≡ true → cond b s other ≡ s
-chosen_says true s other h = refl
-chosen_says false s other h = absurd cc
+abbrev line_of : Says → LineSays
+line_of (says.Config s has_end) = config_line s
+line_of (says.Events (event.Read cards) n) = LineSays.Opens Block.Deck
+line_of (says.Events (event.Turn i) n) = LineSays.One (says.Events (event.Turn i) n)
+line_of (says.Events (event.Write class) n) = LineSays.One (says.Events (event.Write class) n)
+line_of (says.Refused fault) = LineSays.One (says.Refused fault)
+
+config_said : (form : Form) (s : ConfigStatement) → IsConfigured s → says_of (line_with form (config_fields form s)) ≡ config_line s
+config_said form (config.Volume serial tracks) h =
+    let k : tracks ≤ 65535 = h.1 in
+    line_says form (codes "VOLUME") (serial ∷ number form tracks ∷ []) (config_good form (config.Volume serial tracks) h)
+    ∙ ap (λ (n : Option ℕ). LineSays.One (volume_with serial n)) (within_is form.zeros 0 65535 tracks (omega arith) (omega arith) k)
+    ∙ ap (λ (b : Bool). LineSays.One (cond b bad (configures (config.Volume serial tracks)))) (serial_is serial h.0)
+config_said form (config.Unit name []) h = absurd cc
+config_said form (config.Unit name (serial ∷ serials)) h =
+    let all : List (List ℕ) = serial ∷ serials in
+    let configured : Says = configures (config.Unit name all) in
+    line_says form (codes "UNIT") (name ∷ join_with_byte 44 all ∷ []) (config_good form (config.Unit name (serial ∷ serials)) h)
+    ∙ ap (λ (found : List (List ℕ)). LineSays.One (unit_with name found)) (listed_is serial serials h.2)
+    ∙ ap (λ (b : Bool). LineSays.One (cond (b && not (list_any is_no_serial all)) configured bad)) (ap is_none (unit_is name h.0))
+    ∙ ap (λ (b : Bool). LineSays.One (cond (not b) configured bad)) (no_bad_serial all h.2)
+config_said form (config.Procedure name lines) h =
+    line_says form (codes "PROC") (name ∷ []) (config_good form (config.Procedure name lines) h)
+    ∙ ap (λ (b : Bool). LineSays.Opens (cond b (Block.Procedure name) (Block.Faulty BadValue))) (ap is_none (name_is name h.0))
+config_said form (config.Initiator n classes) h =
+    let k : n ≤ 65535 = h.0 in
+    line_says form (codes "INIT") (number form n ∷ classes ∷ []) (config_good form (config.Initiator n classes) h)
+    ∙ ap (λ (m : Option ℕ). LineSays.One (initiator_with m classes)) (within_is form.zeros 0 65535 n (omega arith) (omega arith) k)
 
 said : (form : Form) (s : Says) → IsSaid s → says_of (line_with form (fields_of form s)) ≡ line_of s
-said form (says.Volume serial tracks) h =
-    let k : tracks ≤ 65535 = h.1 in
-    line_says form (codes "VOLUME") (serial ∷ number form tracks ∷ []) (fields_good form (says.Volume serial tracks) h)
-    ∙ ap (λ (n : Option ℕ). LineSays.One (volume_with serial n)) (within_is form.zeros 0 65535 tracks (omega arith) (omega arith) k)
-    ∙ ap (λ (b : Bool). LineSays.One (cond b bad (says.Volume serial tracks))) (serial_is serial h.0)
-said form (says.Unit name []) h = absurd cc
-said form (says.Unit name (serial ∷ serials)) h =
-    let all : List (List ℕ) = serial ∷ serials in
-    line_says form (codes "UNIT") (name ∷ join_with_byte 44 all ∷ []) (fields_good form (says.Unit name (serial ∷ serials)) h)
-    ∙ ap (λ (found : List (List ℕ)). LineSays.One (unit_with name found)) (listed_is serial serials h.2)
-    ∙ ap (λ (b : Bool). LineSays.One (cond (b && not (list_any is_no_serial all)) (says.Unit name all) bad)) (ap is_none (unit_is name h.0))
-    ∙ ap (λ (b : Bool). LineSays.One (cond (not b) (says.Unit name all) bad)) (no_bad_serial all h.2)
-said form (says.Initiator n classes) h =
-    let k : n ≤ 65535 = h.0 in
-    line_says form (codes "INIT") (number form n ∷ classes ∷ []) (fields_good form (says.Initiator n classes) h)
-    ∙ ap (λ (m : Option ℕ). LineSays.One (initiator_with m classes)) (within_is form.zeros 0 65535 n (omega arith) (omega arith) k)
+said form (says.Config s true) h = config_said form s h
+said form (says.Config s false) h = absurd h
 said form (says.Events (event.Read cards) n) h = line_says form (codes "READ") [] refl
 said form (says.Events (event.Turn i) n) h =
     let low : 1 ≤ i = h.0 in
@@ -137,33 +160,50 @@ one_line : (n : ℕ) (row : List ℕ) (s : Says) (rest : List (List ℕ)) → sa
     statements_from Whole n (row ∷ rest) ≡ statement_at n s ∷ statements_from Whole (n + 1) rest
 one_line n row s rest h = ap (λ (l : LineSays). by_line l Whole n rest (statements_from Whole (n + 1) rest) (behind_end Whole (n + 1) rest)) h
 
-one_block : (n : ℕ) (row : List ℕ) (cards : List (List ℕ)) (end : List ℕ) (rest : List (List ℕ)) → says_of row ≡ LineSays.Opens None →
+one_block : (n : ℕ) (row : List ℕ) (block : Block) (cards : List (List ℕ)) (end : List ℕ) (rest : List (List ℕ)) → says_of row ≡ LineSays.Opens block →
     list_all (λ r. not (is_end r)) cards ≡ true → is_end end ≡ true →
     statements_from Whole n (row ∷ (cards ++ end ∷ rest))
-    ≡ statement_at n (says.Events (event.Read cards) 1) ∷ statements_from Whole (n + 1 + length cards + 1) rest
-one_block n row cards end rest h all k =
+    ≡ statement_at n (block_says block cards) ∷ statements_from Whole (n + 1 + length cards + 1) rest
+one_block n row block cards end rest h all k =
     let rows : List (List ℕ) = cards ++ end ∷ rest in
     ap (λ (l : LineSays). by_line l Whole n rows (statements_from Whole (n + 1) rows) (behind_end Whole (n + 1) rows)) h
-    ∙ ap (λ (place : Option ℕ). block_to place Whole n None rows (behind_end Whole (n + 1) rows)) (position_is is_end cards end rest all k)
-    ∙ ap (λ (found : List (List ℕ)). statement_at n (read_with None found) ∷ behind_end Whole (n + 1) rows) (take-append_seam cards (end ∷ rest))
-    ∙ ap (λ (others : List Statement). statement_at n (says.Events (event.Read cards) 1) ∷ others) (behind (n + 1) cards end rest all k)
+    ∙ ap (λ (place : Option ℕ). block_to place Whole n block rows (behind_end Whole (n + 1) rows)) (position_is is_end cards end rest all k)
+    ∙ ap (λ (found : List (List ℕ)). statement_at n (block_says block found) ∷ behind_end Whole (n + 1) rows) (take-append_seam cards (end ∷ rest))
+    ∙ ap (λ (others : List Statement). statement_at n (block_says block cards) ∷ others) (behind (n + 1) cards end rest all k)
 
-statement_is : (n : ℕ) (form : Form) (s : Says) (rest : List (List ℕ)) → IsSaid s →
-    statements_from Whole n (lines_of form s ++ rest) ≡ statement_at n s ∷ statements_from Whole (n + length (lines_of form s)) rest
-statement_is n form (says.Volume serial tracks) rest h =
-    let s : Says = says.Volume serial tracks in one_line n (line_with form (fields_of form s)) s rest (said form s h)
-statement_is n form (says.Unit name serials) rest h =
-    let s : Says = says.Unit name serials in one_line n (line_with form (fields_of form s)) s rest (said form s h)
-statement_is n form (says.Initiator m classes) rest h =
-    let s : Says = says.Initiator m classes in one_line n (line_with form (fields_of form s)) s rest (said form s h)
-statement_is n form (says.Events (event.Read cards) m) rest h =
-    let s : Says = says.Events (event.Read cards) m in
-    let row : List ℕ = line_with form (fields_of form s) in
+-- a block in whole, and the rows behind it
+whole_block : (n : ℕ) (form : Form) (row : List ℕ) (block : Block) (cards rest : List (List ℕ)) → says_of row ≡ LineSays.Opens block →
+    list_all is_card cards ≡ true →
+    statements_from Whole n (row ∷ (to_end form cards ++ rest))
+    ≡ statement_at n (block_says block cards) ∷ statements_from Whole (n + suc (length (to_end form cards))) rest
+whole_block n form row block cards rest h all =
     let sum : length (cards ++ end_of form ∷ []) ≡ length cards + 1 = length-append cards (end_of form ∷ []) in
     let place : n + 1 + length cards + 1 ≡ n + suc (length (cards ++ end_of form ∷ [])) = omega arith in
     ap (λ (rows : List (List ℕ)). statements_from Whole n (row ∷ rows)) (append_assoc cards (end_of form ∷ []) rest)
-    ∙ one_block n row cards (end_of form) rest (said form s h) (no_ends cards h.1) (end_is form)
-    ∙ λ i. statement_at n (says.Events (event.Read cards) (sym h.0 i)) ∷ statements_from Whole (place i) rest
+    ∙ one_block n row block cards (end_of form) rest h (no_ends cards all) (end_is form)
+    ∙ ap (λ (m : ℕ). statement_at n (block_says block cards) ∷ statements_from Whole m rest) place
+
+config_is : (n : ℕ) (form : Form) (s : ConfigStatement) (rest : List (List ℕ)) → IsConfigured s →
+    statements_from Whole n (line_with form (config_fields form s) ∷ (config_block form s ++ rest))
+    ≡ statement_at n (configures s) ∷ statements_from Whole (n + suc (length (config_block form s))) rest
+config_is n form (config.Volume serial tracks) rest h =
+    let s : ConfigStatement = config.Volume serial tracks in one_line n (line_with form (config_fields form s)) (configures s) rest (config_said form s h)
+config_is n form (config.Unit name serials) rest h =
+    let s : ConfigStatement = config.Unit name serials in one_line n (line_with form (config_fields form s)) (configures s) rest (config_said form s h)
+config_is n form (config.Procedure name lines) rest h =
+    let s : ConfigStatement = config.Procedure name lines in
+    whole_block n form (line_with form (config_fields form s)) (Block.Procedure name) lines rest (config_said form s h) h.1
+config_is n form (config.Initiator m classes) rest h =
+    let s : ConfigStatement = config.Initiator m classes in one_line n (line_with form (config_fields form s)) (configures s) rest (config_said form s h)
+
+statement_is : (n : ℕ) (form : Form) (s : Says) (rest : List (List ℕ)) → IsSaid s →
+    statements_from Whole n (lines_of form s ++ rest) ≡ statement_at n s ∷ statements_from Whole (n + length (lines_of form s)) rest
+statement_is n form (says.Config s true) rest h = config_is n form s rest h
+statement_is n form (says.Config s false) rest h = absurd h
+statement_is n form (says.Events (event.Read cards) m) rest h =
+    let s : Says = says.Events (event.Read cards) m in
+    whole_block n form (line_with form (fields_of form s)) Block.Deck cards rest (said form s h) h.1
+    ∙ λ i. statement_at n (says.Events (event.Read cards) (sym h.0 i)) ∷ statements_from Whole (n + suc (length (to_end form cards))) rest
 statement_is n form (says.Events (event.Turn i) m) rest h =
     let s : Says = says.Events (event.Turn i) m in one_line n (line_with form (fields_of form s)) s rest (said form s h)
 statement_is n form (says.Events (event.Write class) m) rest h =
@@ -171,14 +211,22 @@ statement_is n form (says.Events (event.Write class) m) rest h =
 statement_is n form (says.Refused fault) rest h = absurd h
 
 -- lines of statements are lines
-block_is : (form : Form) (s : Says) → IsSaid s → list_all (list_all is_of_line) (block_of form s) ≡ true
-block_is form (says.Volume serial tracks) h = refl
-block_is form (says.Unit name serials) h = refl
-block_is form (says.Initiator n classes) h = refl
-block_is form (says.Events (event.Read cards) n) h =
+to_end_is : (form : Form) (cards : List (List ℕ)) → list_all is_card cards ≡ true → list_all (list_all is_of_line) (to_end form cards) ≡ true
+to_end_is form cards h =
     list_all-append (list_all is_of_line) cards (end_of form ∷ [])
-    ∙ ap (λ (b : Bool). b && (list_all is_of_line (end_of form) && true)) (cards_of_line cards h.1)
+    ∙ ap (λ (b : Bool). b && (list_all is_of_line (end_of form) && true)) (cards_of_line cards h)
     ∙ ap (λ (b : Bool). b && true) (line_of_line form (codes "END" ∷ []) refl)
+
+config_block_is : (form : Form) (s : ConfigStatement) → IsConfigured s → list_all (list_all is_of_line) (config_block form s) ≡ true
+config_block_is form (config.Volume serial tracks) h = refl
+config_block_is form (config.Unit name serials) h = refl
+config_block_is form (config.Procedure name lines) h = to_end_is form lines h.1
+config_block_is form (config.Initiator n classes) h = refl
+
+block_is : (form : Form) (s : Says) → IsSaid s → list_all (list_all is_of_line) (block_of form s) ≡ true
+block_is form (says.Config s true) h = config_block_is form s h
+block_is form (says.Config s false) h = absurd h
+block_is form (says.Events (event.Read cards) n) h = to_end_is form cards h.1
 block_is form (says.Events (event.Turn i) n) h = refl
 block_is form (says.Events (event.Write class) n) h = refl
 block_is form (says.Refused fault) h = absurd h

@@ -2,11 +2,13 @@
 use Rattle.std.specs.Prelude.{◌≡◌, ◌≤◌, ◌+◌, ℕ, ◌==◌, Bool, true, false, not, ◌&&◌, nat_eq, nat_le, List, [], ◌∷◌, ◌++◌, length, filter, codes, if◌then◌else◌}
 use Rattle.std.specs.List.{flat_map, join_with_byte, list_all, slice_split, starts_with}
 use Rattle.std.specs.Str.{bytes_eq}
+use Rattle.machine_meaning.specs.declared.config.ConfigStatement.{ConfigStatement}
+use Rattle.machine_meaning.specs.declared.config.ConfigStatement.TheVariants as config
 use Rattle.machine_meaning.specs.declared.event.Event.TheVariants as event
 use Rattle.session_text.specs.declared.statement.Says.{Says}
 use Rattle.session_text.specs.declared.statement.Says.TheVariants as says
 use Rattle.session_text.specs.declared.statement.Statement.{Statement}
-use Rattle.reader_laws.specs.Spelled.{component_characters, is_among, name_characters, number_with_zeros}
+use Rattle.reader_laws.specs.Spelled.{component_characters, is_among, is_name, name_characters, number_with_zeros}
 use Rattle.reader_laws.specs.WrittenCards.{blanks}
 
 -- what a writer may choose: the blanks before a field, one or more; those at the line's end; zeros before a number; that `*1` is left out; and
@@ -26,10 +28,14 @@ abbrev pub times : Form → List ℕ → ℕ → List ℕ
 times form text n = if form.short && n == 1 then text else text ++ (codes "*" ++ number form n)
 
 -- the fields of a statement's line, behind the first
+abbrev pub config_fields : Form → ConfigStatement → List (List ℕ)
+config_fields form (config.Volume serial tracks) = codes "VOLUME" ∷ serial ∷ number form tracks ∷ []
+config_fields form (config.Unit name serials) = codes "UNIT" ∷ name ∷ join_with_byte 44 serials ∷ []
+config_fields form (config.Procedure name lines) = codes "PROC" ∷ name ∷ []
+config_fields form (config.Initiator n classes) = codes "INIT" ∷ number form n ∷ classes ∷ []
+
 abbrev pub fields_of : Form → Says → List (List ℕ)
-fields_of form (says.Volume serial tracks) = codes "VOLUME" ∷ serial ∷ number form tracks ∷ []
-fields_of form (says.Unit name serials) = codes "UNIT" ∷ name ∷ join_with_byte 44 serials ∷ []
-fields_of form (says.Initiator n classes) = codes "INIT" ∷ number form n ∷ classes ∷ []
+fields_of form (says.Config statement has_end) = config_fields form statement
 fields_of form (says.Events (event.Read cards) n) = codes "READ" ∷ []
 fields_of form (says.Events (event.Turn i) n) = codes "TURN" ∷ times form (number form i) n ∷ []
 fields_of form (says.Events (event.Write class) n) = codes "WRITE" ∷ times form (class ∷ []) n ∷ []
@@ -42,10 +48,22 @@ spaced form (field ∷ fields) = 32 ∷ (blanks form.more_blanks ++ (field ++ sp
 abbrev pub line_with : Form → List (List ℕ) → List ℕ
 line_with form fields = codes "./" ++ spaced form fields
 
--- READ is followed by its cards and END
+-- READ is followed by its cards and END, PROC by the lines of the procedure and END
+abbrev pub to_end : Form → List (List ℕ) → List (List ℕ)
+to_end form cards = cards ++ line_with form (codes "END" ∷ []) ∷ []
+
+abbrev pub config_block : Form → ConfigStatement → List (List ℕ)
+config_block form (config.Volume serial tracks) = []
+config_block form (config.Unit name serials) = []
+config_block form (config.Procedure name lines) = to_end form lines
+config_block form (config.Initiator n classes) = []
+
 abbrev pub block_of : Form → Says → List (List ℕ)
-block_of form (says.Events (event.Read cards) n) = cards ++ line_with form (codes "END" ∷ []) ∷ []
-block_of form _ = []
+block_of form (says.Config statement has_end) = config_block form statement
+block_of form (says.Events (event.Read cards) n) = to_end form cards
+block_of form (says.Events (event.Turn i) n) = []
+block_of form (says.Events (event.Write class) n) = []
+block_of form (says.Refused fault) = []
 
 abbrev pub lines_of : Form → Says → List (List ℕ)
 lines_of form s = line_with form (fields_of form s) ∷ block_of form s
@@ -103,10 +121,16 @@ is_nonempty [] = false
 is_nonempty (x ∷ xs) = true
 
 -- what can be spelled
+abbrev pub IsConfigured : ConfigStatement → Type 0
+IsConfigured (config.Volume serial tracks) = (is_serial serial ≡ true) × (tracks ≤ 65535)
+IsConfigured (config.Unit name serials) = (is_unit name ≡ true) × (is_nonempty serials ≡ true) × (list_all is_serial serials ≡ true)
+IsConfigured (config.Procedure name lines) = (is_name name ≡ true) × (list_all is_card lines ≡ true)
+IsConfigured (config.Initiator n classes) = (n ≤ 65535) × (is_word 8 (codes "ABCDEFGHIJKLMNO") classes ≡ true)
+
+-- every block has its END
 abbrev pub IsSaid : Says → Type 0
-IsSaid (says.Volume serial tracks) = (is_serial serial ≡ true) × (tracks ≤ 65535)
-IsSaid (says.Unit name serials) = (is_unit name ≡ true) × (is_nonempty serials ≡ true) × (list_all is_serial serials ≡ true)
-IsSaid (says.Initiator n classes) = (n ≤ 65535) × (is_word 8 (codes "ABCDEFGHIJKLMNO") classes ≡ true)
+IsSaid (says.Config statement true) = IsConfigured statement
+IsSaid (says.Config statement false) = ⊥
 IsSaid (says.Events (event.Read cards) n) = (n ≡ 1) × (list_all is_card cards ≡ true)
 IsSaid (says.Events (event.Turn i) n) = (1 ≤ i) × (i ≤ 15) × (1 ≤ n) × (n ≤ 9999)
 IsSaid (says.Events (event.Write class) n) = (is_among class_characters class ≡ true) × (1 ≤ n) × (n ≤ 9999)

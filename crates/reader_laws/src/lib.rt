@@ -5,7 +5,7 @@
 ghost use Rattle.reader_laws.specs.CardLaws.{DeckReadsBack, NullStatementEnds, ShortLinesAreFilled, StatementReadsBack};
 ghost use Rattle.reader_laws.specs.OperandLaws.{OperandReadsBack, ValuesReadBack};
 ghost use Rattle.reader_laws.specs.SessionLaws.{SessionReadsBack};
-ghost use Rattle.reader_laws.specs.StatementLaws.{DdsReadBack, JobReadsBack, ProgramReadsBack};
+ghost use Rattle.reader_laws.specs.StatementLaws.{CallReadsBack, DdsReadBack, JobReadsBack, ProgramReadsBack, SetsReadBack};
 ghost use Rattle.reader_laws.specs.TextLaws.{NamesReadBack, NumberReadsBack, QuotedReadsBack};
 
 /// A statement that is written as cards reads back: its operand over as many cards as it takes, comments behind it and on a card of their
@@ -70,7 +70,17 @@ pub fn program_reads_back()
     ensures { ProgramReadsBack }
 {}
 
+/// An EXEC statement that names a procedure, with no symbols, reads back.
+pub fn call_reads_back()
+    ensures { CallReadsBack }
+{}
+
 /// DD statements of DUMMY, of data in the stream, of SYSOUT and of an unnamed set read back, with a name or without.
 pub fn dds_read_back()
     ensures { DdsReadBack }
+{}
+
+/// A DD statement of a set by its name and DISP, a status alone or up to three words in parentheses, reads back.
+pub fn sets_read_back()
+    ensures { SetsReadBack }
 {}

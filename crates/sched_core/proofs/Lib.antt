@@ -1,4 +1,4 @@
-mod UnitNames
+mod Configuring
 mod Queueing
 mod Selections
 mod Answering

@@ -12,7 +12,7 @@ use Rattle.machine_meaning.specs.Transitions.{Acts, Runs, waits}
 use Rattle.machine_meaning.specs.Worlds.{World, IsAt, of_job}
 use Rattle.sched_core.specs.declared.system.ApplyFault.{ApplyFault}
 use Rattle.sched_core.specs.declared.system.ApplyFault.TheVariants.{Refused, Memory}
-use Rattle.sched_core.specs.Jobs.{job_of}
+use Rattle.sched_core.specs.Jobs.{job_run}
 use Rattle.jcl_meaning.specs.NoSets.{HasNoSets}
 
 -- what was done is allowed; a refusal is shown as its line; where memory was wanting nothing changed
@@ -40,7 +40,7 @@ pub record IsKept (waiting : List Waiting) (jobs events : ℕ) : Type 0 where
 
 -- the events that were done, each with its lines
 abbrev pub IsDriven : World → List Event → List (List Entry) → ℕ → World → Type 0
-IsDriven old events entries done new = (done ≤ length events) × Runs job_of old (take done events) entries new
+IsDriven old events entries done new = (done ≤ length events) × Runs job_run old (take done events) entries new
 
 -- an initiator of the number is at this place
 abbrev pub IsPlaceOf : List Initiator → ℕ → ℕ → Type 0

@@ -1,6 +1,5 @@
 //! Machines and events, as tests write them.
 use crate::config::Config;
-use crate::system::System;
 use jcl_plan::entry::Entry;
 use machine_meaning::event::Event;
 use plain::draft::Draft;
@@ -150,8 +149,8 @@ pub fn event_of(alloc: Global, act: &Act) -> Result<Event<'static>, AllocError> 
     }
 }
 
-/// A machine whose initiator 1 selects from class A, and 2 from B and then from A.
-pub fn machine(alloc: Global) -> Result<System, AllocError> {
+/// Initiator 1 selects from class A, and 2 from B and then from A.
+pub fn configured(alloc: Global) -> Result<Config, AllocError> {
     let mut config = Config::new(alloc);
     let Ok(()) = config.add_initiator(1, b"A") else {
         return Err(AllocError);
@@ -159,7 +158,7 @@ pub fn machine(alloc: Global) -> Result<System, AllocError> {
     let Ok(()) = config.add_initiator(2, b"BA") else {
         return Err(AllocError);
     };
-    System::new(alloc, &config)
+    Ok(config)
 }
 
 /// Lists lines behind those that are there.

@@ -1,20 +1,25 @@
 //! The configuration of a machine, statement by statement.
-ghost use Rattle.std.specs.Prelude.{◌≡◌, None, Some, OnOk, OnErr, IfErr};
+ghost use Rattle.std.specs.Prelude.{◌≡◌, None, Some, OnOk, OnErr, IfErr, IfOk};
 ghost use Rattle.std.specs.List.{list_all};
 ghost use Rattle.jname_core.specs.Characters.{is_job_class};
-ghost use Rattle.machine_meaning.specs.Configs.{are_classes, are_different, has_class, has_initiator, has_volume, initiator_fault, nothing_configured, refused_by, unit_fault, volume_fault, with_initiator, with_unit, with_volume};
+ghost use Rattle.machine_meaning.specs.Configs.{are_classes, are_different, config_fault, configured, has_class, has_initiator, has_volume, initiator_fault, nothing_configured, procedure_fault, refused_by};
+ghost use Rattle.machine_meaning.specs.Configs.{unit_fault, unit_names, volume_fault, with_initiator, with_procedure, with_unit, with_volume};
 ghost use Rattle.sched_core.specs.Refusals.{IsRefusal};
 
 use crate::units::Units;
+use jcl_refs::units::UnitNames;
 use jname_core::character::is_job_class;
-use jname_core::name8::UnitName;
+use jname_core::name8::{Name8, UnitName};
 use jname_core::serial::Serial;
 use machine_meaning::config::{
-    ConfigFault, ConfiguredInitiator, ConfiguredUnit, ConfiguredVolume, LAST_INITIATOR,
-    MOST_TRACKS, MOST_UNITS, MOST_VOLUMES,
+    ConfigFault, ConfigStatement, ConfiguredInitiator, ConfiguredUnit, ConfiguredVolume,
+    LAST_INITIATOR, MOST_TRACKS, MOST_UNITS, MOST_VOLUMES,
 };
+use plain::lent::Lent;
 use plain::listed::Listed;
 use plain::short::Short;
+use plain::text::Text;
+use proc_library::library::{LibraryProcedure, ProcLibrary};
 use std::alloc::{AllocError, Global};
 use std::marker::Model;
 
@@ -42,6 +47,7 @@ pub struct Config {
     alloc: Global,
     volumes: Listed<ConfiguredVolume>,
     units: Units,
+    library: ProcLibrary,
     initiators: Listed<ConfiguredInitiator>,
 }
 
@@ -51,7 +57,7 @@ impl Model for Config {
 
     ghost Value = { Configuration };
 
-    ghost view = { λ c. record { volumes = c.volumes; units = c.units; initiators = c.initiators } };
+    ghost view = { λ c. record { volumes = c.volumes; units = c.units; library = c.library; initiators = c.initiators } };
 }
 
 fn refused_by(value: bool, twice: bool) -> Option<ConfigFault>
@@ -113,6 +119,17 @@ fn has_initiator(initiators: &[ConfiguredInitiator], number: u16) -> bool
     initiators.iter().any(|x| u16::from(x.number) == number)
 }
 
+/// The lines of a procedure, which outlive the text that lends them.
+fn copied(alloc: Global, lines: &[Lent<'_>]) -> Result<Listed<Text>, AllocError>
+    ensures { IfOk result (λ copies. copies ≡ lines.now) }
+{
+    let mut copies = Listed::empty(alloc);
+    for line in lines {
+        copies.push(Text::copy_of(alloc, line.as_slice())?)?;
+    }
+    Ok(copies)
+}
+
 impl Config {
     /// Nothing is configured.
     pub fn new(alloc: Global) -> Config
@@ -122,6 +139,7 @@ impl Config {
             alloc,
             volumes: Listed::empty(alloc),
             units: Units::new(alloc),
+            library: ProcLibrary::new(alloc),
             initiators: Listed::empty(alloc),
         }
     }
@@ -130,6 +148,19 @@ impl Config {
         ensures { result.now ≡ self.now.volumes }
     {
         self.volumes.as_slice()
+    }
+
+    /// The names of the units, with their numbers.
+    pub fn unit_names(&self) -> &UnitNames
+        ensures { result.now ≡ unit_names self.now.units }
+    {
+        self.units.names()
+    }
+
+    pub fn library(&self) -> &ProcLibrary
+        ensures { result.now ≡ self.now.library }
+    {
+        &self.library
     }
 
     pub fn initiators(&self) -> &[ConfiguredInitiator]
@@ -156,6 +187,12 @@ impl Config {
                 || !has_volumes(self.volumes.as_slice(), serials),
             self.units.has(name),
         )
+    }
+
+    fn procedure_fault(&self, name: &Name8) -> Option<ConfigFault>
+        ensures { result ≡ procedure_fault self.now name.now }
+    {
+        refused_by(false, self.library.has(name))
     }
 
     fn initiator_fault(&self, number: u16, classes: &[u8]) -> Option<ConfigFault>
@@ -196,6 +233,21 @@ impl Config {
         Ok(())
     }
 
+    /// A procedure; its lines are read where it is called. A refusal, and want of memory, change nothing.
+    pub fn add_procedure(&mut self, name: Name8, lines: &[Lent<'_>]) -> Result<(), ConfigError>
+        ensures sound { OnOk result (procedure_fault self.old name ≡ None) }
+        ensures ok { OnOk result (self.new ≡ with_procedure self.old name lines.now) }
+        ensures refused { IfErr result (IsRefusal (procedure_fault self.old name)) }
+        ensures err { OnErr result (self.new ≡ self.old) }
+    {
+        if let Some(fault) = self.procedure_fault(&name) {
+            return Err(ConfigError::Refused(fault));
+        }
+        let lines = copied(self.alloc, lines)?;
+        self.library.add(LibraryProcedure { name, lines })?;
+        Ok(())
+    }
+
     /// An initiator 1 to 15 and its one to eight different classes A to O. A refusal, and want of memory, change nothing.
     pub fn add_initiator(&mut self, number: u16, classes: &[u8]) -> Result<(), ConfigError>
         ensures sound { OnOk result (initiator_fault self.old number classes.now ≡ None) }
@@ -211,5 +263,38 @@ impl Config {
         self.initiators
             .push(ConfiguredInitiator { number, classes })?;
         Ok(())
+    }
+
+    /// What refuses a statement. It changes nothing and takes no memory.
+    pub fn fault(&self, statement: &ConfigStatement<'_>) -> Option<ConfigFault>
+        ensures { result ≡ config_fault self.now statement.now }
+    {
+        match statement {
+            ConfigStatement::Volume { serial, tracks } => self.volume_fault(serial, *tracks),
+            ConfigStatement::Unit { name, serials } => self.unit_fault(name, serials.as_slice()),
+            ConfigStatement::Procedure { name, .. } => self.procedure_fault(name),
+            ConfigStatement::Initiator { number, classes } => {
+                self.initiator_fault(*number, classes.as_slice())
+            }
+        }
+    }
+
+    /// A statement. A refusal, and want of memory, change nothing.
+    pub fn add(&mut self, statement: &ConfigStatement<'_>) -> Result<(), ConfigError>
+        ensures sound { OnOk result (config_fault self.old statement.now ≡ None) }
+        ensures ok { OnOk result (self.new ≡ configured self.old statement.now) }
+        ensures refused { IfErr result (IsRefusal (config_fault self.old statement.now)) }
+        ensures err { OnErr result (self.new ≡ self.old) }
+    {
+        match statement {
+            ConfigStatement::Volume { serial, tracks } => self.add_volume(*serial, *tracks),
+            ConfigStatement::Unit { name, serials } => self.add_unit(*name, serials.as_slice()),
+            ConfigStatement::Procedure { name, lines } => {
+                self.add_procedure(*name, lines.as_slice())
+            }
+            ConfigStatement::Initiator { number, classes } => {
+                self.add_initiator(*number, classes.as_slice())
+            }
+        }
     }
 }

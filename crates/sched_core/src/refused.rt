@@ -1,5 +1,6 @@
 //! Want of memory: an event that is refused for it changes nothing, and is done when it is repeated.
-use crate::cases::{STEPS, event_of, list, machine};
+use crate::cases::{STEPS, configured, event_of, list};
+use crate::config::Config;
 use crate::system::System;
 use machine_meaning::event::Event;
 use plain::draft::Draft;
@@ -9,17 +10,17 @@ use std::test::Fail;
 /// How many of the events: three jobs wait, one is run to its end, and some of its lines are written.
 const EVENTS: usize = 22;
 
-/// A machine, its events, what they list, and room for that listing.
+/// The configuration of a machine, its events, what they list, and room for that listing.
 #[derive(Drop)]
 struct Fixture {
-    system: System,
+    config: Config,
     events: Vec<Event<'static>>,
     wanted: Vec<u8>,
     text: Draft,
 }
 
 fn prepared(alloc: Global) -> Result<Fixture, AllocError> {
-    let system = machine(alloc)?;
+    let config = configured(alloc)?;
     let mut events = Vec::new(alloc);
     let mut wanted = Vec::new(alloc);
     for (act, lines) in STEPS.iter().take(EVENTS) {
@@ -28,7 +29,7 @@ fn prepared(alloc: Global) -> Result<Fixture, AllocError> {
     }
     let text = Draft::with_room(alloc, wanted.len())?;
     Ok(Fixture {
-        system,
+        config,
         events,
         wanted,
         text,
@@ -46,11 +47,18 @@ fn refused_memory_keeps_the_machine(rt: HostRuntime) -> Result<(), Fail> {
         }
     };
     let Fixture {
-        mut system,
+        config,
         events,
         wanted,
         mut text,
     } = all;
+    let mut system = match System::new(rt.alloc(), &config) {
+        Ok(system) => system,
+        Err(_) => {
+            refused = true;
+            System::new(rt.alloc(), &config)?
+        }
+    };
     for event in &events {
         let lines = match system.apply_shown(event) {
             Ok(lines) => lines,
@@ -77,11 +85,18 @@ fn refused_memory_stops_a_drive(rt: HostRuntime) -> Result<(), Fail> {
         }
     };
     let Fixture {
-        mut system,
+        config,
         events,
         wanted,
         mut text,
     } = all;
+    let mut system = match System::new(rt.alloc(), &config) {
+        Ok(system) => system,
+        Err(_) => {
+            refused = true;
+            System::new(rt.alloc(), &config)?
+        }
+    };
     let first = system.drive(events.as_slice());
     assert_eq!(rt; first.entries.len(), first.done);
     assert!(rt; first.done <= events.len());

@@ -5,27 +5,29 @@ ghost use Rattle.machine_meaning.specs.Configs.{idle, start_of};
 ghost use Rattle.jcl_plan.specs.declared.entry.JobLine.TheVariants as line;
 ghost use Rattle.machine_meaning.specs.declared.machine.TheConstants.{MOST_JOBS};
 ghost use Rattle.machine_meaning.specs.Transitions.{Does, Reads, Transition, Turns, Writes, waits};
-ghost use Rattle.sched_core.specs.Jobs.{job_of};
+ghost use Rattle.sched_core.specs.Jobs.{job_run};
 ghost use Rattle.sched_core.specs.Systems.{ActsAt, Answers, IsDriven, IsIdleAt, IsPlaceOf, IsTakenIn, KeepsIfRefused, RefusesFirst, RunsAt};
 ghost use Rattle.jcl_meaning.specs.NoSets.{HasNoSets};
 
 use crate::config::Config;
-use crate::jobs::job_of;
+use crate::jobs::job_run;
 use crate::queue::Backlog;
 use init_core::initiator::Initiator;
-use jcl_parse::refusal::ReadError;
 use jcl_plan::entry::{Entry, JobLine};
 use jcl_plan::fault::{Cause, EventFault};
 use jcl_plan::plan::JobPlan;
+use jcl_refs::units::UnitNames;
 use jname_core::serial::Serial;
 use machine_meaning::config::{ConfiguredInitiator, ConfiguredVolume};
 use machine_meaning::event::Event;
 use machine_meaning::machine::{MOST_EVENTS, MOST_JOBS, Waiting};
 use plain::lent::Lent;
 use plain::listed::Listed;
+use proc_library::library::ProcLibrary;
 use spool_core::spool::Spool;
 use std::alloc::{AllocError, Global};
 use std::marker::Model;
+use value_core::refusal::ReadError;
 
 /// Why an event was not done.
 #[derive(Clone, Copy, Debug, PartialEq, Eq)]
@@ -58,9 +60,11 @@ pub struct Driven {
 
 /// The machine between two events.
 #[derive(Debug, Drop)]
-pub struct System {
+pub struct System<'c> {
     alloc: Global,
     volumes: Listed<Serial>,
+    units: &'c UnitNames,
+    library: &'c ProcLibrary,
     initiators: Vec<Initiator>,
     waiting: Backlog,
     spool: Spool,
@@ -68,7 +72,7 @@ pub struct System {
     events: u16,
 }
 
-impl Model for System {
+impl<'c> Model for System<'c> {
     ghost use Rattle.std.specs.Prelude.{◌≤◌, []};
     ghost use Rattle.machine_meaning.specs.Worlds.{World};
     ghost use Rattle.sched_core.specs.Systems.{IsKept};
@@ -77,6 +81,8 @@ impl Model for System {
 
     ghost view = { λ s. record {
       volumes = s.volumes;
+      units = s.units.now;
+      library = s.library.now;
       programs = [];
       initiators = s.initiators.items;
       waiting = s.waiting;
@@ -132,9 +138,9 @@ fn idle_of(alloc: Global, configured: &[ConfiguredInitiator]) -> Result<Vec<Init
     Ok(initiators)
 }
 
-impl System {
+impl<'c> System<'c> {
     /// The machine of a configuration, before its first event.
-    pub fn new(alloc: Global, config: &Config) -> Result<System, AllocError>
+    pub fn new(alloc: Global, config: &'c Config) -> Result<System<'c>, AllocError>
         ensures { IfOk result (λ system. system ≡ start_of config.now) }
     {
         let volumes = serials_of(alloc, config.volumes())?;
@@ -142,6 +148,8 @@ impl System {
         Ok(System {
             alloc,
             volumes,
+            units: config.unit_names(),
+            library: config.library(),
             initiators,
             waiting: Backlog::new(alloc),
             spool: Spool::new(alloc),
@@ -152,15 +160,15 @@ impl System {
 
     /// A deck is read.
     fn read(&mut self, deck: &[Lent<'_>]) -> Result<Listed<Entry>, ApplyFault>
-        ensures answer { Answers result self.old self.new (Reads job_of self.old deck.now) }
-        ensures refusal { RefusesFirst result (Reads job_of self.old deck.now) }
+        ensures answer { Answers result self.old self.new (Reads job_run self.old deck.now) }
+        ensures refusal { RefusesFirst result (Reads job_run self.old deck.now) }
         ensures kept { KeepsIfRefused result self.old self.new }
     {
         if MOST_JOBS <= self.jobs {
             return Err(ApplyFault::Refused(Cause::A(EventFault::PastLimit)));
         }
         let job = self.jobs + 1;
-        match job_of(self.alloc, deck) {
+        match job_run(self.alloc, self.units, self.library, deck) {
             Err(ReadError::Memory) => Err(ApplyFault::Memory),
             Err(ReadError::Refused(cause)) => {
                 let lines = one(self.alloc, Entry::Job(job, JobLine::Rejected(cause)))?;
@@ -259,8 +267,8 @@ impl System {
 
     /// An event that is not past the last.
     fn does(&mut self, event: &Event<'_>) -> Result<Listed<Entry>, ApplyFault>
-        ensures answer { Answers result self.old self.new (Does job_of self.old event.now) }
-        ensures refusal { RefusesFirst result (Does job_of self.old event.now) }
+        ensures answer { Answers result self.old self.new (Does job_run self.old event.now) }
+        ensures refusal { RefusesFirst result (Does job_run self.old event.now) }
         ensures kept { KeepsIfRefused result self.old self.new }
     {
         match event {
@@ -272,8 +280,8 @@ impl System {
 
     /// One event. A refusal changes the count of events alone and takes no memory; want of memory changes nothing.
     pub fn apply(&mut self, event: &Event<'_>) -> Result<Listed<Entry>, ApplyFault>
-        ensures answer { Answers result self.old self.new (Transition job_of self.old event.now) }
-        ensures refusal { RefusesFirst result (Transition job_of self.old event.now) }
+        ensures answer { Answers result self.old self.new (Transition job_run self.old event.now) }
+        ensures refusal { RefusesFirst result (Transition job_run self.old event.now) }
         ensures kept { KeepsIfRefused result self.old self.new }
     {
         if MOST_EVENTS <= self.events {
@@ -289,7 +297,7 @@ impl System {
 
     /// One event, and a refusal as its line. Want of memory changes nothing.
     pub fn apply_shown(&mut self, event: &Event<'_>) -> Result<Listed<Entry>, AllocError>
-        ensures step { IfOk result (λ lines. Transition job_of self.old event.now lines self.new) }
+        ensures step { IfOk result (λ lines. Transition job_run self.old event.now lines self.new) }
         ensures err { OnErr result (self.new ≡ self.old) }
     {
         let events = self.events;
@@ -330,6 +338,8 @@ impl System {
         let System {
             alloc: _,
             volumes: _,
+            units: _,
+            library: _,
             initiators: _,
             waiting: _,
             spool: _,

@@ -1,24 +1,25 @@
 //! Events with the lines that they list, and what is refused.
-use crate::cases::{Act, STEPS, deck_of, event_of, list, machine};
+use crate::cases::{Act, STEPS, configured, deck_of, event_of, list};
 use crate::config::{Config, ConfigError};
-use crate::jobs::job_of;
+use crate::jobs::job_run;
 use crate::system::{ApplyFault, System};
-use jcl_parse::refusal::ReadError;
 use jcl_plan::entry::Entry;
 use jcl_plan::fault::{Cause, EventFault, StatementFault};
-use jname_core::name8::UnitName;
+use jname_core::name8::{Name8, UnitName};
 use jname_core::serial::Serial;
 use machine_meaning::config::ConfigFault;
 use machine_meaning::event::Event;
 use plain::draft::Draft;
+use plain::lent::Lent;
 use std::alloc::{AllocError, Global};
 use std::process::Abort;
 use std::test::Fail;
+use value_core::refusal::ReadError;
 
 /// The text of an event's lines, or the line of its refusal, and whether it is refused.
 fn told(
     alloc: Global,
-    system: &mut System,
+    system: &mut System<'_>,
     event: &Event<'_>,
 ) -> Result<(Draft, bool), AllocError> {
     let mut text = Draft::empty(alloc);
@@ -37,7 +38,8 @@ fn told(
 
 #[test]
 fn each_event_has_its_lines(rt: HostRuntime) -> Result<(), Fail> {
-    let mut system = machine(rt.alloc())?;
+    let config = configured(rt.alloc())?;
+    let mut system = System::new(rt.alloc(), &config)?;
     for (at, (act, lines)) in STEPS.iter().enumerate() {
         let event = event_of(rt.alloc(), act)?;
         let (text, refused) = told(rt.alloc(), &mut system, &event)?;
@@ -50,7 +52,8 @@ fn each_event_has_its_lines(rt: HostRuntime) -> Result<(), Fail> {
 
 #[test]
 fn drives_events_one_after_another(rt: HostRuntime) -> Result<(), Fail> {
-    let mut system = machine(rt.alloc())?;
+    let config = configured(rt.alloc())?;
+    let mut system = System::new(rt.alloc(), &config)?;
     let none = system.drive(&[]);
     assert_eq!(rt; (none.done, none.entries.len()), (0, 0));
     let mut events = Vec::new(rt.alloc());
@@ -71,7 +74,13 @@ fn drives_events_one_after_another(rt: HostRuntime) -> Result<(), Fail> {
 }
 
 /// Applies an event so many times, each of which is refused by this number.
-fn refuses(rt: &impl Abort, system: &mut System, event: &Event<'_>, times: u32, fault: EventFault) {
+fn refuses(
+    rt: &impl Abort,
+    system: &mut System<'_>,
+    event: &Event<'_>,
+    times: u32,
+    fault: EventFault,
+) {
     let refused = Some(ApplyFault::Refused(Cause::A(fault)));
     for time in 0..times {
         assert_eq!(rt; system.apply(event).err(), refused, "time {time}");
@@ -93,14 +102,14 @@ const FIRST_JOB: &str = "0001 SELECTED 1
 ";
 
 /// Reads empty decks up to the last number of a job.
-fn fill_jobs(rt: &impl Abort, system: &mut System, empty: &Event<'_>) {
+fn fill_jobs(rt: &impl Abort, system: &mut System<'_>, empty: &Event<'_>) {
     for job in 2..=9_999u32 {
         assert!(rt; system.apply(empty).is_ok(), "job {job}");
     }
 }
 
 /// Runs the first job to its end.
-fn run_first(rt: &impl Abort, alloc: Global, system: &mut System) -> Result<(), AllocError> {
+fn run_first(rt: &impl Abort, alloc: Global, system: &mut System<'_>) -> Result<(), AllocError> {
     let mut text = Draft::empty(alloc);
     for _ in 0..20u32 {
         if let Ok(lines) = system.apply(&Event::Turn(1)) {
@@ -113,7 +122,8 @@ fn run_first(rt: &impl Abort, alloc: Global, system: &mut System) -> Result<(), 
 
 #[test]
 fn a_refused_event_counts_and_changes_nothing_else(rt: HostRuntime) -> Result<(), Fail> {
-    let mut system = machine(rt.alloc())?;
+    let config = configured(rt.alloc())?;
+    let mut system = System::new(rt.alloc(), &config)?;
     let first = event_of(rt.alloc(), &Act::Read(FIRST_DECK))?;
     let empty = event_of(rt.alloc(), &Act::Read(""))?;
     refuses(
@@ -278,7 +288,8 @@ fn initiators_are_taken_or_have_their_faults(rt: HostRuntime) -> Result<(), Fail
     Ok(())
 }
 
-/// Decks, and why they are refused: first their cards, then their statements, then a procedure that is called, then what the machine does not run.
+/// Decks, and why they are refused: first their cards, then their statements, then the procedures that they call, then their plan, then what the
+/// machine does not run.
 const DECKS: &[(&str, Option<Cause>)] = &[
     ("//J JOB 1\n//S EXEC PGM=A\n//X DD DUMMY\n//\n", None),
     ("", Some(Cause::P(StatementFault::NotOneJob))),
@@ -333,28 +344,76 @@ const DECKS: &[(&str, Option<Cause>)] = &[
         Some(Cause::P(StatementFault::NoSuchProcedure)),
     ),
     (
-        "//J JOB 1\n//S EXEC PGM=A\n//S2 EXEC PGM=A\n",
-        Some(Cause::P(StatementFault::LeftOut)),
+        "//J JOB 1\n//S EXEC PGM=A\n//S2 EXEC PGM=A,COND=(0,NE,S)\n",
+        None,
     ),
     (
         "//J JOB 1\n//S EXEC PGM=A\n//X DD DUMMY\n// DD DUMMY\n",
+        None,
+    ),
+    ("//J JOB 1\n//S EXEC P,C=A\n", None),
+    (
+        "//J JOB 1\n//S EXEC P\n",
+        Some(Cause::P(StatementFault::SymbolWithoutValue)),
+    ),
+    (
+        "//J JOB 1\n//S EXEC PGM=A,COND=(0,NE,T)\n",
+        Some(Cause::P(StatementFault::TestOfNoEarlierStep)),
+    ),
+    (
+        "//J JOB 1\n//S EXEC PGM=A\n//X DD UNIT=NONE\n",
+        Some(Cause::P(StatementFault::UnknownUnit)),
+    ),
+    (
+        "//J JOB 1\n//S EXEC PGM=A\n//X DD UNIT=DISK\n",
         Some(Cause::P(StatementFault::LeftOut)),
     ),
     (
         "//J JOB 1\n//S EXEC PGM=A\n//X DD\n",
         Some(Cause::P(StatementFault::LeftOut)),
     ),
-    (
-        "//J JOB 1\n//S EXEC PGM=A,COND=EVEN\n",
-        Some(Cause::P(StatementFault::LeftOut)),
-    ),
+    ("//J JOB 1\n//S EXEC PGM=A,COND=EVEN\n", None),
 ];
+
+/// A volume, a unit, and a procedure with a symbol that no value is given to.
+fn configured_for_decks(alloc: Global) -> Result<Config, Fail> {
+    let mut config = Config::new(alloc);
+    let serial = serial_of(b"V1")?;
+    let lines = [
+        Lent::new(b"//A EXEC PGM=IEFBR14"),
+        Lent::new(b"//O DD SYSOUT=&C"),
+    ];
+    config.add_volume(serial, 1).map_err(|_| "a volume")?;
+    config
+        .add_unit(UnitName::read(b"DISK")?, &[serial])
+        .map_err(|_| "a unit")?;
+    config
+        .add_procedure(Name8::read(b"P")?, &lines)
+        .map_err(|_| "a procedure")?;
+    Ok(config)
+}
+
+#[test]
+fn a_procedure_is_taken_once(rt: HostRuntime) -> Result<(), Fail> {
+    let mut config = configured_for_decks(rt.alloc())?;
+    let twice = config.add_procedure(Name8::read(b"P")?, &[]);
+    assert_eq!(rt; twice, error_of(&Some(ConfigFault::DefinedTwice)));
+    let other = config.add_procedure(Name8::read(b"Q")?, &[]);
+    assert_eq!(rt; other, Ok(()));
+    Ok(())
+}
 
 #[test]
 fn a_deck_denotes_a_job_or_has_its_first_refusal(rt: HostRuntime) -> Result<(), Fail> {
+    let config = configured_for_decks(rt.alloc())?;
     for (text, cause) in DECKS {
         let deck = deck_of(rt.alloc(), text)?;
-        let refused = match job_of(rt.alloc(), deck.as_slice()) {
+        let refused = match job_run(
+            rt.alloc(),
+            config.unit_names(),
+            config.library(),
+            deck.as_slice(),
+        ) {
             Ok(_) => None,
             Err(ReadError::Refused(cause)) => Some(cause),
             Err(ReadError::Memory) => return Err(Fail::from(AllocError)),

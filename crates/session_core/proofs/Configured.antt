@@ -1,19 +1,18 @@
 -- How far the configuration has come.
-use Rattle.std.proofs.Common.{◌≡◌, ℕ, Bool, false, ◌||◌, List, [], ◌∷◌, ◌++◌, Some, None, Err, refl, sym, ap, ◌∙◌}
+use Rattle.std.proofs.Common.{◌≡◌, Bool, false, true, ◌||◌, List, [], ◌∷◌, ◌++◌, Some, None, Err, refl, sym, ap, ◌∙◌}
 use Rattle.machine_meaning.specs.declared.config.ConfigFault.{ConfigFault}
-use Rattle.machine_meaning.specs.declared.config.ConfigFault.TheVariants as config
-use Rattle.machine_meaning.specs.declared.event.Event.{Event}
-use Rattle.machine_meaning.specs.Configs.{Configuration}
+use Rattle.machine_meaning.specs.declared.config.ConfigStatement.{ConfigStatement}
+use Rattle.machine_meaning.specs.Configs.{Configuration, config_fault, configured}
 use Rattle.session_text.specs.declared.fault.Fault.{Fault}
-use Rattle.session_text.specs.declared.statement.Says.TheVariants.{Events, Refused}
+use Rattle.session_text.specs.declared.fault.Fault.TheVariants.{NoEnd}
+use Rattle.session_text.specs.declared.statement.Says.TheVariants.{Config}
 use Rattle.session_text.specs.declared.statement.Statement.{Statement}
 use Rattle.session_core.specs.declared.SessionEnd.{SessionEnd}
 use Rattle.session_core.specs.declared.SessionFault.TheVariants.{Stopped}
-use Rattle.session_core.specs.Configuring.{config_fault, told}
 use Rattle.session_core.specs.Listings.{Lists}
 use Rattle.session_core.specs.Outcomes.{IsOutcome}
-use Rattle.session_core.specs.Sessions.{config_of, configured, events_of, fault_behind, has_begun, has_events, session_behind, unless_late, world_of}
-use Rattle.session_core.proofs.Standing.{config_has_no_events, config_of-more, fault_of-config, goes_on, has_begun-more, no_events, stops_at}
+use Rattle.session_core.specs.Sessions.{config_of, configured_by, events_of, fault_behind, has_begun, has_events, session_behind, told, unless_late, world_of}
+use Rattle.session_core.proofs.Standing.{config_of-more, goes_on, has_begun-more, no_events, stops_at}
 
 -- these statements are configuration, and all of them stand
 pub record Configured (all before rest : List Statement) (c : Configuration) : Type 0 where
@@ -24,15 +23,16 @@ pub record Configured (all before rest : List Statement) (c : Configuration) : T
 pub Configured-none : (all : List Statement) (c : Configuration) → c ≡ config_of [] → Configured all [] all c
 Configured-none all c is = record { session = refl; configured = is; not_begun = refl }
 
-pub Configured-more : (all before rest : List Statement) (s : Statement) (c new : Configuration) → Configured all before (s ∷ rest) c
-    → ((f : Fault) → s.says ≡ Refused f → ⊥) → ((e : Event) (times : ℕ) → s.says ≡ Events e times → ⊥) → config_fault c s.says ≡ None → new ≡ configured c s.says → Configured all (before ++ s ∷ []) rest new
-Configured-more all before rest s c new p not_refused not_events none is =
-    let own : config_fault (config_of before) s.says ≡ None = ap (λ x. config_fault x s.says) (sym p.configured) ∙ none in
-    let good : fault_behind before s.says ≡ None = fault_of-config before s.says not_refused not_events ∙ ap (λ o. unless_late o (has_begun before)) own ∙ ap (unless_late None) p.not_begun in
+pub Configured-more : (all before rest : List Statement) (s : Statement) (statement : ConfigStatement) (c new : Configuration) → Configured all before (s ∷ rest) c
+    → s.says ≡ Config statement true → config_fault c statement ≡ None → new ≡ configured c statement → Configured all (before ++ s ∷ []) rest new
+Configured-more all before rest s statement c new p says none is =
+    let own : config_fault (config_of before) statement ≡ None = ap (λ x. config_fault x statement) (sym p.configured) ∙ none in
+    let good : fault_behind before s.says ≡ None
+    = ap (fault_behind before) says ∙ ap (λ o. unless_late o true (has_begun before)) own ∙ ap (unless_late None true) p.not_begun in
     record {
       session = p.session ∙ goes_on before rest s good;
-      configured = is ∙ ap (λ x. configured x s.says) p.configured ∙ sym (config_of-more before s);
-      not_begun = has_begun-more before s ∙ ap (λ b. b || has_events s.says) p.not_begun ∙ config_has_no_events s.says not_events;
+      configured = is ∙ ap (λ x. configured x statement) p.configured ∙ sym (ap (configured_by (config_of before)) says) ∙ sym (config_of-more before s);
+      not_begun = has_begun-more before s ∙ ap (λ b. b || has_events s.says) p.not_begun ∙ ap has_events says;
     }
 
 -- nothing is listed
@@ -45,11 +45,13 @@ Configured-stops all before rest s c f p some =
     let is = p.session ∙ stops_at before rest s f some in
     rw is (refl, lists_nothing before p.not_begun)
 
-pub told_by : (fault : ConfigFault) (begun : Bool) → unless_late (Some fault) begun ≡ Some (told fault)
-told_by config.BadValue begun = refl
-told_by config.DefinedTwice begun = refl
+-- one that is refused, or whose block has no END
+pub refused_config : (all before rest : List Statement) (s : Statement) (statement : ConfigStatement) (has_end : Bool) (c : Configuration) (fault : ConfigFault)
+    → Configured all before (s ∷ rest) c → s.says ≡ Config statement has_end → config_fault c statement ≡ Some fault → fault_behind before s.says ≡ Some (told fault)
+refused_config all before rest s statement has_end c fault p says some =
+    ap (fault_behind before) says ∙ ap (λ o. unless_late o has_end (has_begun before)) (ap (λ x. config_fault x statement) (sym p.configured) ∙ some)
 
-pub refused_config : (all before rest : List Statement) (s : Statement) (c : Configuration) (fault : ConfigFault) → Configured all before (s ∷ rest) c
-    → ((f : Fault) → s.says ≡ Refused f → ⊥) → ((e : Event) (times : ℕ) → s.says ≡ Events e times → ⊥) → config_fault c s.says ≡ Some fault → fault_behind before s.says ≡ Some (told fault)
-refused_config all before rest s c fault p not_refused not_events some =
-    fault_of-config before s.says not_refused not_events ∙ ap (λ o. unless_late o (has_begun before)) (ap (λ x. config_fault x s.says) (sym p.configured) ∙ some) ∙ told_by fault (has_begun before)
+pub open_config : (all before rest : List Statement) (s : Statement) (statement : ConfigStatement) (c : Configuration)
+    → Configured all before (s ∷ rest) c → s.says ≡ Config statement false → config_fault c statement ≡ None → fault_behind before s.says ≡ Some NoEnd
+open_config all before rest s statement c p says none =
+    ap (fault_behind before) says ∙ ap (λ o. unless_late o false (has_begun before)) (ap (λ x. config_fault x statement) (sym p.configured) ∙ none)

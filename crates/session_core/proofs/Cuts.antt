@@ -4,6 +4,7 @@ use Rattle.std.proofs.lemmas.List.{append-nil}
 use Rattle.std.specs.List.{position_or_len}
 use Rattle.session_text.specs.declared.fault.Fault.{Fault}
 use Rattle.session_text.specs.declared.fault.Fault.TheVariants as fault
+use Rattle.session_text.specs.declared.statement.Block.{Block}
 use Rattle.session_text.specs.declared.statement.Ending.TheVariants.{ReadFailed}
 use Rattle.session_text.specs.declared.statement.LineSays.{LineSays}
 use Rattle.session_text.specs.declared.statement.LineSays.TheVariants as line
@@ -30,16 +31,16 @@ cut_more s statements c = record { whole = s ∷ c.whole; line = c.line; last = 
 abbrev HasEnd : List (List ℕ) → Type 0
 HasEnd rows = position_or_len is_end rows < length rows
 
-cut_block : (at : Option ℕ) (n : ℕ) (own : Option Fault) (rows : List (List ℕ)) (behind : List Statement) → position is_end rows ≡ at
-    → (HasEnd rows → IsCut behind) → IsCut (block_to at ReadFailed n own rows behind)
-cut_block None n own rows behind is more = record { whole = []; line = n; last = refl }
-cut_block (Some end) n own rows behind is more = cut_more _ behind (more (first_at is_end rows end is).1)
+cut_block : (at : Option ℕ) (n : ℕ) (block : Block) (rows : List (List ℕ)) (behind : List Statement) → position is_end rows ≡ at
+    → (HasEnd rows → IsCut behind) → IsCut (block_to at ReadFailed n block rows behind)
+cut_block None n block rows behind is more = record { whole = []; line = n; last = refl }
+cut_block (Some end) n block rows behind is more = cut_more _ behind (more (first_at is_end rows end is).1)
 
 cut_line : (l : LineSays) (n : ℕ) (rows : List (List ℕ)) (next behind : List Statement) → IsCut next → (HasEnd rows → IsCut behind)
     → IsCut (by_line l ReadFailed n rows next behind)
 cut_line line.Blank n rows next behind first second = first
 cut_line (line.One s) n rows next behind first second = cut_more (statement_at n s) next first
-cut_line (line.Opens own) n rows next behind first second = cut_block (position is_end rows) n own rows behind refl second
+cut_line (line.Opens block) n rows next behind first second = cut_block (position is_end rows) n block rows behind refl second
 
 cut_behind : (row : List ℕ) (rows : List (List ℕ)) (n : ℕ) (b : Bool) → is_end row ≡ b → IsCut (statements_from ReadFailed n rows)
     → (HasEnd rows → IsCut (behind_end ReadFailed n rows)) → HasEnd (row ∷ rows)

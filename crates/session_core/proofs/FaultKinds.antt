@@ -2,10 +2,11 @@
 use Rattle.std.proofs.Common.{◌≡◌, ℕ, ◌+◌, Bool, true, false, cond, ◌&&◌, not, List, [], ◌∷◌, ◌++◌, Option, Some, None, position, is_none, codes, refl}
 use Rattle.std.specs.List.{list_any}
 use Rattle.std.specs.Str.{bytes_eq}
-use Rattle.jname_core.specs.Faults.{is_no_serial, unit_name_fault}
+use Rattle.jname_core.specs.Faults.{is_no_serial, name8_fault, unit_name_fault}
 use Rattle.machine_meaning.specs.declared.config.ConfigFault.{ConfigFault}
 use Rattle.machine_meaning.specs.declared.config.ConfigFault.TheVariants as config
-use Rattle.machine_meaning.specs.Configs.{initiator_fault, unit_fault, volume_fault}
+use Rattle.machine_meaning.specs.declared.config.ConfigStatement.TheVariants as statement
+use Rattle.machine_meaning.specs.Configs.{config_fault}
 use Rattle.session_text.specs.declared.fault.Fault.{Fault}
 use Rattle.session_text.specs.declared.fault.Fault.TheVariants as fault
 use Rattle.session_text.specs.declared.statement.Ending.{Ending}
@@ -13,30 +14,34 @@ use Rattle.session_text.specs.declared.statement.Ending.TheVariants.{Whole, TooL
 use Rattle.session_text.specs.declared.statement.LineSays.{LineSays}
 use Rattle.session_text.specs.declared.statement.LineSays.TheVariants as line
 use Rattle.session_text.specs.declared.statement.Says.{Says}
-use Rattle.session_text.specs.declared.statement.Says.TheVariants as says
-use Rattle.session_text.specs.declared.statement.Says.TheVariants.{Volume, Initiator, Events, Refused}
+use Rattle.session_text.specs.declared.statement.Block.{Block}
+use Rattle.session_text.specs.declared.statement.Block.TheVariants.{Deck, Faulty, Procedure}
+use Rattle.session_text.specs.declared.statement.Says.TheVariants.{Config, Events, Refused}
 use Rattle.session_text.specs.declared.statement.Statement.{Statement}
 use Rattle.jname_core.specs.Decimals.{number_within}
 use Rattle.session_text.specs.Fields.{before_star, class_of, fields_of, is_marked, listed_in, times_in}
 use Rattle.session_text.specs.Lines.{lines_of}
-use Rattle.session_text.specs.Statements.{at_end, behind_end, block_to, by_line, initiator_of, initiator_with, is_end, open_fault, opens, read_with, says_by, says_in, says_of, statements_from, statements_of, turns_of, turns_with, unit_of, volume_of, volume_with, writes_of, writes_with}
+use Rattle.session_text.specs.Statements.{at_end, behind_end, block_says, block_to, configures, deck_of, by_line, initiator_of, initiator_with, is_end, left_open, open_says, procedure_of, says_by, says_in, says_of, statements_from, statements_of, turns_of, turns_with, unit_of, volume_of, volume_with, writes_of, writes_with}
 use Rattle.session_core.specs.Sessions.{Session, config_of, fault_behind, has_begun, session_behind, session_by, session_of, unless_late}
 
 abbrev option_kind : (Fault → Bool) → Option Fault → Bool
 option_kind kind None = false
 option_kind kind (Some f) = kind f
 
+abbrev block_kind : (Fault → Bool) → Block → Bool
+block_kind kind Deck = false
+block_kind kind (Procedure name) = false
+block_kind kind (Faulty own) = kind own
+
 abbrev says_kind : (Fault → Bool) → Says → Bool
 says_kind kind (Refused f) = kind f
-says_kind kind (Volume serial tracks) = false
-says_kind kind (says.Unit name serials) = false
-says_kind kind (Initiator number classes) = false
+says_kind kind (Config s has_end) = false
 says_kind kind (Events e times) = false
 
 abbrev line_kind : (Fault → Bool) → LineSays → Bool
 line_kind kind line.Blank = false
 line_kind kind (line.One s) = says_kind kind s
-line_kind kind (line.Opens own) = option_kind kind own
+line_kind kind (line.Opens block) = block_kind kind block
 
 -- none of these statements has a fault of this kind itself
 abbrev AreFree : (Fault → Bool) → List Statement → Type 0
@@ -67,7 +72,7 @@ module _ (kind : Fault → Bool) (bad : kind fault.BadValue ≡ false) (unknown 
   unit_free [] = bad
   unit_free (a ∷ []) = bad
   unit_free (a ∷ b ∷ []) =
-      either (says_kind kind) (is_none (unit_name_fault a) && not (list_any is_no_serial (listed_in b))) (says.Unit a (listed_in b)) (Refused fault.BadValue)
+      either (says_kind kind) (is_none (unit_name_fault a) && not (list_any is_no_serial (listed_in b))) (configures (statement.Unit a (listed_in b))) (Refused fault.BadValue)
       refl bad
   unit_free (a ∷ b ∷ c ∷ rest) = bad
 
@@ -97,25 +102,32 @@ module _ (kind : Fault → Bool) (bad : kind fault.BadValue ≡ false) (unknown 
   writes_free (a ∷ []) = writes_with_free (class_of (before_star a)) (times_in a)
   writes_free (a ∷ b ∷ rest) = bad
 
-  opens_free : (operands : List (List ℕ)) → line_kind kind (opens operands) ≡ false
-  opens_free [] = refl
-  opens_free (a ∷ rest) = bad
+  deck_free : (operands : List (List ℕ)) → block_kind kind (deck_of operands) ≡ false
+  deck_free [] = refl
+  deck_free (a ∷ rest) = bad
+
+  procedure_free : (operands : List (List ℕ)) → block_kind kind (procedure_of operands) ≡ false
+  procedure_free [] = bad
+  procedure_free (a ∷ []) = either (block_kind kind) (is_none (name8_fault a)) (Procedure a) (Faulty fault.BadValue) refl bad
+  procedure_free (a ∷ b ∷ rest) = bad
 
   says_by_free : (word : List ℕ) (operands : List (List ℕ)) → line_kind kind (says_by word operands) ≡ false
   says_by_free word operands =
       let write = cond (bytes_eq word (codes "WRITE")) (line.One (writes_of operands)) (line.One (Refused fault.UnknownStatement)) in
       let turn = cond (bytes_eq word (codes "TURN")) (line.One (turns_of operands)) write in
-      let read = cond (bytes_eq word (codes "READ")) (opens operands) turn in
-      let initiator = cond (bytes_eq word (codes "INIT")) (line.One (initiator_of operands)) read in
+      let read = cond (bytes_eq word (codes "READ")) (line.Opens (deck_of operands)) turn in
+      let procedure = cond (bytes_eq word (codes "PROC")) (line.Opens (procedure_of operands)) read in
+      let initiator = cond (bytes_eq word (codes "INIT")) (line.One (initiator_of operands)) procedure in
       let unit = cond (bytes_eq word (codes "UNIT")) (line.One (unit_of operands)) initiator in
       let p = line_kind kind in
       either p (bytes_eq word (codes "VOLUME")) (line.One (volume_of operands)) unit (volume_free operands)
       (either p (bytes_eq word (codes "UNIT")) (line.One (unit_of operands)) initiator (unit_free operands)
-      (either p (bytes_eq word (codes "INIT")) (line.One (initiator_of operands)) read (initiator_free operands)
-      (either p (bytes_eq word (codes "READ")) (opens operands) turn (opens_free operands)
+      (either p (bytes_eq word (codes "INIT")) (line.One (initiator_of operands)) procedure (initiator_free operands)
+      (either p (bytes_eq word (codes "PROC")) (line.Opens (procedure_of operands)) read (procedure_free operands)
+      (either p (bytes_eq word (codes "READ")) (line.Opens (deck_of operands)) turn (deck_free operands)
       (either p (bytes_eq word (codes "TURN")) (line.One (turns_of operands)) write (turns_free operands)
       (either p (bytes_eq word (codes "WRITE")) (line.One (writes_of operands)) (line.One (Refused fault.UnknownStatement)) (writes_free operands)
-      unknown)))))
+      unknown))))))
 
   says_in_free : (marked : Bool) (fields : List (List ℕ)) → line_kind kind (says_in marked fields) ≡ false
   says_in_free marked [] = refl
@@ -130,26 +142,31 @@ module _ (kind : Fault → Bool) (bad : kind fault.BadValue ≡ false) (unknown 
     at_end_by TooLong n is = (long, tt)
     at_end_by ReadFailed n is = (cut is, tt)
 
-    open_free : (e : Ending) (own : Option Fault) → ending ≡ e → option_kind kind own ≡ false → kind (open_fault e own) ≡ false
-    open_free TooLong own is free = long
-    open_free ReadFailed own is free = cut is
-    open_free Whole (Some own) is free = free
-    open_free Whole None is free = no_end
+    left_free : (block : Block) → block_kind kind block ≡ false → says_kind kind (left_open block) ≡ false
+    left_free Deck free = no_end
+    left_free (Procedure name) free = refl
+    left_free (Faulty own) free = free
 
-    read_free : (own : Option Fault) (cards : List (List ℕ)) → option_kind kind own ≡ false → says_kind kind (read_with own cards) ≡ false
-    read_free None cards free = refl
-    read_free (Some own) cards free = free
+    open_free : (e : Ending) (block : Block) → ending ≡ e → block_kind kind block ≡ false → says_kind kind (open_says e block) ≡ false
+    open_free TooLong block is free = long
+    open_free ReadFailed block is free = cut is
+    open_free Whole block is free = left_free block free
 
-    block_free : (at : Option ℕ) (n : ℕ) (own : Option Fault) (rows : List (List ℕ)) (behind : List Statement) → option_kind kind own ≡ false
-        → AreFree kind behind → AreFree kind (block_to at ending n own rows behind)
-    block_free None n own rows behind free more = (open_free ending own refl free, tt)
-    block_free (Some end) n own rows behind free more = (read_free own _ free, more)
+    ended_free : (block : Block) (lines : List (List ℕ)) → block_kind kind block ≡ false → says_kind kind (block_says block lines) ≡ false
+    ended_free Deck lines free = refl
+    ended_free (Procedure name) lines free = refl
+    ended_free (Faulty own) lines free = free
+
+    block_free : (at : Option ℕ) (n : ℕ) (block : Block) (rows : List (List ℕ)) (behind : List Statement) → block_kind kind block ≡ false
+        → AreFree kind behind → AreFree kind (block_to at ending n block rows behind)
+    block_free None n block rows behind free more = (open_free ending block refl free, tt)
+    block_free (Some end) n block rows behind free more = (ended_free block _ free, more)
 
     line_free : (l : LineSays) (n : ℕ) (rows : List (List ℕ)) (next behind : List Statement) → line_kind kind l ≡ false
         → AreFree kind next → AreFree kind behind → AreFree kind (by_line l ending n rows next behind)
     line_free line.Blank n rows next behind free first second = first
     line_free (line.One s) n rows next behind free first second = (free, first)
-    line_free (line.Opens own) n rows next behind free first second = block_free (position is_end rows) n own rows behind free second
+    line_free (line.Opens block) n rows next behind free first second = block_free (position is_end rows) n block rows behind free second
 
     -- the statements of rows, and those behind the first END of them
     rows_free : (n : ℕ) (rows : List (List ℕ)) → AreFree kind (statements_from ending n rows) × AreFree kind (behind_end ending n rows)
@@ -164,16 +181,15 @@ module _ (kind : Fault → Bool) (bad : kind fault.BadValue ≡ false) (unknown 
         )
 
     module _ (twice : kind fault.DefinedTwice ≡ false) (late : kind fault.LateConfiguration ≡ false) where
-      unless_free : (own : Option ConfigFault) (begun : Bool) → option_kind kind (unless_late own begun) ≡ false
-      unless_free (Some config.BadValue) begun = bad
-      unless_free (Some config.DefinedTwice) begun = twice
-      unless_free None true = late
-      unless_free None false = refl
+      unless_free : (own : Option ConfigFault) (has_end begun : Bool) → option_kind kind (unless_late own has_end begun) ≡ false
+      unless_free (Some config.BadValue) has_end begun = bad
+      unless_free (Some config.DefinedTwice) has_end begun = twice
+      unless_free None false begun = no_end
+      unless_free None true true = late
+      unless_free None true false = refl
 
       fault_free : (before : List Statement) (s : Says) → says_kind kind s ≡ false → option_kind kind (fault_behind before s) ≡ false
-      fault_free before (Volume serial tracks) free = unless_free (volume_fault (config_of before) serial tracks) (has_begun before)
-      fault_free before (says.Unit name serials) free = unless_free (unit_fault (config_of before) name serials) (has_begun before)
-      fault_free before (Initiator number classes) free = unless_free (initiator_fault (config_of before) number classes) (has_begun before)
+      fault_free before (Config c has_end) free = unless_free (config_fault (config_of before) c) has_end (has_begun before)
       fault_free before (Events e times) free = refl
       fault_free before (Refused f) free = free
 

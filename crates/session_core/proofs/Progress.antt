@@ -2,25 +2,25 @@
 use Rattle.std.proofs.Common.{◌≡◌, ◌⊎◌, ℕ, ◌+◌, ◌<◌, Bool, true, false, ◌||◌, List, [], ◌∷◌, ◌++◌, length, take, drop, get_or, replicate, Some, None, Result, Ok, Err, refl, sym, ap, ◌∙◌, inl, inr, ⊎_elim, append_assoc, arith, length-append}
 use Rattle.std.proofs.lemmas.List.{append-nil, length-replicate, take-replicate, take_all}
 use Rattle.std.specs.Io.KnownBytes.{Appends}
+use Rattle.machine_meaning.specs.declared.config.ConfigStatement.{ConfigStatement}
 use Rattle.machine_meaning.specs.declared.event.Event.{Event}
-use Rattle.machine_meaning.specs.Configs.{Configuration, start_of}
+use Rattle.machine_meaning.specs.Configs.{Configuration, config_fault, start_of}
 use Rattle.machine_meaning.specs.Transitions.{text_of_all}
 use Rattle.machine_meaning.specs.Worlds.{World}
 use Rattle.session_text.specs.declared.fault.Fault.{Fault}
 use Rattle.session_text.specs.declared.statement.Says.{Says}
-use Rattle.session_text.specs.declared.statement.Says.TheVariants as says
-use Rattle.session_text.specs.declared.statement.Says.TheVariants.{Volume, Initiator, Events, Refused}
+use Rattle.session_text.specs.declared.statement.Says.TheVariants.{Config, Events, Refused}
 use Rattle.session_text.specs.declared.statement.Statement.{Statement}
 use Rattle.session_core.specs.declared.SessionEnd.{SessionEnd}
 use Rattle.session_core.specs.declared.SessionFault.{SessionFault}
 use Rattle.session_core.specs.declared.SessionFault.TheVariants.{Stopped, WriteFailed, Memory}
 use Rattle.session_core.specs.declared.listing.Mark.{Mark}
-use Rattle.session_core.specs.Configuring.{IsConfigured, IsLate, begins_with_event, config_fault}
+use Rattle.session_core.specs.Configuring.{IsConfigured, IsLate, begins_with_event}
 use Rattle.session_core.specs.Listings.{Lists}
 use Rattle.session_core.specs.Marks.{AreMarks, IsListedLast}
 use Rattle.session_core.specs.Outcomes.{IsOutcome, WantsMemoryIn, WritesOutcome}
 use Rattle.session_core.specs.Running.{AreApplied, AreAppliedInPart, StatementRuns, mark_at}
-use Rattle.session_core.specs.Sessions.{Session, config_of, configured, events_in, events_of, fault_behind, has_begun, has_events, session_behind, unless_late, world_of}
+use Rattle.session_core.specs.Sessions.{Session, config_of, configured_by, events_in, events_of, fault_behind, has_begun, has_events, session_behind, unless_late, world_of}
 use Rattle.session_core.specs.Streams.{SinkState}
 use Rattle.session_core.proofs.Applied.{AreApplied-append, AreApplied-behind, AreApplied-none}
 use Rattle.session_core.proofs.Marked.{AreMarks-more}
@@ -104,11 +104,9 @@ next_stands all before rest s session none =
     (more.0, ap (λ (x : Session). x.stands) (session ∙ goes_on before rest s none) ∙ more.1 ∙ append_assoc before (s ∷ []) more.0)
 
 -- an event configures nothing
-same_config : (c : Configuration) (says : Says) → has_events says ≡ true → configured c says ≡ c
+same_config : (c : Configuration) (says : Says) → has_events says ≡ true → configured_by c says ≡ c
 same_config c (Events e times) is = refl
-same_config c (Volume serial tracks) is = absurd cc
-same_config c (says.Unit name serials) is = absurd cc
-same_config c (Initiator number classes) is = absurd cc
+same_config c (Config s has_end) is = absurd cc
 same_config c (Refused f) is = absurd cc
 
 same_world : (before : List Statement) (s : Statement) → has_events s.says ≡ true → world_of (before ++ s ∷ []) ≡ world_of before
@@ -228,25 +226,16 @@ module _ (all before rest : List Statement) (s : Statement) (c : Configuration) 
   has_begun_here : (says : Says) → s.says ≡ says → has_events says ≡ false → LastIsEvent before
   has_begun_here says is none = ⊎_elim (λ l. l) (λ next. absurd (let e : true ≡ false = sym next ∙ ap has_events is ∙ none in cc)) p.begun
 
-  late : (says : Says) (fault : SessionFault) → s.says ≡ says → has_events says ≡ false
-      → fault_behind before says ≡ unless_late (config_fault (config_of before) says) (has_begun before)
-      → IsLate (config_fault c says) s.line fault → ComesTo all (Err fault) out marks text
-  late says (Stopped f at) is none own h =
-      let l = has_begun_here says is none in
+  late : (statement : ConfigStatement) (has_end : Bool) (fault : SessionFault) → s.says ≡ Config statement has_end
+      → IsLate (config_fault c statement) has_end s.line fault → ComesTo all (Err fault) out marks text
+  late statement has_end (Stopped f at) is h =
+      let l = has_begun_here (Config statement has_end) is refl in
       let some : fault_behind before s.says ≡ Some f
-      = ap (fault_behind before) is ∙ own ∙ ap (unless_late (config_fault (config_of before) says)) (begun_last before l)
-      ∙ ap (λ x. unless_late (config_fault x says) true) (sym p.configured) ∙ h.1 in
+      = ap (fault_behind before) is ∙ ap (unless_late (config_fault (config_of before) statement) has_end) (begun_last before l)
+      ∙ ap (λ x. unless_late (config_fault x statement) has_end true) (sym p.configured) ∙ h.1 in
       rw h.0 (stops f some)
-  late says (WriteFailed at) is none own h = absurd h
-  late says Memory is none own h =
-      let l = has_begun_here says is none in
-      let more = front before (s ∷ rest) in
-      let stands = ap (λ (x : Session). x.stands) p.session ∙ more.1 in
-      record {
-        outcome = inl (wants_behind (session_behind [] all).stands before more.0 (out ++ text) stands l
-            (Lists-applied before (events_of before) world (out ++ text) p.applied));
-        marked = p.marked;
-      }
+  late statement has_end (WriteFailed at) is h = absurd h
+  late statement has_end Memory is h = absurd h
 
   fails_by : (says : Says) (fault : SessionFault) (after : World) (new_marks : List Mark) (new : List ℕ) → s.says ≡ says
       → StatementRuns {T = Unit {0}} c s.line says world marks text (Err fault) after new_marks new
@@ -256,9 +245,7 @@ module _ (all before rest : List Statement) (s : Statement) (c : Configuration) 
   fails_by (Events e times) (Stopped f at) after new_marks new is h = absurd h
   fails_by (Events e times) (WriteFailed at) after new_marks new is h = absurd h
   fails_by (Refused own) fault after new_marks new is h = rw (h.0, h.1.marks_so, h.1.text_so) (stops own (ap (fault_behind before) is))
-  fails_by (Volume serial tracks) fault after new_marks new is h = rw (h.1.marks_so, h.1.text_so) (late (Volume serial tracks) fault is refl refl h.0)
-  fails_by (says.Unit name serials) fault after new_marks new is h = rw (h.1.marks_so, h.1.text_so) (late (says.Unit name serials) fault is refl refl h.0)
-  fails_by (Initiator number classes) fault after new_marks new is h = rw (h.1.marks_so, h.1.text_so) (late (Initiator number classes) fault is refl refl h.0)
+  fails_by (Config statement has_end) fault after new_marks new is h = rw (h.1.marks_so, h.1.text_so) (late statement has_end fault is h.0)
 
   Progress-fails : (fault : SessionFault) (after : World) (new_marks : List Mark) (new : List ℕ)
       → StatementRuns {T = Unit {0}} c s.line s.says world marks text (Err fault) after new_marks new → ComesTo all (Err fault) out new_marks new
@@ -269,9 +256,7 @@ module _ (all before rest : List Statement) (s : Statement) (c : Configuration) 
       → Progress all (before ++ s ∷ []) rest c after out new_marks new
   runs_by (Events e times) after new_marks new is h = Progress-more e times after new new_marks is h.0 h.1
   runs_by (Refused own) after new_marks new is h = absurd h
-  runs_by (Volume serial tracks) after new_marks new is h = absurd h
-  runs_by (says.Unit name serials) after new_marks new is h = absurd h
-  runs_by (Initiator number classes) after new_marks new is h = absurd h
+  runs_by (Config statement has_end) after new_marks new is h = absurd h
 
   Progress-runs : (after : World) (new_marks : List Mark) (new : List ℕ)
       → StatementRuns {T = Unit {0}} c s.line s.says world marks text (Ok tt) after new_marks new

@@ -5,14 +5,12 @@ use Rattle.std.proofs.lemmas.List.{append-nil, at_drop_more, drop_all, take_more
 use Rattle.std.proofs.lemmas.List.Concat.{flat_map-append}
 use Rattle.std.proofs.lemmas.List.Folds.{list_any-append}
 use Rattle.std.proofs.lemmas.List.Sums.{fold_push}
-use Rattle.machine_meaning.specs.declared.event.Event.{Event}
 use Rattle.machine_meaning.specs.Configs.{nothing_configured}
 use Rattle.session_text.specs.declared.fault.Fault.{Fault}
 use Rattle.session_text.specs.declared.statement.Says.{Says}
-use Rattle.session_text.specs.declared.statement.Says.TheVariants.{Volume, Unit, Initiator, Events, Refused}
+use Rattle.session_text.specs.declared.statement.Says.TheVariants.{Config, Events, Refused}
 use Rattle.session_text.specs.declared.statement.Statement.{Statement}
-use Rattle.session_core.specs.Configuring.{config_fault}
-use Rattle.session_core.specs.Sessions.{config_of, configured, events_in, events_of, fault_behind, has_begun, has_events, session_behind, session_by, unless_late}
+use Rattle.session_core.specs.Sessions.{config_of, configured_by, events_in, events_of, fault_behind, has_begun, has_events, session_behind, session_by}
 
 -- what stands begins with what stood already
 front_by : (f : Option Fault) (before statements : List Statement) (s : Statement) → (after : List Statement) × ((session_behind (before ++ s ∷ []) statements).stands ≡ (before ++ s ∷ []) ++ after)
@@ -35,8 +33,8 @@ stops_at before statements s f some = ap (λ o. session_by o before s (session_b
 pub events_of-more : (before : List Statement) (s : Statement) → events_of (before ++ s ∷ []) ≡ events_of before ++ events_in s.says
 events_of-more before s = flat_map-append (λ x. events_in x.says) before (s ∷ []) ∙ ap (λ x. events_of before ++ x) (append-nil (events_in s.says))
 
-pub config_of-more : (before : List Statement) (s : Statement) → config_of (before ++ s ∷ []) ≡ configured (config_of before) s.says
-config_of-more before s = fold_push (λ c x. configured c x.says) nothing_configured before s
+pub config_of-more : (before : List Statement) (s : Statement) → config_of (before ++ s ∷ []) ≡ configured_by (config_of before) s.says
+config_of-more before s = fold_push (λ c x. configured_by c x.says) nothing_configured before s
 
 or_none : (b : Bool) → (b || false) ≡ b
 or_none true = refl
@@ -48,9 +46,7 @@ has_begun-more before s = list_any-append (λ x. has_events x.says) before (s �
 -- no events yet
 no_events_in : (says : Says) → has_events says ≡ false → events_in says ≡ []
 no_events_in (Events e times) none = absurd cc
-no_events_in (Volume serial tracks) none = refl
-no_events_in (Unit name serials) none = refl
-no_events_in (Initiator number classes) none = refl
+no_events_in (Config s has_end) none = refl
 no_events_in (Refused f) none = refl
 
 pub no_events : (before : List Statement) → has_begun before ≡ false → events_of before ≡ []
@@ -58,22 +54,6 @@ no_events [] none = refl
 no_events (s ∷ before) none =
     let both = or_parts (has_events s.says) (has_begun before) none in
     rw (no_events_in s.says both.0) (no_events before both.1)
-
--- what refuses a statement of the configuration
-pub fault_of-config : (before : List Statement) (says : Says) → ((f : Fault) → says ≡ Refused f → ⊥) → ((e : Event) (times : ℕ) → says ≡ Events e times → ⊥) →
-    fault_behind before says ≡ unless_late (config_fault (config_of before) says) (has_begun before)
-fault_of-config before (Volume serial tracks) not_refused not_events = refl
-fault_of-config before (Unit name serials) not_refused not_events = refl
-fault_of-config before (Initiator number classes) not_refused not_events = refl
-fault_of-config before (Events e times) not_refused not_events = absurd (not_events e times refl)
-fault_of-config before (Refused f) not_refused not_events = absurd (not_refused f refl)
-
-pub config_has_no_events : (says : Says) → ((e : Event) (times : ℕ) → says ≡ Events e times → ⊥) → has_events says ≡ false
-config_has_no_events (Volume serial tracks) not_events = refl
-config_has_no_events (Unit name serials) not_events = refl
-config_has_no_events (Initiator number classes) not_events = refl
-config_has_no_events (Events e times) not_events = absurd (not_events e times refl)
-config_has_no_events (Refused f) not_events = refl
 
 -- the statement at an index of a list's rest
 pub drop_at : (all : List Statement) (index : ℕ) (s : Statement) → index < length all → s ≡ get_or all index s → drop index all ≡ s ∷ drop (index + 1) all

@@ -4,7 +4,7 @@ use Rattle.jcl_plan.specs.declared.entry.Entry.{Entry}
 use Rattle.machine_meaning.specs.declared.event.Event.{Event}
 use Rattle.machine_meaning.specs.Transitions.{Runs, text_of_all}
 use Rattle.machine_meaning.specs.Worlds.{World}
-use Rattle.sched_core.specs.Jobs.{job_of}
+use Rattle.sched_core.specs.Jobs.{job_run}
 use Rattle.session_text.specs.declared.statement.Statement.{Statement}
 use Rattle.session_core.specs.Sessions.{events_in, events_of, world_of}
 
@@ -12,7 +12,7 @@ use Rattle.session_core.specs.Sessions.{events_in, events_of, world_of}
 pub record Lists (config : List Statement) (events : List Event) (listing : List ℕ) : Type 0 where
   pub entries : List (List Entry)
   pub world : World
-  pub run : Runs job_of (world_of config) events entries world
+  pub run : Runs job_run (world_of config) events entries world
   pub text : listing ≡ text_of_all entries
 
 -- the events of these statements, and of one more as many as were done

@@ -4,26 +4,26 @@ use Rattle.std.specs.List.{flat_map}
 use Rattle.jcl_plan.specs.declared.entry.Entry.{Entry}
 use Rattle.jcl_plan.specs.Lines.{text_of}
 use Rattle.machine_meaning.specs.declared.event.Event.{Event}
-use Rattle.machine_meaning.specs.Configs.{Configuration}
+use Rattle.machine_meaning.specs.Configs.{Configuration, config_fault}
 use Rattle.machine_meaning.specs.Transitions.{Runs, Transition, text_of_all}
 use Rattle.machine_meaning.specs.Worlds.{World}
-use Rattle.sched_core.specs.Jobs.{job_of}
+use Rattle.sched_core.specs.Jobs.{job_run}
 use Rattle.session_text.specs.declared.statement.Says.{Says}
 use Rattle.session_text.specs.declared.statement.Says.TheVariants as says
 use Rattle.session_core.specs.declared.SessionFault.{SessionFault}
 use Rattle.session_core.specs.declared.SessionFault.TheVariants.{Stopped, WriteFailed, Memory}
 use Rattle.session_core.specs.declared.listing.Mark.{Mark}
-use Rattle.session_core.specs.Configuring.{IsLate, config_fault}
+use Rattle.session_core.specs.Configuring.{IsLate}
 
 -- an event, and the text before and after it
 pub record IsApplied (world : World) (event : Event) (after : World) (old new : List ℕ) : Type 0 where
   pub lines : List Entry
-  pub step : Transition job_of world event lines after
+  pub step : Transition job_run world event lines after
   pub text : new ≡ old ++ flat_map text_of lines
 
 pub record AreApplied (world : World) (events : List Event) (after : World) (old new : List ℕ) : Type 0 where
   pub entries : List (List Entry)
-  pub run : Runs job_of world events entries after
+  pub run : Runs job_run world events entries after
   pub text : new ≡ old ++ text_of_all entries
 
 -- the first times of an event that comes so many times
@@ -50,5 +50,6 @@ StatementRuns c line (says.Events event times) world marks text (Err (Stopped f 
 StatementRuns c line (says.Events event times) world marks text (Err (WriteFailed at)) after new_marks new_text = ⊥
 StatementRuns c line (says.Refused own) world marks text (Ok x) after new_marks new_text = ⊥
 StatementRuns c line (says.Refused own) world marks text (Err fault) after new_marks new_text = (fault ≡ Stopped own line) × IsSilent marks text new_marks new_text
-StatementRuns c line other world marks text (Ok x) after new_marks new_text = ⊥
-StatementRuns c line other world marks text (Err fault) after new_marks new_text = IsLate (config_fault c other) line fault × IsSilent marks text new_marks new_text
+StatementRuns c line (says.Config s has_end) world marks text (Ok x) after new_marks new_text = ⊥
+StatementRuns c line (says.Config s has_end) world marks text (Err fault) after new_marks new_text =
+    IsLate (config_fault c s) has_end line fault × IsSilent marks text new_marks new_text

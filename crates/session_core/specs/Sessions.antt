@@ -4,63 +4,59 @@ use Rattle.std.specs.List.{flat_map, list_any}
 use Rattle.machine_meaning.specs.declared.config.ConfigFault.{ConfigFault}
 use Rattle.machine_meaning.specs.declared.config.ConfigFault.TheVariants as config
 use Rattle.machine_meaning.specs.declared.event.Event.{Event}
-use Rattle.machine_meaning.specs.Configs.{Configuration, initiator_fault, nothing_configured, start_of, unit_fault, volume_fault, with_initiator, with_unit, with_volume}
+use Rattle.machine_meaning.specs.Configs.{Configuration, config_fault, configured, nothing_configured, start_of}
 use Rattle.machine_meaning.specs.Worlds.{World}
 use Rattle.session_text.specs.declared.fault.Fault.{Fault}
 use Rattle.session_text.specs.declared.fault.Fault.TheVariants as fault
 use Rattle.session_text.specs.declared.statement.Ending.{Ending}
 use Rattle.session_text.specs.declared.statement.Says.{Says}
-use Rattle.session_text.specs.declared.statement.Says.TheVariants.{Volume, Unit, Initiator, Events, Refused}
+use Rattle.session_text.specs.declared.statement.Says.TheVariants.{Config, Events, Refused}
 use Rattle.session_text.specs.declared.statement.Statement.{Statement}
 use Rattle.session_text.specs.Statements.{statements_of}
 
 -- the events of a statement
 abbrev pub events_in : Says → List Event
 events_in (Events e times) = replicate times e
-events_in (Volume serial tracks) = []
-events_in (Unit name serials) = []
-events_in (Initiator number classes) = []
+events_in (Config s has_end) = []
 events_in (Refused f) = []
 
 abbrev pub events_of : List Statement → List Event
 events_of statements = flat_map (λ s. events_in s.says) statements
 
 -- what a statement configures
-abbrev pub configured : Configuration → Says → Configuration
-configured c (Volume serial tracks) = with_volume c serial tracks
-configured c (Unit name serials) = with_unit c name serials
-configured c (Initiator number classes) = with_initiator c number classes
-configured c (Events e times) = c
-configured c (Refused f) = c
+abbrev pub configured_by : Configuration → Says → Configuration
+configured_by c (Config s has_end) = configured c s
+configured_by c (Events e times) = c
+configured_by c (Refused f) = c
 
 abbrev pub config_of : List Statement → Configuration
-config_of statements = fold (λ c s. configured c s.says) nothing_configured statements
+config_of statements = fold (λ c s. configured_by c s.says) nothing_configured statements
 
 abbrev pub world_of : List Statement → World
 world_of statements = start_of (config_of statements)
 
 abbrev pub has_events : Says → Bool
 has_events (Events e times) = true
-has_events (Volume serial tracks) = false
-has_events (Unit name serials) = false
-has_events (Initiator number classes) = false
+has_events (Config s has_end) = false
 has_events (Refused f) = false
 
 abbrev pub has_begun : List Statement → Bool
 has_begun statements = list_any (λ s. has_events s.says) statements
 
--- configuration stands before the first event; the lowest number is told
-abbrev pub unless_late : Option ConfigFault → Bool → Option Fault
-unless_late (Some config.BadValue) begun = Some fault.BadValue
-unless_late (Some config.DefinedTwice) begun = Some fault.DefinedTwice
-unless_late None true = Some fault.LateConfiguration
-unless_late None false = None
+abbrev pub told : ConfigFault → Fault
+told config.BadValue = fault.BadValue
+told config.DefinedTwice = fault.DefinedTwice
+
+-- Configuration has an END where it is a block, and stands before the first event. The lowest number is told.
+abbrev pub unless_late : Option ConfigFault → Bool → Bool → Option Fault
+unless_late (Some own) has_end begun = Some (told own)
+unless_late None false begun = Some fault.NoEnd
+unless_late None true true = Some fault.LateConfiguration
+unless_late None true false = None
 
 -- what refuses a statement that stands behind these
 abbrev pub fault_behind : List Statement → Says → Option Fault
-fault_behind before (Volume serial tracks) = unless_late (volume_fault (config_of before) serial tracks) (has_begun before)
-fault_behind before (Unit name serials) = unless_late (unit_fault (config_of before) name serials) (has_begun before)
-fault_behind before (Initiator number classes) = unless_late (initiator_fault (config_of before) number classes) (has_begun before)
+fault_behind before (Config s has_end) = unless_late (config_fault (config_of before) s) has_end (has_begun before)
 fault_behind before (Events e times) = None
 fault_behind before (Refused f) = Some f
 

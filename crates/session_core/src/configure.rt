@@ -1,14 +1,13 @@
 //! The statements of the configuration.
-ghost use Rattle.std.specs.Prelude.{◌≡◌, None, [], Err, IfErr, IfOk, OnErr, OnOk, false};
-ghost use Rattle.machine_meaning.specs.Configs.{nothing_configured};
-ghost use Rattle.sched_core.specs.Refusals.{IsRefusal};
-ghost use Rattle.session_core.specs.Configuring.{IsConfigured, IsLate, config_fault, told};
+ghost use Rattle.std.specs.Prelude.{◌≡◌, [], Err, IfErr, IfOk, Some, false, true};
+ghost use Rattle.machine_meaning.specs.Configs.{config_fault, nothing_configured};
+ghost use Rattle.session_core.specs.Configuring.{IsConfigured};
 ghost use Rattle.session_core.specs.Outcomes.{IsOutcome, is_write_fault};
-ghost use Rattle.session_core.specs.Sessions.{configured, session_behind};
+ghost use Rattle.session_core.specs.Sessions.{session_behind, told, unless_late};
 ghost use Rattle.session_core.specs.declared.SessionEnd.{SessionEnd};
 
 use crate::SessionFault;
-use machine_meaning::config::ConfigFault;
+use machine_meaning::config::{ConfigFault, ConfigStatement};
 use sched_core::config::{Config, ConfigError};
 use session_text::fault::Fault;
 use session_text::statement::{Says, Statement};
@@ -22,31 +21,14 @@ fn told(fault: ConfigFault) -> Fault
     }
 }
 
-/// Adds what a statement configures. An `Err` changes nothing.
-fn add(config: &mut Config, says: &Says) -> Result<(), ConfigError>
-    ensures sound { OnOk result (config_fault config.old says.now ≡ None) }
-    ensures ok { OnOk result (config.new ≡ configured config.old says.now) }
-    ensures refused { IfErr result (IsRefusal (config_fault config.old says.now)) }
-    ensures err { OnErr result (config.new ≡ config.old) }
-{
-    match says {
-        Says::Volume { serial, tracks } => config.add_volume(*serial, *tracks),
-        Says::Unit { name, serials } => config.add_unit(*name, serials.as_slice()),
-        Says::Initiator { number, classes } => config.add_initiator(*number, classes.as_slice()),
-        Says::Events(_, _) => Ok(()),
-        Says::Refused(_) => Ok(()),
-    }
-}
-
 /// The fault of a statement of the configuration that stands behind the first event.
-pub(crate) fn late_fault(config: &mut Config, says: &Says<'_>, line: usize) -> SessionFault
-    ensures late { IsLate (config_fault config.old says.now) line result }
-    ensures writes_none { is_write_fault {T = SessionEnd} (Err result) ≡ false }
+pub(crate) fn late_fault(config: &Config, statement: &ConfigStatement<'_>, has_end: bool) -> Fault
+    ensures { unless_late (config_fault config.now statement.now) has_end true ≡ Some result }
 {
-    match add(config, says) {
-        Ok(()) => SessionFault::Stopped(Fault::LateConfiguration, line),
-        Err(ConfigError::Refused(fault)) => SessionFault::Stopped(told(fault), line),
-        Err(ConfigError::Memory) => SessionFault::Memory,
+    match config.fault(statement) {
+        Some(fault) => told(fault),
+        None if has_end => Fault::LateConfiguration,
+        None => Fault::NoEnd,
     }
 }
 
@@ -65,8 +47,12 @@ pub(crate) fn configure(
         match &statement.says {
             Says::Events(_, _) => return Ok(at),
             Says::Refused(fault) => return Err(SessionFault::Stopped(*fault, line)),
-            says => match add(config, says) {
-                Ok(()) => {}
+            Says::Config {
+                statement: says,
+                has_end,
+            } => match config.add(says) {
+                Ok(()) if *has_end => {}
+                Ok(()) => return Err(SessionFault::Stopped(Fault::NoEnd, line)),
                 Err(ConfigError::Refused(fault)) => {
                     return Err(SessionFault::Stopped(told(fault), line));
                 }

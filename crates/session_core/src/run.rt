@@ -21,7 +21,7 @@ use std::io::Write;
 
 /// Applies an event and lists its lines, or lists nothing.
 fn run_event(
-    system: &mut System,
+    system: &mut System<'_>,
     event: &Event<'_>,
     listing: &mut Listing,
 ) -> Result<(), AllocError>
@@ -38,7 +38,7 @@ fn run_event(
 
 /// Applies an event so many times and lists its lines. With an `Err` it lists those of the first times.
 fn run_events(
-    system: &mut System,
+    system: &mut System<'_>,
     event: &Event<'_>,
     times: u16,
     listing: &mut Listing,
@@ -57,13 +57,12 @@ fn run_events(
 /// Runs a statement behind the configuration, and lists its lines.
 fn run_statement(
     statement: &Statement<'_>,
-    config: &mut Config,
-    system: &mut System,
+    config: &Config,
+    system: &mut System<'_>,
     listing: &mut Listing,
 ) -> Result<(), SessionFault>
-    ensures runs { StatementRuns config.old statement.now.line statement.now.says system.old listing.old.marks.items listing.old.text.kept result
+    ensures runs { StatementRuns config.now statement.now.line statement.now.says system.old listing.old.marks.items listing.old.text.kept result
         system.new listing.new.marks.items listing.new.text.kept }
-    ensures config { OnOk result (config.new ≡ config.old) }
     ensures writes_none { is_write_fault result ≡ false }
 {
     let line = statement.line;
@@ -79,7 +78,13 @@ fn run_statement(
             }
         }
         Says::Refused(fault) => Err(SessionFault::Stopped(*fault, line)),
-        says => Err(late_fault(config, says, line)),
+        Says::Config {
+            statement: says,
+            has_end,
+        } => {
+            let fault = late_fault(config, says, *has_end);
+            Err(SessionFault::Stopped(fault, line))
+        }
     }
 }
 
@@ -88,12 +93,12 @@ fn run_from<W: Write>(
     alloc: Global,
     statements: &[Statement<'_>],
     from: usize,
-    config: &mut Config,
-    system: &mut System,
+    config: &Config,
+    system: &mut System<'_>,
     sink: &mut Sink<'_, W>,
 ) -> Result<SessionEnd, SessionFault>
-    requires configured { IsConfigured statements.now from config.old }
-    requires started { system.old ≡ start_of config.old }
+    requires configured { IsConfigured statements.now from config.now }
+    requires started { system.old ≡ start_of config.now }
     requires unfailed { sink.old.failed ≡ false }
     ensures outcome { WritesOutcome (sink_state W.contents sink.old) (sink_state W.contents sink.new) [] (session_behind [] statements.now) result }
     ensures failed { sink.new.failed ≡ is_write_fault result }
@@ -136,5 +141,5 @@ pub(crate) fn run<W: Write>(
     let Ok(mut system) = System::new(alloc, &config) else {
         return Err(SessionFault::Memory);
     };
-    run_from(alloc, statements, from, &mut config, &mut system, sink)
+    run_from(alloc, statements, from, &config, &mut system, sink)
 }

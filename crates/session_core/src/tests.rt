@@ -161,6 +161,35 @@ const SESSIONS: &[(&str, &str, u8, usize)] = &[
         2,
         3,
     ),
+    // procedures of the library
+    ("./ PROC P\nA\n./ END\n./ PROC P\n./ END\n", "", 3, 4),
+    ("./ PROC P\nA\n./ END\n./ PROC P\nB\n", "", 3, 4),
+    ("./ PROC P\nA\n./ END\n./ PROC Q\nB\n", "", 4, 4),
+    ("./ PROC 1P\nA\n", "", 2, 1),
+    (
+        "./ PROC P\n./ END\n./ TURN 1\n./ PROC Q\n./ END\n",
+        "-- REFUSED A1\n",
+        8,
+        4,
+    ),
+    (
+        "./ PROC P\n./ END\n./ TURN 1\n./ PROC P\n./ END\n",
+        "-- REFUSED A1\n",
+        3,
+        4,
+    ),
+    (
+        "./ PROC P\n./ END\n./ TURN 1\n./ PROC Q\n",
+        "-- REFUSED A1\n",
+        4,
+        4,
+    ),
+    (
+        "./ PROC P\n\tA\n./ END\n./ READ\n//J JOB 1\n//S EXEC P\n./ END\n./ READ\n//J JOB 1\n//S EXEC PGM=P\n./ END\n",
+        "0001 REJECTED C2\n0002 READ J CLASS A PRTY 06\n",
+        0,
+        0,
+    ),
     // decks
     (
         "./ READ\n//J JOB 1\nHELLO\n./ END\n",
@@ -178,6 +207,43 @@ const SESSIONS: &[(&str, &str, u8, usize)] = &[
     (
         "./ VOLUME VOL001 100\n./ UNIT SYSDA VOL001\n./ INIT 1 A\n./ INIT 2 A\n./ READ\n//ONE JOB 1\n//S1 EXEC PGM=IEFBR14\n//OUT DD SYSOUT=A\n./ END\n./ TURN 1*8\n./ WRITE A*12\n",
         "0001 READ ONE CLASS A PRTY 06\n0001 SELECTED 1\n0001 NAMES 0\n0001 ASSURED 0 TRACKS 5 ACTIONS\n0001 STEP 1 S1 RUN\n0001 TAKE 1 OUT SYSOUT A\n0001 CODE 0000\n0001 DISP 1 OUT SPOOLED 0\n0001 END\n-- WRITER A 0001 0001 READ ONE CLASS A PRTY 06\n-- WRITER A 0001 0001 SELECTED 1\n-- WRITER A 0001 0001 NAMES 0\n-- WRITER A 0001 0001 ASSURED 0 TRACKS 5 ACTIONS\n-- WRITER A 0001 0001 STEP 1 S1 RUN\n-- WRITER A 0001 0001 TAKE 1 OUT SYSOUT A\n-- WRITER A 0001 0001 CODE 0000\n-- WRITER A 0001 0001 DISP 1 OUT SPOOLED 0\n-- WRITER A 0001 0001 END\n",
+        0,
+        0,
+    ),
+    // procedures, and jobs of several steps
+    (
+        "./ VOLUME VOL001 100\n./ UNIT SYSDA VOL001\n./ INIT 1 A\n./ INIT 2 A\n./ PROC P\n//P PROC N=IEFBR14\n//A EXEC PGM=&N\n//O DD SYSOUT=&C\n./ END\n./ READ\n//J JOB 1\n//S EXEC P,C=B\n./ END\n./ TURN 1*8\n",
+        "0001 READ J CLASS A PRTY 06\n0001 SELECTED 1\n0001 NAMES 0\n0001 ASSURED 0 TRACKS 5 ACTIONS\n0001 STEP 1 S.A RUN\n0001 TAKE 1 O SYSOUT B\n0001 CODE 0000\n0001 DISP 1 O SPOOLED 0\n0001 END\n",
+        0,
+        0,
+    ),
+    (
+        "./ VOLUME VOL001 100\n./ UNIT SYSDA VOL001\n./ INIT 1 A\n./ INIT 2 A\n./ PROC P\n//P PROC N=IEFBR14\n//A EXEC PGM=&N\n//O DD SYSOUT=&C\n./ END\n./ READ\n//J JOB 1\n//S EXEC P\n./ END\n",
+        "0001 REJECTED P31\n",
+        0,
+        0,
+    ),
+    (
+        "./ VOLUME VOL001 100\n./ UNIT SYSDA VOL001\n./ INIT 1 A\n./ INIT 2 A\n./ READ\n//J JOB 1\n//S1 EXEC PGM=NOPROG\n//S2 EXEC PGM=IEFBR14\n//S3 EXEC PGM=IEFBR14,COND=EVEN\n//S4 EXEC PGM=IEFBR14,COND=((0,EQ,S3),ONLY)\n//S5 EXEC PGM=IEFBR14,COND=((0,LT,S3),ONLY)\n./ END\n./ TURN 1*12\n",
+        "0001 READ J CLASS A PRTY 06\n0001 SELECTED 1\n0001 NAMES 0\n0001 ASSURED 0 TRACKS 11 ACTIONS\n0001 STEP 1 S1 RUN\n0001 ABEND S806\n0001 STEP 2 S2 FLUSHED\n0001 STEP 3 S3 RUN\n0001 CODE 0000\n0001 STEP 4 S4 BYPASSED\n0001 STEP 5 S5 RUN\n0001 CODE 0000\n0001 END\n",
+        0,
+        0,
+    ),
+    (
+        "./ VOLUME VOL001 100\n./ UNIT SYSDA VOL001\n./ INIT 1 A\n./ INIT 2 A\n./ READ\n//J JOB 1,COND=(0,EQ)\n//S1 EXEC PGM=IEFBR14\n//S2 EXEC PGM=IEFBR14,COND=EVEN\n./ END\n./ TURN 1*7\n",
+        "0001 READ J CLASS A PRTY 06\n0001 SELECTED 1\n0001 NAMES 0\n0001 ASSURED 0 TRACKS 5 ACTIONS\n0001 STEP 1 S1 RUN\n0001 CODE 0000\n0001 STEP 2 S2 BYPASSED\n0001 END\n",
+        0,
+        0,
+    ),
+    (
+        "./ VOLUME VOL001 100\n./ UNIT SYSDA VOL001\n./ INIT 1 A\n./ INIT 2 A\n./ READ\n//J JOB 1\n//S1 EXEC PGM=IEFBR14\n//A DD DDNAME=B\n//B DD DUMMY\n./ END\n./ TURN 1*8\n",
+        "0001 READ J CLASS A PRTY 06\n0001 SELECTED 1\n0001 NAMES 0\n0001 ASSURED 0 TRACKS 5 ACTIONS\n0001 STEP 1 S1 RUN\n0001 TAKE 1 A DUMMY\n0001 CODE 0000\n0001 DISP 1 A NONE\n0001 END\n",
+        0,
+        0,
+    ),
+    (
+        "./ VOLUME VOL001 100\n./ UNIT SYSDA VOL001\n./ INIT 1 A\n./ INIT 2 A\n./ READ\n//J JOB 1\n//S1 EXEC PGM=IEFBR14,COND=(0,EQ,S2)\n./ END\n",
+        "0001 REJECTED P42\n",
         0,
         0,
     ),

@@ -1,9 +1,9 @@
 -- Blocks among the rows of a text.
-use Rattle.std.proofs.Common.{◌≡◌, ℕ, suc, ◌+◌, ◌-◌, ◌<◌, Bool, true, false, List, [], ◌∷◌, length, take, drop, position, Option, Some, refl, arith, add-zero}
+use Rattle.std.proofs.Common.{◌≡◌, ℕ, suc, ◌+◌, ◌-◌, ◌<◌, Bool, true, false, List, [], ◌∷◌, length, take, drop, position, Some, refl, arith, add-zero}
 use Rattle.std.specs.List.{position_or_len}
-use Rattle.session_text.specs.declared.fault.Fault.{Fault}
+use Rattle.session_text.specs.declared.statement.Block.{Block}
 use Rattle.session_text.specs.declared.statement.Ending.{Ending}
-use Rattle.session_text.specs.Statements.{behind_end, block_to, is_end, read_with, statement_at, statements_from}
+use Rattle.session_text.specs.Statements.{behind_end, block_says, block_to, is_end, statement_at, statements_from}
 use Rattle.session_text.proofs.Places.{first_at}
 
 behind_row : (ending : Ending) (n : ℕ) (row : List ℕ) (rows : List (List ℕ)) (k : ℕ) (b : Bool) → is_end row ≡ b → position_or_len is_end (row ∷ rows) ≡ k → k < length (row ∷ rows)
@@ -24,8 +24,8 @@ behind_end-at ending n [] k at lt = absurd (omega arith)
 behind_end-at ending n (row ∷ rows) k at lt = behind_row ending n row rows k (is_end row) refl at lt (behind_end-at ending (n + 1) rows (k - 1))
 
 -- a block that a row ends
-pub block_ended : (ending : Ending) (n : ℕ) (own : Option Fault) (rows : List (List ℕ)) (k : ℕ) → position is_end rows ≡ Some k →
-    block_to (position is_end rows) ending n own rows (behind_end ending (n + 1) rows) ≡ statement_at n (read_with own (take k rows)) ∷ statements_from ending (n + 1 + k + 1) (drop (k + 1) rows)
-block_ended ending n own rows k h =
+pub block_ended : (ending : Ending) (n : ℕ) (block : Block) (rows : List (List ℕ)) (k : ℕ) → position is_end rows ≡ Some k →
+    block_to (position is_end rows) ending n block rows (behind_end ending (n + 1) rows) ≡ statement_at n (block_says block (take k rows)) ∷ statements_from ending (n + 1 + k + 1) (drop (k + 1) rows)
+block_ended ending n block rows k h =
     let at = first_at is_end rows k h in
     rw (h, behind_end-at ending (n + 1) rows k at.0 (omega (arith, at.0, at.1)))

@@ -3,3 +3,4 @@ pub mod Lines
 pub mod Fields
 pub mod Rows
 pub mod Statements
+pub mod Kept

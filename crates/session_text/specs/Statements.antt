@@ -2,10 +2,13 @@
 use Rattle.std.specs.Prelude.{ℕ, ◌+◌, Bool, true, false, not, ◌&&◌, List, [], ◌∷◌, take, codes, Option, Some, None, is_none, if◌then◌else◌}
 use Rattle.std.specs.List.{list_any, position}
 use Rattle.std.specs.Str.{bytes_eq}
-use Rattle.jname_core.specs.Faults.{is_no_serial, unit_name_fault}
+use Rattle.jname_core.specs.Faults.{is_no_serial, name8_fault, unit_name_fault}
+use Rattle.machine_meaning.specs.declared.config.ConfigStatement.{ConfigStatement}
+use Rattle.machine_meaning.specs.declared.config.ConfigStatement.TheVariants as config
 use Rattle.machine_meaning.specs.declared.event.Event.TheVariants as event
-use Rattle.session_text.specs.declared.fault.Fault.{Fault}
 use Rattle.session_text.specs.declared.fault.Fault.TheVariants as fault
+use Rattle.session_text.specs.declared.statement.Block.{Block}
+use Rattle.session_text.specs.declared.statement.Block.TheVariants.{Deck, Procedure, Faulty}
 use Rattle.session_text.specs.declared.statement.Ending.{Ending}
 use Rattle.session_text.specs.declared.statement.Ending.TheVariants.{Whole, TooLong, ReadFailed}
 use Rattle.session_text.specs.declared.statement.LineSays.{LineSays}
@@ -20,10 +23,14 @@ use Rattle.session_text.specs.Lines.{lines_of}
 abbrev pub bad : Says
 bad = says.Refused fault.BadValue
 
+-- configuration on one line
+abbrev pub configures : ConfigStatement → Says
+configures s = says.Config s true
+
 -- `./ VOLUME serial tracks`
 abbrev pub volume_with : List ℕ → Option ℕ → Says
 volume_with serial None = bad
-volume_with serial (Some tracks) = if is_no_serial serial then bad else says.Volume serial tracks
+volume_with serial (Some tracks) = if is_no_serial serial then bad else configures (config.Volume serial tracks)
 
 abbrev pub volume_of : List (List ℕ) → Says
 volume_of (serial ∷ tracks ∷ []) = volume_with serial (number_within 0 65535 tracks)
@@ -31,7 +38,7 @@ volume_of _ = bad
 
 -- `./ UNIT name serial[,serial..]`
 abbrev pub unit_with : List ℕ → List (List ℕ) → Says
-unit_with name serials = if is_none (unit_name_fault name) && not (list_any is_no_serial serials) then says.Unit name serials else bad
+unit_with name serials = if is_none (unit_name_fault name) && not (list_any is_no_serial serials) then configures (config.Unit name serials) else bad
 
 abbrev pub unit_of : List (List ℕ) → Says
 unit_of (name ∷ serials ∷ []) = unit_with name (listed_in serials)
@@ -40,7 +47,7 @@ unit_of _ = bad
 -- `./ INIT i classes`
 abbrev pub initiator_with : Option ℕ → List ℕ → Says
 initiator_with None classes = bad
-initiator_with (Some number) classes = says.Initiator number classes
+initiator_with (Some number) classes = configures (config.Initiator number classes)
 
 abbrev pub initiator_of : List (List ℕ) → Says
 initiator_of (number ∷ classes ∷ []) = initiator_with (number_within 0 65535 number) classes
@@ -66,20 +73,29 @@ abbrev pub writes_of : List (List ℕ) → Says
 writes_of (text ∷ []) = writes_with (class_of (before_star text)) (times_in text)
 writes_of _ = bad
 
--- `./ READ` has no operand
-abbrev pub opens : List (List ℕ) → LineSays
-opens [] = line.Opens None
-opens (operand ∷ operands) = line.Opens (Some fault.BadValue)
+-- `./ READ`
+abbrev pub deck_of : List (List ℕ) → Block
+deck_of [] = Deck
+deck_of (operand ∷ operands) = Faulty fault.BadValue
+
+-- `./ PROC name`
+abbrev pub procedure_with : List ℕ → Block
+procedure_with name = if is_none (name8_fault name) then Procedure name else Faulty fault.BadValue
+
+abbrev pub procedure_of : List (List ℕ) → Block
+procedure_of (name ∷ []) = procedure_with name
+procedure_of _ = Faulty fault.BadValue
 
 abbrev pub says_by : List ℕ → List (List ℕ) → LineSays
 says_by word operands =
     if bytes_eq word (codes "VOLUME") then line.One (volume_of operands)
     else (if bytes_eq word (codes "UNIT") then line.One (unit_of operands)
     else (if bytes_eq word (codes "INIT") then line.One (initiator_of operands)
-    else (if bytes_eq word (codes "READ") then opens operands
+    else (if bytes_eq word (codes "PROC") then line.Opens (procedure_of operands)
+    else (if bytes_eq word (codes "READ") then line.Opens (deck_of operands)
     else (if bytes_eq word (codes "TURN") then line.One (turns_of operands)
     else (if bytes_eq word (codes "WRITE") then line.One (writes_of operands)
-    else line.One (says.Refused fault.UnknownStatement))))))
+    else line.One (says.Refused fault.UnknownStatement)))))))
 
 abbrev pub says_in : Bool → List (List ℕ) → LineSays
 says_in marked [] = line.Blank
@@ -99,12 +115,16 @@ is_end_by _ = false
 abbrev pub is_end : List ℕ → Bool
 is_end text = is_marked text && is_end_by (fields_of text)
 
--- a block without END: a text that was cut there tells so
-abbrev pub open_fault : Ending → Option Fault → Fault
-open_fault TooLong own = fault.TooLong
-open_fault ReadFailed own = fault.ReadFailed
-open_fault Whole (Some own) = own
-open_fault Whole None = fault.NoEnd
+-- a block that the text's end leaves open: a text that was cut there tells so
+abbrev pub left_open : Block → Says
+left_open Deck = says.Refused fault.NoEnd
+left_open (Procedure name) = says.Config (config.Procedure name []) false
+left_open (Faulty own) = says.Refused own
+
+abbrev pub open_says : Ending → Block → Says
+open_says Whole block = left_open block
+open_says TooLong block = says.Refused fault.TooLong
+open_says ReadFailed block = says.Refused fault.ReadFailed
 
 abbrev pub statement_at : ℕ → Says → Statement
 statement_at n s = record { line = n; says = s }
@@ -115,21 +135,23 @@ at_end Whole n = []
 at_end TooLong n = statement_at n (says.Refused fault.TooLong) ∷ []
 at_end ReadFailed n = statement_at n (says.Refused fault.ReadFailed) ∷ []
 
--- a block that begins with line n: its cards are the rows before its END
-abbrev pub read_with : Option Fault → List (List ℕ) → Says
-read_with None cards = says.Events (event.Read cards) 1
-read_with (Some own) cards = says.Refused own
+-- a block with these lines
+abbrev pub block_says : Block → List (List ℕ) → Says
+block_says Deck lines = says.Events (event.Read lines) 1
+block_says (Procedure name) lines = says.Config (config.Procedure name lines) true
+block_says (Faulty own) lines = says.Refused own
 
-abbrev pub block_to : Option ℕ → Ending → ℕ → Option Fault → List (List ℕ) → List Statement → List Statement
-block_to None ending n own rows behind = statement_at n (says.Refused (open_fault ending own)) ∷ []
-block_to (Some end) ending n own rows behind = statement_at n (read_with own (take end rows)) ∷ behind
+-- a block that begins with line n: its lines are the rows before its END
+abbrev pub block_to : Option ℕ → Ending → ℕ → Block → List (List ℕ) → List Statement → List Statement
+block_to None ending n block rows behind = statement_at n (open_says ending block) ∷ []
+block_to (Some end) ending n block rows behind = statement_at n (block_says block (take end rows)) ∷ behind
 
 -- What begins with line n, by what it says. Of the rows behind it two readings are at hand: next, where they are statements, and behind,
 -- where they are a block, the statements behind its END.
 abbrev pub by_line : LineSays → Ending → ℕ → List (List ℕ) → List Statement → List Statement → List Statement
 by_line line.Blank ending n rows next behind = next
 by_line (line.One s) ending n rows next behind = statement_at n s ∷ next
-by_line (line.Opens own) ending n rows next behind = block_to (position is_end rows) ending n own rows behind
+by_line (line.Opens block) ending n rows next behind = block_to (position is_end rows) ending n block rows behind
 
 abbrev mutual
   -- the statements of rows, the first of which is line n
@@ -146,5 +168,5 @@ abbrev pub statements_of : Ending → List ℕ → List Statement
 statements_of ending text = statements_from ending 1 (lines_of ending text)
 
 -- the block that begins with line n and before these rows, and what stands behind it
-abbrev pub block_with : Ending → ℕ → Option Fault → List (List ℕ) → List Statement
-block_with ending n own rows = block_to (position is_end rows) ending n own rows (behind_end ending (n + 1) rows)
+abbrev pub block_with : Ending → ℕ → Block → List (List ℕ) → List Statement
+block_with ending n block rows = block_to (position is_end rows) ending n block rows (behind_end ending (n + 1) rows)

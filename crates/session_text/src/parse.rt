@@ -1,12 +1,14 @@
 //! Lines to statements.
-ghost use Rattle.std.specs.Prelude.{◌≡◌, ◌≤◌, ◌+◌, ◌++◌, ◌∷◌, [], drop, length, position, take, IfNone, IfOk, IfSome, None, OnOk, Some};
+ghost use Rattle.std.specs.Prelude.{◌≡◌, ◌≤◌, ◌+◌, ◌++◌, ◌∷◌, [], drop, length, position, take, true, IfNone, IfOk, IfSome, None, OnOk, Some};
 ghost use Rattle.session_text.specs.Lines.{lines_of};
-ghost use Rattle.session_text.specs.Statements.{at_end, block_with, is_end, open_fault, read_with, statements_from, statements_of};
+ghost use Rattle.session_text.specs.Statements.{at_end, block_says, block_with, is_end, left_open, open_says, statements_from, statements_of};
+ghost use Rattle.session_text.specs.Kept.{keeps_lines};
 
 use crate::fault::Fault;
 use crate::lines::next_line;
 use crate::says::line_says;
-use crate::statement::{Ending, LineSays, Says, Statement};
+use crate::statement::{Block, Ending, LineSays, Says, Statement};
+use machine_meaning::config::ConfigStatement;
 use machine_meaning::event::Event;
 use plain::lent::Lent;
 use plain::listed::Listed;
@@ -19,34 +21,50 @@ struct Place<'a> {
     line: usize,
 }
 
-/// A block: what it says, how many lines stand before its END, and what stands behind that.
+/// A block with its END: what it says, how many lines stand before that, and what stands behind it.
 #[derive(Drop)]
-struct Block<'a> {
+struct Ended<'a> {
     says: Says<'a>,
     count: usize,
     behind: &'a [u8],
 }
 
-fn read_with<'a>(own: Option<Fault>, cards: Listed<Lent<'a>>) -> Says<'a>
-    ensures { result ≡ read_with own cards.entry }
+fn block_says<'a>(block: &Block, lines: Listed<Lent<'a>>) -> Says<'a>
+    ensures { result ≡ block_says block.now lines.entry }
 {
-    match own {
-        Some(fault) => Says::Refused(fault),
-        None => Says::Events(Event::Read(cards), 1),
+    match *block {
+        Block::Deck => Says::Events(Event::Read(lines), 1),
+        Block::Procedure(name) => Says::Config {
+            statement: ConfigStatement::Procedure { name, lines },
+            has_end: true,
+        },
+        Block::Faulty(fault) => Says::Refused(fault),
     }
 }
 
-/// Puts a card behind the others. With a fault of the block's own none is wanted.
-fn keep_card<'a>(
-    own: Option<Fault>,
-    card: &'a [u8],
-    cards: &mut Listed<Lent<'a>>,
-) -> Result<(), AllocError>
-    ensures { OnOk result (own ≡ None → cards.new ≡ cards.old ++ card.now ∷ []) }
+/// Whether the lines of a block are wanted: not where it has a fault of its own.
+fn keeps_lines(block: &Block) -> bool
+    ensures { result ≡ keeps_lines block.now }
 {
-    match own {
-        Some(_) => Ok(()),
-        None => cards.push(Lent::new(card)),
+    match block {
+        Block::Deck => true,
+        Block::Procedure(_) => true,
+        Block::Faulty(_) => false,
+    }
+}
+
+/// Puts a line behind the others, where they are wanted.
+fn keep_line<'a>(
+    wanted: bool,
+    line: &'a [u8],
+    lines: &mut Listed<Lent<'a>>,
+) -> Result<(), AllocError>
+    ensures { OnOk result (wanted ≡ true → lines.new ≡ lines.old ++ line.now ∷ []) }
+{
+    if wanted {
+        lines.push(Lent::new(line))
+    } else {
+        Ok(())
     }
 }
 
@@ -54,44 +72,59 @@ fn keep_card<'a>(
 fn block_in<'a>(
     alloc: Global,
     text: &'a [u8],
-    own: Option<Fault>,
+    block: &Block,
     ending: Ending,
-) -> Result<Option<Block<'a>>, AllocError>
+) -> Result<Option<Ended<'a>>, AllocError>
     ensures end { IfOk result (λ r. IfSome r (λ b. position is_end (lines_of ending text.now) ≡ Some b.count)) }
-    ensures says { IfOk result (λ r. IfSome r (λ b. b.says ≡ read_with own (take b.count (lines_of ending text.now)))) }
+    ensures says { IfOk result (λ r. IfSome r (λ b. b.says ≡ block_says block.now (take b.count (lines_of ending text.now)))) }
     ensures behind { IfOk result (λ r. IfSome r (λ b. lines_of ending b.behind.now ≡ drop (b.count + 1) (lines_of ending text.now))) }
     ensures bound { IfOk result (λ r. IfSome r (λ b. b.count + 1 + length b.behind.now ≤ length text.now)) }
     ensures none { IfOk result (λ r. IfNone r (position is_end (lines_of ending text.now) ≡ None)) }
 {
-    let mut cards = Listed::empty(alloc);
+    let wanted = keeps_lines(block);
+    let mut lines = Listed::empty(alloc);
     let mut rest = text;
     let mut count = 0;
     while let Some((row, behind)) = next_line(rest, ending) {
         if row.is_end() {
-            let says = read_with(own, cards);
-            return Ok(Some(Block {
+            let says = block_says(block, lines);
+            return Ok(Some(Ended {
                 says,
                 count,
                 behind,
             }));
         }
-        keep_card(own, row.bytes, &mut cards)?;
+        keep_line(wanted, row.bytes, &mut lines)?;
         count += 1;
         rest = behind;
     }
     Ok(None)
 }
 
-fn open_fault(ending: Ending, own: Option<Fault>) -> Fault
-    ensures { result ≡ open_fault ending own }
+/// What a block says that a whole text's end leaves open.
+fn left_open(alloc: Global, block: &Block) -> Says<'static>
+    ensures { result ≡ left_open block.now }
+{
+    match *block {
+        Block::Deck => Says::Refused(Fault::NoEnd),
+        Block::Procedure(name) => Says::Config {
+            statement: ConfigStatement::Procedure {
+                name,
+                lines: Listed::empty(alloc),
+            },
+            has_end: false,
+        },
+        Block::Faulty(fault) => Says::Refused(fault),
+    }
+}
+
+fn open_says(alloc: Global, ending: Ending, block: &Block) -> Says<'static>
+    ensures { result ≡ open_says ending block.now }
 {
     match ending {
-        Ending::TooLong => Fault::TooLong,
-        Ending::ReadFailed => Fault::ReadFailed,
-        Ending::Whole => match own {
-            Some(fault) => fault,
-            None => Fault::NoEnd,
-        },
+        Ending::Whole => left_open(alloc, block),
+        Ending::TooLong => Says::Refused(Fault::TooLong),
+        Ending::ReadFailed => Says::Refused(Fault::ReadFailed),
     }
 }
 
@@ -101,26 +134,26 @@ fn push_block<'a>(
     out: &mut Listed<Statement<'a>>,
     text: &'a [u8],
     line: usize,
-    own: Option<Fault>,
+    block: &Block,
     ending: Ending,
 ) -> Result<Option<Place<'a>>, AllocError>
     requires { line + length text.now + 1 ≤ usize.MAX }
     ensures next { IfOk result (λ r. IfSome r (λ next. out.new ++ statements_from ending next.line (lines_of ending next.rest.now)
-        ≡ out.old ++ block_with ending line own (lines_of ending text.now))) }
-    ensures last { IfOk result (λ r. IfNone r (out.new ≡ out.old ++ block_with ending line own (lines_of ending text.now))) }
+        ≡ out.old ++ block_with ending line block.now (lines_of ending text.now))) }
+    ensures last { IfOk result (λ r. IfNone r (out.new ≡ out.old ++ block_with ending line block.now (lines_of ending text.now))) }
     ensures lines { IfOk result (λ r. IfSome r (λ next. next.line + length next.rest.now ≤ line + 1 + length text.now)) }
     ensures shorter { IfOk result (λ r. IfSome r (λ next. length next.rest.now ≤ length text.now)) }
 {
-    let Some(block) = block_in(alloc, text, own, ending)? else {
-        let says = Says::Refused(open_fault(ending, own));
+    let Some(ended) = block_in(alloc, text, block, ending)? else {
+        let says = open_says(alloc, ending, block);
         out.push(Statement { line, says })?;
         return Ok(None);
     };
-    let Block {
+    let Ended {
         says,
         count,
         behind,
-    } = block;
+    } = ended;
     out.push(Statement { line, says })?;
     Ok(Some(Place {
         rest: behind,
@@ -154,7 +187,7 @@ fn push_statement<'a>(
             out.push(Statement { line, says })?;
             Ok(Some(behind))
         }
-        LineSays::Opens(own) => push_block(alloc, out, text, line, own, ending),
+        LineSays::Opens(block) => push_block(alloc, out, text, line, &block, ending),
     }
 }
 

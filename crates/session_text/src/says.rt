@@ -1,18 +1,29 @@
 //! What a line outside a block says.
 ghost use Rattle.std.specs.Prelude.{◌≡◌, IfOk};
 ghost use Rattle.session_text.specs.Fields.{fields_of};
-ghost use Rattle.session_text.specs.Statements.{initiator_of, opens, says_by, says_of, turns_of, unit_of, volume_of, writes_of};
+ghost use Rattle.session_text.specs.Statements.{configures, deck_of, initiator_of, procedure_of, says_by, says_of, turns_of, unit_of, volume_of, writes_of};
 
 use crate::fault::Fault;
 use crate::fields::{is_marked, next_field, only_field, two_fields};
-use crate::statement::{LineSays, Says};
+use crate::statement::{Block, LineSays, Says};
 use crate::values::{before_star, class_of, serials_in, times_in};
 use jname_core::decimal::number_within;
-use jname_core::name8::UnitName;
+use jname_core::name8::{Name8, UnitName};
 use jname_core::serial::Serial;
+use machine_meaning::config::ConfigStatement;
 use machine_meaning::event::Event;
 use plain::text::Text;
 use std::alloc::{AllocError, Global};
+
+/// Configuration on one line.
+fn configures(statement: ConfigStatement<'static>) -> Says<'static>
+    ensures { result ≡ configures statement.entry }
+{
+    Says::Config {
+        statement,
+        has_end: true,
+    }
+}
 
 fn volume(operands: &[u8]) -> Says<'static>
     ensures { result ≡ volume_of (fields_of operands.now) }
@@ -24,7 +35,7 @@ fn volume(operands: &[u8]) -> Says<'static>
         None => Says::Refused(Fault::BadValue),
         Some(tracks) => match Serial::read(serial.bytes) {
             None => Says::Refused(Fault::BadValue),
-            Some(serial) => Says::Volume { serial, tracks },
+            Some(serial) => configures(ConfigStatement::Volume { serial, tracks }),
         },
     }
 }
@@ -39,7 +50,7 @@ fn unit(alloc: Global, operands: &[u8]) -> Result<Says<'static>, AllocError>
         Err(_) => Ok(Says::Refused(Fault::BadValue)),
         Ok(name) => match serials_in(alloc, serials.bytes)? {
             None => Ok(Says::Refused(Fault::BadValue)),
-            Some(serials) => Ok(Says::Unit { name, serials }),
+            Some(serials) => Ok(configures(ConfigStatement::Unit { name, serials })),
         },
     }
 }
@@ -54,7 +65,7 @@ fn initiator(alloc: Global, operands: &[u8]) -> Result<Says<'static>, AllocError
         None => Ok(Says::Refused(Fault::BadValue)),
         Some(number) => {
             let classes = Text::copy_of(alloc, classes.bytes)?;
-            Ok(Says::Initiator { number, classes })
+            Ok(configures(ConfigStatement::Initiator { number, classes }))
         }
     }
 }
@@ -89,12 +100,24 @@ fn writes(operands: &[u8]) -> Says<'static>
     }
 }
 
-fn read(operands: &[u8]) -> LineSays<'static>
-    ensures { result ≡ opens (fields_of operands.now) }
+fn deck(operands: &[u8]) -> Block
+    ensures { result ≡ deck_of (fields_of operands.now) }
 {
     match next_field(operands) {
-        None => LineSays::Opens(None),
-        Some(_) => LineSays::Opens(Some(Fault::BadValue)),
+        None => Block::Deck,
+        Some(_) => Block::Faulty(Fault::BadValue),
+    }
+}
+
+fn procedure(operands: &[u8]) -> Block
+    ensures { result ≡ procedure_of (fields_of operands.now) }
+{
+    let Some(name) = only_field(operands) else {
+        return Block::Faulty(Fault::BadValue);
+    };
+    match Name8::read(name.bytes) {
+        Err(_) => Block::Faulty(Fault::BadValue),
+        Ok(name) => Block::Procedure(name),
     }
 }
 
@@ -107,8 +130,10 @@ fn word_says(alloc: Global, word: &[u8], operands: &[u8]) -> Result<LineSays<'st
         Ok(LineSays::One(unit(alloc, operands)?))
     } else if word == b"INIT".as_slice() {
         Ok(LineSays::One(initiator(alloc, operands)?))
+    } else if word == b"PROC".as_slice() {
+        Ok(LineSays::Opens(procedure(operands)))
     } else if word == b"READ".as_slice() {
-        Ok(read(operands))
+        Ok(LineSays::Opens(deck(operands)))
     } else if word == b"TURN".as_slice() {
         Ok(LineSays::One(turns(operands)))
     } else if word == b"WRITE".as_slice() {

@@ -1,10 +1,8 @@
 //! The statements of a session.
 use crate::fault::Fault;
-use jname_core::name8::UnitName;
-use jname_core::serial::Serial;
+use jname_core::name8::Name8;
+use machine_meaning::config::ConfigStatement;
 use machine_meaning::event::Event;
-use plain::listed::Listed;
-use plain::text::Text;
 
 /// How a text ended: whole, or cut where it was too long or could not be read further.
 #[derive(Clone, Copy, Debug, PartialEq, Eq)]
@@ -17,17 +15,10 @@ pub enum Ending {
 /// What a statement says.
 #[derive(Debug, Drop)]
 pub enum Says<'a> {
-    Volume {
-        serial: Serial,
-        tracks: u16,
-    },
-    Unit {
-        name: UnitName,
-        serials: Listed<Serial>,
-    },
-    Initiator {
-        number: u16,
-        classes: Text,
+    /// Configuration, and whether its block has an END; what is no block lacks none.
+    Config {
+        statement: ConfigStatement<'a>,
+        has_end: bool,
     },
     /// An event, so many times over.
     Events(Event<'a>, u16),
@@ -42,11 +33,22 @@ pub struct Statement<'a> {
     pub says: Says<'a>,
 }
 
+/// A block, by the line that opens it.
+#[derive(Debug, Drop)]
+pub enum Block {
+    /// A deck that is read.
+    Deck,
+    /// A procedure of the library.
+    Procedure(Name8),
+    /// The line has a fault of its own.
+    Faulty(Fault),
+}
+
 /// What a line outside a block says.
 #[derive(Debug, Drop)]
 pub enum LineSays<'a> {
     Blank,
     One(Says<'a>),
-    /// READ, with the fault that it has itself.
-    Opens(Option<Fault>),
+    /// It opens a block.
+    Opens(Block),
 }

@@ -1,6 +1,7 @@
 //! Texts at the edges of the rules, and their statements.
 use crate::parse::statements;
 use crate::statement::{Ending, Says, Statement};
+use machine_meaning::config::ConfigStatement;
 use machine_meaning::event::Event;
 use std::alloc::{AllocError, Global};
 use std::test::Fail;
@@ -46,15 +47,19 @@ fn show_event(
     Ok(())
 }
 
-fn show_says(alloc: Global, out: &mut Vec<u8>, says: &Says<'_>) -> Result<(), AllocError> {
-    match says {
-        Says::Volume { serial, tracks } => {
+fn show_config(
+    alloc: Global,
+    out: &mut Vec<u8>,
+    statement: &ConfigStatement<'_>,
+) -> Result<(), AllocError> {
+    match statement {
+        ConfigStatement::Volume { serial, tracks } => {
             show(out, b"VOLUME ")?;
             show(out, serial.as_slice())?;
             show(out, b" ")?;
             show_number(alloc, out, *tracks)?;
         }
-        Says::Unit { name, serials } => {
+        ConfigStatement::Unit { name, serials } => {
             show(out, b"UNIT ")?;
             show(out, name.as_slice())?;
             for serial in serials.as_slice() {
@@ -62,11 +67,31 @@ fn show_says(alloc: Global, out: &mut Vec<u8>, says: &Says<'_>) -> Result<(), Al
                 show(out, serial.as_slice())?;
             }
         }
-        Says::Initiator { number, classes } => {
+        ConfigStatement::Procedure { name, lines } => {
+            show(out, b"PROC ")?;
+            show(out, name.as_slice())?;
+            for line in lines.as_slice() {
+                show(out, b"|")?;
+                show(out, line.as_slice())?;
+            }
+        }
+        ConfigStatement::Initiator { number, classes } => {
             show(out, b"INIT ")?;
             show_number(alloc, out, *number)?;
             show(out, b" ")?;
             show(out, classes.as_slice())?;
+        }
+    }
+    Ok(())
+}
+
+fn show_says(alloc: Global, out: &mut Vec<u8>, says: &Says<'_>) -> Result<(), AllocError> {
+    match says {
+        Says::Config { statement, has_end } => {
+            show_config(alloc, out, statement)?;
+            if !*has_end {
+                show(out, b" WITHOUT END")?;
+            }
         }
         Says::Events(event, times) => show_event(alloc, out, event, *times)?,
         Says::Refused(fault) => {
@@ -165,6 +190,18 @@ const TEXTS: &[(&str, &str)] = &[
     ),
     ("./ READ\n./END\n./ END", "1:READ|./END;"),
     ("./ READ X\nA\n./ END\n./ TURN 1", "1:S2;4:TURN 1*1;"),
+    (
+        "./ PROC P\n//A EXEC PGM=X\n./ END\n./ TURN 1",
+        "1:PROC P|//A EXEC PGM=X;4:TURN 1*1;",
+    ),
+    ("./ PROC #1234567\n./  END ", "1:PROC #1234567;"),
+    ("./ PROC\nA\n./ END\n./ TURN 1", "1:S2;4:TURN 1*1;"),
+    ("./ PROC P Q\n./ END", "1:S2;"),
+    ("./ PROC 1P\n./ END", "1:S2;"),
+    ("./ PROC ABCDEFGHI\n./ END", "1:S2;"),
+    ("./ PROC p\n./ END", "1:S2;"),
+    ("./ PROC P\nA\n", "1:PROC P WITHOUT END;"),
+    ("./ PROC 1P\nA\n", "1:S2;"),
     ("./ READ\nA", "1:S4;"),
     ("\n./ READ", "2:S4;"),
     ("./ READ X\nA\n", "1:S2;"),
@@ -183,6 +220,8 @@ const CUT_TEXTS: &[(&str, &str, &str)] = &[
         "1:TURN 1*1;2:S6;",
     ),
     ("./ READ X\nA\nB", "1:S5;", "1:S6;"),
+    ("./ PROC P\nA\nB", "1:S5;", "1:S6;"),
+    ("./ PROC 1P\nA\nB", "1:S5;", "1:S6;"),
     ("./ READ\nA\n./ END", "1:S5;", "1:S6;"),
     ("./ READ\nA\n./ END\n", "1:READ|A;4:S5;", "1:READ|A;4:S6;"),
 ];

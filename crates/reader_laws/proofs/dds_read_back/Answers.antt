@@ -1,4 +1,4 @@
-use Rattle.reader_laws.proofs.Statements.{all_cards_are, cards_are, dummy_is, sysout_is, unnamed_is}
+use Rattle.reader_laws.proofs.DdStatements.{all_cards_are, cards_are, dummy_is, sysout_is, unnamed_is}
 use Rattle.reader_laws.proofs.dds_read_back.Goals as goal
 
 pub returns : goal.returns

@@ -1,4 +1,4 @@
-use Rattle.std.proofs.Common.{[], ◌++◌, Err, add-zero, rules}
+use Rattle.std.proofs.Common.{[], ◌++◌, Err, refl, add-zero, rules}
 use Rattle.session_core.specs.declared.SessionEnd.{SessionEnd}
 use Rattle.session_core.specs.Sessions.{session_behind}
 use Rattle.session_core.proofs.Progress.{Progress-ends, Progress-last, Progress-next, Progress-start, Progress-written, written_behind}
@@ -31,8 +31,8 @@ pub loop-statement-preserved-then-len-lt-MOST_HELD : goal.loop-statement-preserv
 loop-statement-preserved-then-len-lt-MOST_HELD g c =
     let so_far = c.loop-statement.invariant.so_far in
     let new = c.run_statement.new in
-    let next = Progress-next c.args.statements.now _ _ _ _ c.split_at.ensures.back c.loop-statement-test.true c.statement-item.is _ new.config _
-    new.system so_far.0 _ new.listing.marks.items _ new.listing.text.kept c.in-Ok.ensures.config so_far.2 c.in-Ok.ensures.runs in
+    let next = Progress-next c.args.statements.now _ _ _ _ c.split_at.ensures.back c.loop-statement-test.true c.statement-item.is _ _ _
+    new.system so_far.0 _ new.listing.marks.items _ new.listing.text.kept refl so_far.2 c.in-Ok.ensures.runs in
     record { so_far = (so_far.0, so_far.1, next); unfailed = search rules; same = search rules }
 
 -- the held lines are not written whole
@@ -41,8 +41,8 @@ returns-in-Err-write_out-clause-outcome g c =
     let all = c.args.statements.now in
     let so_far = c.loop-statement.invariant.so_far in
     let new = c.run_statement.new in
-    let next = Progress-next all _ _ _ _ c.split_at.ensures.back c.loop-statement-test.true c.statement-item.is _ new.config _ new.system so_far.0 _
-    new.listing.marks.items _ new.listing.text.kept c.in-Ok.ensures.config so_far.2 c.in-Ok.ensures.runs in
+    let next = Progress-next all _ _ _ _ c.split_at.ensures.back c.loop-statement-test.true c.statement-item.is _ _ _ new.system so_far.0 _
+    new.listing.marks.items _ new.listing.text.kept refl so_far.2 c.in-Ok.ensures.runs in
     written_behind {T = SessionEnd} (session_behind [] all) _ _ _ (Err c.in-Err-write_out.fault) so_far.0 so_far.1
     (c.in-Err-write_out.ensures.err (session_behind [] all) so_far.0 next.marked)
 
@@ -51,8 +51,8 @@ pub loop-statement-preserved : goal.loop-statement-preserved
 loop-statement-preserved g c =
     let so_far = c.loop-statement.invariant.so_far in
     let new = c.run_statement.new in
-    let next = Progress-next c.args.statements.now _ _ _ _ c.split_at.ensures.back c.loop-statement-test.true c.statement-item.is _ new.config _
-    new.system so_far.0 _ new.listing.marks.items _ new.listing.text.kept c.in-Ok.ensures.config so_far.2 c.in-Ok.ensures.runs in
+    let next = Progress-next c.args.statements.now _ _ _ _ c.split_at.ensures.back c.loop-statement-test.true c.statement-item.is _ _ _
+    new.system so_far.0 _ new.listing.marks.items _ new.listing.text.kept refl so_far.2 c.in-Ok.ensures.runs in
     let out = c.in-Ok-write_out.ensures in
     record {
       so_far = (so_far.0 ++ new.listing.text.kept, appended_twice _ _ _ _ _ so_far.1 out.ok, Progress-written _ _ _ _ _ _ _ _ _ _ next out.marks out.text);

@@ -20,7 +20,7 @@ loop-row-preserved c =
     let all = ap length first in
     record {
       left = next.1;
-      front = λ none. cc (c.in_ok-keep_card.ensures none, c.loop-row.invariant.front none, next.0, c.row.view_is);
+      front = λ none. cc (c.in_ok-keep_line.ensures none, c.loop-row.invariant.front none, next.0, c.row.view_is);
       place = omega (arith, c.loop-row.invariant.place, place);
       all = omega (arith, c.loop-row.invariant.all, all);
       within = omega (arith, c.in-Some.ensures.shorter, c.loop-row.invariant.within);

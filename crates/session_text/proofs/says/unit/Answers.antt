@@ -16,4 +16,4 @@ returns-in-Some-2 c =
     let is_name : IsUnitName c.in-Some.name = rw name_bytes at c.in-Ok.ensures.read.1 in
     let serials : (c.in-Some-2.serials ≡ listed_in c.serials.inside.bytes.now) × (list_any is_no_serial (listed_in c.serials.inside.bytes.now) ≡ false)
     = rw c.in-Some-2.is at c.in_ok-serials_in-in-Ok.ensures in
-    rw (same, serials.0, serial_bytes) (unit_kept _ (c.in-Some.name, c.in-Some.serials) two is_name (rw serial_bytes at serials.1))
+    c.configures.ensures ∙ rw (same, serials.0, serial_bytes) (unit_kept _ (c.in-Some.name, c.in-Some.serials) two is_name (rw serial_bytes at serials.1))

@@ -18,4 +18,4 @@ returns-in-Some-read c =
     let number : number_within 0 65535 c.in-Some.tracks ≡ Some c.in-Some-number_within.tracks = cc in
     let bytes : c.serial.inside.bytes.now ≡ c.in-Some.serial = c.serial.view_is in
     let same : c.in-Some-read.serial ≡ c.in-Some.serial = c.in-Some-read.ensures.read.0 ∙ bytes in
-    rw same (volume_kept _ (c.in-Some.serial, c.in-Some.tracks) c.in-Some-number_within.tracks two number (rw bytes at c.in-Some-read.ensures.read.1))
+    c.configures.ensures ∙ rw same (volume_kept _ (c.in-Some.serial, c.in-Some.tracks) c.in-Some-number_within.tracks two number (rw bytes at c.in-Some-read.ensures.read.1))

@@ -1,5 +1,9 @@
-use Rattle.sched_core.proofs.UnitNames.{named_more}
+use Rattle.std.proofs.Common.{◌≡◌, false}
+use Rattle.machine_meaning.specs.Configs.{has_unit}
+use Rattle.sched_core.proofs.Configuring.{unnamed}
 use Rattle.sched_core.proofs.units.Units.push.Goals as goal
 
-pub invariant_of-self-2 : goal.invariant_of-self-2
-invariant_of-self-2 c = rw (c.in-Ok-push.ensures.items, c.in_ok-reserve.ensures.items) (named_more c.self.inside.names c.insert.new.self c.self.inside.list.items c.args.unit c.self.invariant c.in-Ok.ensures.updates)
+pub add-requires-clause-new : goal.add-requires-clause-new
+add-requires-clause-new c =
+    let new : has_unit c.self.inside.list.items c.args.unit.name ≡ false = rw c.self.view_is c.requires.new in
+    rw c.self.invariant (unnamed c.self.inside.list.items c.args.unit.name new)

@@ -1,2 +1,0 @@
-mod ExecNames
-mod Refusals
