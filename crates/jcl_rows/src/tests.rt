@@ -1,6 +1,7 @@
 //! The tests, by what is read.
 mod cards;
 mod decks;
+mod edges;
 mod jobs;
 mod lists;
 mod procedures;

@@ -36,6 +36,21 @@ fn prepared(alloc: Global) -> Result<Fixture, AllocError> {
     })
 }
 
+/// The machine, or once more where memory was wanting, which is noted.
+fn started<'c>(
+    alloc: Global,
+    config: &'c Config,
+    refused: &mut bool,
+) -> Result<System<'c>, AllocError> {
+    match System::new(alloc, config) {
+        Ok(system) => Ok(system),
+        Err(_) => {
+            *refused = true;
+            System::new(alloc, config)
+        }
+    }
+}
+
 #[test]
 fn refused_memory_keeps_the_machine(rt: HostRuntime) -> Result<(), Fail> {
     let mut refused = false;
@@ -52,13 +67,7 @@ fn refused_memory_keeps_the_machine(rt: HostRuntime) -> Result<(), Fail> {
         wanted,
         mut text,
     } = all;
-    let mut system = match System::new(rt.alloc(), &config) {
-        Ok(system) => system,
-        Err(_) => {
-            refused = true;
-            System::new(rt.alloc(), &config)?
-        }
-    };
+    let mut system = started(rt.alloc(), &config, &mut refused)?;
     for event in &events {
         let lines = match system.apply_shown(event) {
             Ok(lines) => lines,
@@ -90,13 +99,7 @@ fn refused_memory_stops_a_drive(rt: HostRuntime) -> Result<(), Fail> {
         wanted,
         mut text,
     } = all;
-    let mut system = match System::new(rt.alloc(), &config) {
-        Ok(system) => system,
-        Err(_) => {
-            refused = true;
-            System::new(rt.alloc(), &config)?
-        }
-    };
+    let mut system = started(rt.alloc(), &config, &mut refused)?;
     let first = system.drive(events.as_slice());
     assert_eq!(rt; first.entries.len(), first.done);
     assert!(rt; first.done <= events.len());

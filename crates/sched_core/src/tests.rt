@@ -288,77 +288,17 @@ fn initiators_are_taken_or_have_their_faults(rt: HostRuntime) -> Result<(), Fail
     Ok(())
 }
 
-/// Decks, and why they are refused: first their cards, then their statements, then the procedures that they call, then their plan, then what the
-/// machine does not run.
+/// Decks, and why they are refused: what they denote with the procedures and the units that are configured, and last what the machine does not run.
 const DECKS: &[(&str, Option<Cause>)] = &[
-    ("//J JOB 1\n//S EXEC PGM=A\n//X DD DUMMY\n//\n", None),
-    ("", Some(Cause::P(StatementFault::NotOneJob))),
     (
-        "//J JOB 1\n//S EXEC PGM=A\n//X\tDD DUMMY\n",
-        Some(Cause::C(2)),
-    ),
-    ("\n", Some(Cause::C(7))),
-    (
-        "//J JOB 1\n//S EXEC PROCX\n//TOOLONGNAME DD *\n",
-        Some(Cause::N(2)),
-    ),
-    (
-        "//J JOB 1\n//S EXEC PROCX\n//9 DD DUMMY\n",
-        Some(Cause::N(3)),
-    ),
-    (
-        "//S EXEC PROCX\n//J JOB 1\n",
-        Some(Cause::P(StatementFault::NotOneJob)),
-    ),
-    (
-        "//J JOB 1,CLASS=Z\n//S EXEC PROCX\n",
-        Some(Cause::P(StatementFault::BadValue)),
-    ),
-    (
-        "//J JOB 1\n//S EXEC PROCX\n//X DD SYSOUT=*\n",
-        Some(Cause::P(StatementFault::BadValue)),
-    ),
-    (
-        "//J JOB 1\n//S EXEC PGM=A\n//S2 EXEC PGM=A\n//S3 EXEC\n",
-        Some(Cause::P(StatementFault::NotOneProgram)),
-    ),
-    ("//J JOB 1\n", Some(Cause::P(StatementFault::NoStep))),
-    (
-        "//J JOB 1\n//S EXEC PGM=A\n// DD DUMMY\n",
-        Some(Cause::P(StatementFault::NothingToContinue)),
-    ),
-    (
-        "//J JOB 1\n//S EXEC PGM=A\n//Y.X DD DUMMY\n",
-        Some(Cause::P(StatementFault::NoSuchProcedureStep)),
-    ),
-    (
-        "//J JOB 1\n//S EXEC PROCX\n",
-        Some(Cause::P(StatementFault::NoSuchProcedure)),
-    ),
-    (
-        "//J JOB 1\n//S EXEC PROCX\n//S2 EXEC PGM=A\n",
-        Some(Cause::P(StatementFault::NoSuchProcedure)),
-    ),
-    (
-        "//J JOB 1\n//S EXEC PGM=A\n//X DD DUMMY\n// DD DUMMY\n//S2 EXEC PROC=B\n",
-        Some(Cause::P(StatementFault::NoSuchProcedure)),
-    ),
-    (
-        "//J JOB 1\n//S EXEC PGM=A\n//S2 EXEC PGM=A,COND=(0,NE,S)\n",
-        None,
-    ),
-    (
-        "//J JOB 1\n//S EXEC PGM=A\n//X DD DUMMY\n// DD DUMMY\n",
+        "//J JOB 1\n//S EXEC PGM=A\n//X DD DUMMY\n// DD DUMMY\n//\n",
         None,
     ),
     ("//J JOB 1\n//S EXEC P,C=A\n", None),
+    ("\n", Some(Cause::C(7))),
     (
         "//J JOB 1\n//S EXEC P\n",
         Some(Cause::P(StatementFault::SymbolWithoutValue)),
-    ),
-    (
-        "//J JOB 1\n//S EXEC PGM=A,COND=(0,NE,T)\n",
-        Some(Cause::P(StatementFault::TestOfNoEarlierStep)),
     ),
     (
         "//J JOB 1\n//S EXEC PGM=A\n//X DD UNIT=NONE\n",
@@ -368,11 +308,6 @@ const DECKS: &[(&str, Option<Cause>)] = &[
         "//J JOB 1\n//S EXEC PGM=A\n//X DD UNIT=DISK\n",
         Some(Cause::P(StatementFault::LeftOut)),
     ),
-    (
-        "//J JOB 1\n//S EXEC PGM=A\n//X DD\n",
-        Some(Cause::P(StatementFault::LeftOut)),
-    ),
-    ("//J JOB 1\n//S EXEC PGM=A,COND=EVEN\n", None),
 ];
 
 /// A volume, a unit, and a procedure with a symbol that no value is given to.

@@ -21,6 +21,11 @@ const LIBRARY: &[(&str, &str)] = &[
     ),
     ("CALLS", "//A EXEC P"),
     ("LATE", "//A EXEC PGM=X,PARM='Y"),
+    ("DATA", "//A EXEC PGM=X\n//I DD *"),
+    ("EMPTY", "//EMPTY PROC"),
+    ("JOBBED", "//A EXEC PGM=X\n//K JOB 1"),
+    ("ENDED", "//A EXEC PGM=X\n// PEND"),
+    ("EARLY", "//D DD DUMMY\n//A EXEC PGM=X"),
 ];
 
 fn library(alloc: Global) -> Result<ProcLibrary, Fail> {
@@ -105,12 +110,12 @@ fn shown(alloc: Global, plan: &JobPlan) -> Result<Vec<u8>, AllocError> {
 }
 
 /// The job of a deck whose JOB statement is plain, or why it is refused.
-fn job_in(alloc: Global, text: &str) -> Result<Result<JobPlan, Cause>, Fail> {
+pub fn job_in(alloc: Global, text: &str) -> Result<Result<JobPlan, Cause>, Fail> {
     let library = library(alloc)?;
     let units = units(alloc)?;
     let mut cards = Vec::new(alloc);
     cards.push(Lent::new(b"//J JOB 1"))?;
-    for line in text.split('\n') {
+    for line in text.lines() {
         cards.push(Lent::new(line.as_bytes()))?;
     }
     match job_of(alloc, &units, &library, cards.as_slice()) {
