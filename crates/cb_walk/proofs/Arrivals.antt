@@ -1,0 +1,96 @@
+-- What is lent of a record, and arriving at it.
+use Rattle.std.proofs.Common.{◌≡◌, ℕ, ◌+◌, ◌-◌, ◌<◌, ◌≤◌, ◌≢◌, ◌==◌, ◌||◌, not, Bool, true, false, cond, List, ◌∷◌, length}
+use Rattle.std.proofs.Common.{drop, get_or, set, length-set, replicate, Option, Some, None, refl}
+use Rattle.std.proofs.Common.{sym, ap, subst, ◌∙◌, arith, inl, inr, get_or-set_same, get_or-set_other}
+use Rattle.std.specs.Prelude.{nat_lt, if◌then◌else◌, is_none, IfSome}
+use Rattle.std.proofs.lemmas.Bool.{cases_Bool, and_parts, leb-true, ltb-true, ltb-false, or_parts}
+use Rattle.std.proofs.lemmas.Grind.{same_number_lists}
+use Rattle.std.proofs.lemmas.List.{get_or-drop, get_or-replicate, get_or-take}
+use Rattle.std.proofs.lemmas.Bool.Decides.{eqb_tells}
+use Rattle.cb_meaning.specs.declared.layout.Layout.{Layout}
+use Rattle.cb_meaning.specs.Fields.{byte_at, is_in, part}
+use Rattle.cb_meaning.specs.Walks.{arrival_fault, is_free, kind_of, owner_of}
+use Rattle.cb_records.specs.Writes.{ChangesOnly}
+use Rattle.cb_queue.specs.RecordQueues.{IsInUse, IsLent, IsSound, RecordQueue, bytes_or_zeros, owner_in, record_at, shown}
+use Rattle.cb_queue.proofs.Changing.{shows_owner}
+use Rattle.cb_walk.specs.Marks.{AreMarked, arrival_told, is_met, kind_in}
+
+-- zeros in a link that was changed alone give the record back
+pub given_again : (l : Layout) (r s t : List ℕ) → IsInUse l r → ChangesOnly l.link r s → ChangesOnly l.link s t →
+    part t l.link.at l.link.width ≡ replicate l.link.width 0 → t ≡ r
+given_again l r s t used first second zeros =
+    same_number_lists t r (second.size ∙ first.size) (λ k h. elim (cases_Bool (is_in l.link k)) [
+      | inl within ↦
+          (let parts = and_parts _ _ within in
+          let low = leb-true l.link.at k parts.0 in
+          let high = ltb-true k (l.link.at + l.link.width) parts.1 in
+          let place : l.link.at + (k - l.link.at) ≡ k = omega (arith, low) in
+          let read = get_or-take l.link.width (drop l.link.at t) (k - l.link.at) 0 (omega (arith, low, high)) ∙ get_or-drop l.link.at t (k - l.link.at) 0 in
+          let byte : get_or t (l.link.at + (k - l.link.at)) 0 ≡ 0 = sym read ∙ ap (λ xs. get_or xs (k - l.link.at) 0) zeros
+          ∙ get_or-replicate l.link.width (k - l.link.at) 0 0 (omega (arith, low, high)) in
+          ap (λ m. get_or t m 0) (sym place) ∙ byte ∙ sym (used.link k within))
+      | inr without ↦ second.others k without ∙ first.others k without
+    ])
+
+lent_is : (l : Layout) (o : Option (List ℕ)) (s t : List ℕ) → IfSome o (IsInUse l) → IsLent l o (Some s) → ChangesOnly l.link s t →
+    part t l.link.at l.link.width ≡ replicate l.link.width 0 → Some t ≡ o
+lent_is l None s t used lent change zeros = absurd lent
+lent_is l (Some r) s t used lent change zeros = ap Some (given_again l r s t used lent change zeros)
+
+pub record_is : (q : RecordQueue) → IsSound q → (l : Layout) → l ≡ q.layout → (n : ℕ) (s t : List ℕ) → IsLent q.layout (record_at q n) (Some s) →
+    ChangesOnly l.link s t → part t l.link.at l.link.width ≡ replicate l.link.width 0 → Some t ≡ record_at q n
+record_is q sound l same n s t lent change zeros =
+    let Lent : Layout → Type 0 = λ x. IsLent x (record_at q n) (Some s) in
+    let Used : Layout → Type 0 = λ x. IfSome (record_at q n) (IsInUse x) in
+    lent_is l (record_at q n) s t (subst Used (sym same) (sound.in_use n)) (subst Lent (sym same) lent) change zeros
+
+-- one record more is marked
+pub marked_more : (marks : List Bool) (seen : List ℕ) (n : ℕ) → n < length marks → AreMarked marks seen → AreMarked (set marks n true) (n ∷ seen)
+marked_more marks seen n h marked m k =
+    elim (eqb_tells n m) [
+      | inl same ↦
+          (let P : ℕ → Type 0 = λ x. get_or (set marks n true) x false ≡ true in
+          subst P same.1 (get_or-set_same marks n true false h) ∙ sym (ap (λ b. b || is_met seen m) same.0))
+      | inr other ↦
+          (let apart : m ≢ n = λ e. other.1 (sym e) in
+          get_or-set_other marks n m true false apart ∙ marked m (let size = length-set marks n true in omega (arith, size, k))
+          ∙ sym (ap (λ b. b || is_met seen m) other.0))
+    ]
+
+kind_seen : (o : Option (List ℕ)) (b : Bool) → b ≡ is_none o → cond b 0 (byte_at (bytes_or_zeros o) 0) ≡ kind_in o
+kind_seen None b e = ap (λ x. cond x 0 (byte_at (bytes_or_zeros None) 0)) e
+kind_seen (Some r) b e = ap (λ x. cond x 0 (byte_at r 0)) e
+
+shown_kind : (q : RecordQueue) → IsSound q → (n : ℕ) → 1 ≤ n → n ≤ q.layout.most_records → kind_of (shown q) n ≡ kind_in (record_at q n)
+shown_kind q sound n low high = kind_seen (record_at q n) (is_free (shown q) n) (sound.free n low high)
+
+abbrev told_with : ℕ → ℕ → Bool → ℕ → ℕ → Bool → Option ℕ
+told_with job kind bad k owner met =
+    if bad then Some 1
+    else (if not (k == kind) then Some 2
+    else (if not (owner == job) then Some 3
+    else (if met then Some 4
+    else None)))
+
+record AreAlike (k j o p : ℕ) (m n : Bool) : Type 0 where
+  kinds : k ≡ j
+  owners : o ≡ p
+  met : m ≡ n
+
+under : (job kind : ℕ) (bad : Bool) (k j o p : ℕ) (m n : Bool) → (bad ≡ false → AreAlike k j o p m n) →
+    told_with job kind bad k o m ≡ told_with job kind bad j p n
+under job kind true k j o p m n h = refl
+under job kind false k j o p m n h =
+    let alike = h refl in
+    ap (λ x. told_with job kind false x o m) alike.kinds ∙ ap (λ x. told_with job kind false j x m) alike.owners
+    ∙ ap (λ x. told_with job kind false j p x) alike.met
+
+pub told_is : (q : RecordQueue) → IsSound q → (job kind n : ℕ) (seen : List ℕ) (met : Bool) → (n ≤ q.layout.most_records → met ≡ is_met seen n) →
+    arrival_fault q.layout (shown q) job kind seen n ≡ arrival_told q.layout (record_at q n) job kind met n
+told_is q sound job kind n seen met same =
+    under job kind (nat_lt n 1 || nat_lt q.layout.most_records n) (kind_of (shown q) n) (kind_in (record_at q n)) (owner_of (shown q) n)
+    (owner_in (record_at q n)) (is_met seen n) met (λ fine.
+    let parts = or_parts (nat_lt n 1) (nat_lt q.layout.most_records n) fine in
+    let low = ltb-false n 1 parts.0 in
+    let high = ltb-false q.layout.most_records n parts.1 in
+    record { kinds = shown_kind q sound n low high; owners = shows_owner q sound n; met = sym (same high) })

@@ -1,0 +1,9 @@
+mod Several
+mod Trims
+mod Earlier
+mod UsedFields
+mod Serials
+mod Arrivals
+mod Following
+mod UnderDds
+mod PassingDds

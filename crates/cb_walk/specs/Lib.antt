@@ -1,0 +1,5 @@
+pub mod Below
+pub mod Dds
+pub mod Follows
+pub mod Marks
+pub mod Used

@@ -1,0 +1,60 @@
+//! What stands below an SIOT: the JFCB of a set, or cards.
+ghost use Rattle.std.specs.Prelude.{◌≡◌, ◌+◌, length};
+ghost use Rattle.cb_walk.specs.Below.{below_from, jfcb_from};
+ghost use Rattle.cb_walk.specs.Follows.{Ends};
+
+use crate::arrival::arrive;
+use crate::dd::{has_cards, is_set};
+use crate::set::jfcb_fault;
+use crate::walk_cards::walk_cards;
+use cb_queue::store::RecordStore;
+use cb_records::rec::Rec;
+use plain::listed::Listed;
+
+/// Walks over the JFCB of a DD, which stands behind these DDs and steps.
+fn walk_jfcb<S: RecordStore>(
+    store: &S,
+    marks: &mut [bool],
+    job: u16,
+    steps: &[Listed<bool>],
+    dds: &[bool],
+    siot: &Rec,
+    n: u32,
+) -> Result<(), u8>
+    requires { length marks.old ≡ (S.queue store.now).layout.most_records + 1 }
+    ensures { Ends marks.old marks.new (jfcb_from (S.queue store.now) job steps.now dds.now siot.now n) result }
+{
+    let layout = store.layout();
+    let r = match arrive(store, marks, job, 4, n) {
+        Ok(r) => r,
+        Err(fault) => return Err(fault),
+    };
+    match jfcb_fault(layout, steps, dds, siot, &r) {
+        Some(fault) => Err(fault),
+        None => Ok(()),
+    }
+}
+
+/// Walks over what stands below an SIOT.
+pub(crate) fn walk_below<S: RecordStore>(
+    store: &S,
+    marks: &mut [bool],
+    job: u16,
+    fuel: u32,
+    steps: &[Listed<bool>],
+    dds: &[bool],
+    siot: &Rec,
+) -> Result<(), u8>
+    requires { length marks.old ≡ (S.queue store.now).layout.most_records + 1 }
+    ensures { Ends marks.old marks.new (below_from (S.queue store.now) job fuel steps.now dds.now siot.now) result }
+{
+    let layout = store.layout();
+    let below = siot.number(layout.below);
+    if is_set(siot) {
+        walk_jfcb(store, marks, job, steps, dds, siot, below)
+    } else if has_cards(siot) {
+        walk_cards(store, marks, job, fuel, siot.number(layout.cards), below)
+    } else {
+        Ok(())
+    }
+}

@@ -1,0 +1,72 @@
+//! The walk over the records of a DD's cards.
+ghost use Rattle.std.specs.Prelude.{◌≡◌, ◌≢◌, ◌+◌, ◌≤◌, length};
+ghost use Rattle.cb_walk.specs.Follows.{Ends, Passes, cards_from};
+
+use crate::arrival::arrive;
+use crate::cards::card_fault;
+use cb_queue::store::RecordStore;
+
+/// Passes one record of cards. Tells how many cards were read then, and the number of the next record, or a fault.
+fn pass_cards<S: RecordStore>(
+    store: &S,
+    marks: &mut [bool],
+    job: u16,
+    stated: u32,
+    read: u64,
+    n: u32,
+) -> Result<(u64, u32), u8>
+    requires marks { length marks.old ≡ (S.queue store.now).layout.most_records + 1 }
+    requires within { read ≤ stated }
+    requires some { n ≢ 0 }
+    ensures { Passes (S.queue store.now) job stated read n marks.old marks.new result }
+{
+    let layout = store.layout();
+    let r = match arrive(store, marks, job, 5, n) {
+        Ok(r) => r,
+        Err(fault) => return Err(fault),
+    };
+    match card_fault(layout, &r) {
+        Some(fault) => return Err(fault),
+        None => {}
+    }
+    let more = read + u64::from(r.byte(10));
+    if u64::from(stated) < more {
+        return Err(10);
+    }
+    Ok((more, r.number(layout.next_cards)))
+}
+
+/// Walks over the cards of a DD, so many as it states, and over so many records less one at most.
+pub(crate) fn walk_cards<S: RecordStore>(
+    store: &S,
+    marks: &mut [bool],
+    job: u16,
+    fuel: u32,
+    stated: u32,
+    first: u32,
+) -> Result<(), u8>
+    requires { length marks.old ≡ (S.queue store.now).layout.most_records + 1 }
+    ensures { Ends marks.old marks.new (cards_from (S.queue store.now) job fuel stated 0 first) result }
+{
+    let mut n = first;
+    let mut read = 0;
+    let mut left = fuel;
+    while left > 0 {
+        if n == 0 {
+            return if read == u64::from(stated) {
+                Ok(())
+            } else {
+                Err(5)
+            };
+        }
+        match pass_cards(store, marks, job, stated, read, n) {
+            Ok((more, next)) => {
+                read = more;
+                n = next;
+            }
+            Err(fault) => return Err(fault),
+        }
+        left -= 1;
+    }
+    Err(4)
+}

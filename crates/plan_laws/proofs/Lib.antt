@@ -1,0 +1,11 @@
+pub mod Making
+pub mod Few
+pub mod Tests
+pub mod Places
+pub mod References
+pub mod Units
+pub mod DdFacts
+pub mod LeftDds
+pub mod Placing
+pub mod SoundPlans
+pub mod SoundDecks

@@ -1,0 +1,4 @@
+pub mod Each
+pub mod PlanLaws
+pub mod Sound
+pub mod Examples
