@@ -20,11 +20,8 @@ use Rattle.jcl_cards.specs.declared.exec.ExecCard.{ExecCard}
 use Rattle.jcl_cards.specs.declared.exec.Runs.{Runs}
 use Rattle.jcl_cards.specs.declared.exec.StepCondition.{StepCondition}
 use Rattle.jcl_cards.specs.ExecCards.{ExecKeyword, IsLeftOut, IsUnknown, OfCondition, OfForm, OfParm, OfProcedure, OfProgram, OfSymbol, calls, exec_keyword, exec_with, faults_of, has_positional, is_symbol, program_faults, runs_badly, step_faults, step_named}
-use Rattle.jcl_cards.specs.Execs.{AreRead, CanRun, HaveNoFault, condition_faults, is_form, is_left_out}
+use Rattle.jcl_cards.specs.Execs.{AreRead, CanRun, HaveNoFault, condition_faults, faults_on, is_form, is_left_out}
 use Rattle.jcl_cards.specs.Keywords.{as_it_is, symbol_faults, twice_faults}
-
-abbrev pub faults_on : Bool → Keyword → List Cause
-faults_on called k = faults_of (exec_keyword called k.key) k
 
 -- a symbol's keyword without a fault has the name of a symbol
 abbrev is_the_symbol : ExecKeyword → Bool
@@ -43,12 +40,6 @@ symbol_cases k IsUnknown is none = absurd (cc)
 
 pub symbol_is_named : (k : Keyword) → is_symbol k ≡ true → faults_on true k ≡ [] → symbol_faults k.key ≡ []
 symbol_is_named k is none = symbol_cases k (exec_keyword true k.key) is none
-
--- COND without a step
-pub condition_is_read : (called : Bool) (k : Keyword) → bytes_eq k.key (codes "COND") ≡ true → faults_on called k ≡ [] → condition_faults k.value ≡ []
-condition_is_read called k is none =
-    let key : k.key ≡ codes "COND" = (bytes_eq-Decides k.key (codes "COND")).0 is in
-    none_behind (step_faults k.key) (condition_faults k.value) (ap (λ word. faults_of (exec_keyword called word) k) (sym key) ∙ none)
 
 -- what a keyword is, by what holds of its key
 abbrev word_of : Bool → Bool → Bool → Bool → Bool → Bool → Bool → Bool → ExecKeyword

@@ -5,4 +5,5 @@ pub mod Later
 pub mod JobWords
 pub mod ExecNames
 pub mod Five
+pub mod Conditions
 pub mod DdWords

@@ -36,6 +36,10 @@ is_form head = is_among (codes "REGION" ∷ codes "TIME" ∷ codes "ACCT" ∷ []
 abbrev pub condition_faults : Option (List ℕ) → List Cause
 condition_faults value = (condition_of value).faults
 
+-- the faults of a keyword
+abbrev pub faults_on : Bool → Keyword → List Cause
+faults_on calls k = faults_of (exec_keyword calls k.key) k
+
 -- the keywords have no fault on a statement that calls a procedure or not
 abbrev pub HaveNoFault : Bool → List Keyword → Type 0
 HaveNoFault calls keywords = flat_map (λ k. faults_of (exec_keyword calls k.key) k) keywords ≡ []
@@ -48,9 +52,6 @@ program_of keywords = unwrap_or (value_of (codes "PGM") keywords) []
 
 abbrev pub symbols_of : List Keyword → List Symbol
 symbols_of keywords = map symbol_of (filter is_symbol keywords)
-
-abbrev pub is_conditional_step : List ℕ → Bool
-is_conditional_step key = is_qualified key && bytes_eq (head_of key) (codes "COND")
 
 abbrev pub step_conditions_of : List Keyword → List StepCondition
 step_conditions_of keywords = map step_condition (filter is_step_condition keywords)

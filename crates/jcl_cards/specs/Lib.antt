@@ -2,6 +2,7 @@ pub mod Keywords
 pub mod JobCards
 pub mod ExecCards
 pub mod ProcedureCards
+pub mod Conditions
 pub mod DdCards
 pub mod Merging
 pub mod Dds

@@ -1,16 +1,15 @@
 //! The EXEC statement. (GC28-6704, "EXEC statement")
-ghost use Rattle.std.specs.Prelude.{◌≡◌, true, IfOk, None};
-ghost use Rattle.std.specs.Option.{option_copied};
-ghost use Rattle.operand_core.specs.Faults.{told};
+ghost use Rattle.std.specs.Prelude.{◌≡◌, true, IfOk};
 ghost use Rattle.operand_core.specs.Operands.{operand_of};
 ghost use Rattle.operand_core.specs.Reading.{Tells, operand_with};
 ghost use Rattle.value_core.specs.Reads.{Gives, answer};
-ghost use Rattle.jcl_cards.specs.ExecCards.{calls, condition_in, condition_of, exec_card, exec_with, is_symbol, procedure_of, runs_badly, runs_of};
-ghost use Rattle.jcl_cards.specs.Execs.{AreRead, CanRun, HaveNoFault, condition_faults, is_conditional_step, named_steps_of};
-ghost use Rattle.jcl_cards.specs.Execs.{program_of, step_conditions_of, symbols_of};
+ghost use Rattle.jcl_cards.specs.Conditions.{IsOfKeywords};
+ghost use Rattle.jcl_cards.specs.ExecCards.{calls, exec_card, exec_with, is_symbol, procedure_of, runs_badly, runs_of};
+ghost use Rattle.jcl_cards.specs.Execs.{AreRead, CanRun, HaveNoFault, named_steps_of, program_of, symbols_of};
 
-use crate::exec_keyword::{ExecKeyword, KnownOnExec, condition_of, exec_keyword, step_named};
-use crate::rules::{Spelling, each_fault, long_operand, symbol_of, twice_fault};
+use crate::exec_conditions::read_keywords;
+use crate::exec_keyword::{ExecKeyword, exec_keyword, step_named};
+use crate::rules::{Spelling, long_operand, symbol_of, twice_fault};
 use jcl_plan::fault::{Cause, StatementFault};
 use jcl_symbols::symbol::Symbol;
 use jname_core::name8::Name8;
@@ -74,7 +73,9 @@ fn runs_badly(positional: &[Positional<'_>], keywords: &[Keyword<'_>]) -> bool
     !positional.is_empty() && has_key(keywords, b"PROC")
 }
 
-fn exec_fault(name: &[u8], operand: &Operand<'_>) -> Option<Cause>
+/// The fault of a statement, by that of its keywords.
+fn exec_fault(name: &[u8], operand: &Operand<'_>, of_keywords: Option<Cause>) -> Option<Cause>
+    requires { IsOfKeywords operand.now.positional.items operand.now.keywords.items of_keywords }
     ensures { Tells (λ denoted. (exec_with name.now denoted).faults) operand.now result }
 {
     let positional = operand.positional.as_slice();
@@ -86,10 +87,7 @@ fn exec_fault(name: &[u8], operand: &Operand<'_>) -> Option<Cause>
     );
     let with_runs = earlier(own, badly);
     let with_name = earlier(with_runs, read_name_fault(first_of(positional)));
-    let known = KnownOnExec {
-        calls: calls(positional, keywords),
-    };
-    let with_keywords = earlier(with_name, each_fault(&known, keywords));
+    let with_keywords = earlier(with_name, of_keywords);
     earlier(with_keywords, twice_fault(Spelling::One, keywords))
 }
 
@@ -150,57 +148,6 @@ fn runs_of(
     }
 }
 
-/// The condition of a keyword of which no fault is told.
-fn valid_condition(value: Option<&[u8]>) -> Condition
-    requires { told (condition_faults (option_copied value)) ≡ None }
-    ensures { result ≡ (condition_of (option_copied value.entry)).value }
-{
-    match condition_of(value) {
-        Ok(condition) => condition,
-        Err(_) => unreachable!(),
-    }
-}
-
-/// COND without a step, where it is coded.
-fn condition_in(keywords: &[Keyword<'_>]) -> Option<Condition>
-    requires { AreRead keywords.now }
-    ensures { result ≡ condition_in keywords.now }
-{
-    for keyword in keywords {
-        if keyword.key() == b"COND".as_slice() {
-            return Some(valid_condition(keyword.value()));
-        }
-    }
-    None
-}
-
-fn is_step_condition(key: &[u8]) -> bool
-    ensures { result ≡ is_conditional_step key.now }
-{
-    is_qualified(key) && head_of(key) == b"COND".as_slice()
-}
-
-/// The conditions of single steps, in their order.
-fn step_conditions_of(
-    alloc: Global,
-    keywords: &[Keyword<'_>],
-) -> Result<Listed<StepCondition>, AllocError>
-    requires { AreRead keywords.now }
-    ensures { IfOk result (λ found. found ≡ step_conditions_of keywords.now) }
-{
-    let mut found = Vec::new(alloc);
-    for keyword in keywords {
-        let key = keyword.key();
-        if is_step_condition(key) {
-            found.push(StepCondition {
-                step: valid_name(step_named(key)),
-                condition: valid_condition(keyword.value()),
-            })?;
-        }
-    }
-    Ok(Listed::new(found))
-}
-
 /// The steps that keywords name, in their order.
 fn named_steps_of(alloc: Global, keywords: &[Keyword<'_>]) -> Result<Listed<Name8>, AllocError>
     requires { AreRead keywords.now }
@@ -220,15 +167,17 @@ fn own_exec_card(alloc: Global, name: &[u8], operand: &[u8]) -> Result<ExecCard,
     ensures { Gives result (answer (exec_with name.now (operand_of 1 operand.now))) }
 {
     let operand = operand_of(alloc, 1, operand)?;
-    if let Some(fault) = exec_fault(name, &operand) {
+    let positional = operand.positional.as_slice();
+    let keywords = operand.keywords.as_slice();
+    let (conditions, of_keywords) = read_keywords(alloc, calls(positional, keywords), keywords)?;
+    if let Some(fault) = exec_fault(name, &operand, of_keywords) {
         return Err(ReadError::Refused(fault));
     }
-    let keywords = operand.keywords.as_slice();
     Ok(ExecCard {
         name: written_name(name),
-        runs: runs_of(alloc, operand.positional.as_slice(), keywords)?,
-        condition: condition_in(keywords),
-        step_conditions: step_conditions_of(alloc, keywords)?,
+        runs: runs_of(alloc, positional, keywords)?,
+        condition: conditions.own,
+        step_conditions: conditions.of_steps,
         named_steps: named_steps_of(alloc, keywords)?,
     })
 }

@@ -1,12 +1,13 @@
 //! The keywords of an EXEC statement.
-ghost use Rattle.std.specs.Prelude.{◌≡◌};
+ghost use Rattle.std.specs.Prelude.{◌≡◌, ◌≢◌};
 ghost use Rattle.std.specs.Option.{option_copied};
 ghost use Rattle.operand_core.specs.Faults.{told};
 ghost use Rattle.value_core.specs.Reads.{IsRead};
 ghost use Rattle.jcl_cards.specs.ExecCards.{condition_of, exec_keyword, faults_of, program_faults, read_parm_faults, step_faults, step_named};
-ghost use Rattle.jcl_cards.specs.Execs.{IsExecKeyword, is_form, is_left_out, condition_faults};
+ghost use Rattle.jcl_cards.specs.Execs.{IsExecKeyword, is_form, is_left_out};
+ghost use Rattle.jcl_cards.specs.declared.exec_keyword.ExecKeyword.TheVariants as ExecKeyword;
 
-use crate::rules::{KeywordRule, symbol_fault};
+use crate::rules::symbol_fault;
 use jcl_plan::fault::{Cause, StatementFault};
 use jcl_plan::plan::AfterAbend;
 use list_values::condition::{CodedTests, Condition};
@@ -80,7 +81,7 @@ pub(crate) fn step_named(key: &[u8]) -> &[u8]
     }
 }
 
-fn step_fault(key: &[u8]) -> Option<Cause>
+pub(crate) fn step_fault(key: &[u8]) -> Option<Cause>
     ensures { result ≡ told (step_faults key.now) }
 {
     if is_qualified(key) {
@@ -127,18 +128,10 @@ pub(crate) fn condition_of(value: Option<&[u8]>) -> Result<Condition, Cause>
     }
 }
 
-fn condition_fault(value: Option<&[u8]>) -> Option<Cause>
-    ensures { result ≡ told (condition_faults (option_copied value.entry)) }
-{
-    match condition_of(value) {
-        Ok(_) => None,
-        Err(fault) => Some(fault),
-    }
-}
-
-/// The fault of a keyword by what it is.
+/// The fault of a keyword that is no COND, by what it is.
 #[tactic(auto, using(operand_core::proofs::Told::told_append))]
-fn fault_of(word: ExecKeyword, keyword: &Keyword<'_>) -> Option<Cause>
+pub(crate) fn fault_of(word: ExecKeyword, keyword: &Keyword<'_>) -> Option<Cause>
+    requires { word ≢ ExecKeyword.Condition }
     ensures { (is : _) → IsExecKeyword word is → result ≡ told (faults_of is keyword.now) }
 {
     let key = keyword.key();
@@ -146,27 +139,11 @@ fn fault_of(word: ExecKeyword, keyword: &Keyword<'_>) -> Option<Cause>
     match word {
         ExecKeyword::Program => program_fault(value),
         ExecKeyword::Procedure => read_name_fault(value),
-        ExecKeyword::Condition => earlier(step_fault(key), condition_fault(value)),
         ExecKeyword::Parm => earlier(step_fault(key), read_parm_fault(value)),
         ExecKeyword::Form => step_fault(key),
         ExecKeyword::Symbol => symbol_fault(key),
         ExecKeyword::LeftOut => Some(Cause::P(StatementFault::LeftOut)),
         ExecKeyword::Unknown => Some(Cause::P(StatementFault::UnknownKeyword)),
-    }
-}
-
-/// The keywords of an EXEC that calls a procedure or not.
-#[derive(Clone, Copy, Debug)]
-pub(crate) struct KnownOnExec {
-    pub(crate) calls: bool,
-}
-
-impl KeywordRule for KnownOnExec {
-    ghost use Rattle.jcl_cards.specs.ExecCards.{exec_keyword, faults_of};
-
-    ghost faults = { λ rule k. faults_of (exec_keyword rule.calls k.key) k };
-
-    fn fault(&self, keyword: &Keyword<'_>) -> Option<Cause> {
-        fault_of(exec_keyword(self.calls, keyword.key()), keyword)
+        ExecKeyword::Condition => unreachable!(),
     }
 }

@@ -7,6 +7,7 @@ pub mod dd;
 mod dd_value;
 pub mod examples;
 pub mod exec;
+mod exec_conditions;
 mod exec_keyword;
 mod given;
 pub mod job;

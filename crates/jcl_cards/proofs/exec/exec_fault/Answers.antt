@@ -1,14 +1,15 @@
-use Rattle.std.proofs.Common.{◌++◌, ap, ◌∙◌}
+use Rattle.std.proofs.Common.{◌++◌, sym, ap, ◌∙◌}
 use Rattle.std.specs.List.{flat_map}
 use Rattle.jcl_plan.specs.declared.fault.Cause.TheVariants.{P}
 use Rattle.jcl_plan.specs.declared.fault.StatementFault.TheVariants.{NotOneProgram}
 use Rattle.operand_core.specs.Faults.{read_name_faults, told, when, written_name_faults}
 use Rattle.operand_core.specs.Operands.{Operand, first_of}
+use Rattle.operand_core.specs.Reading.{operand_with}
 use Rattle.operand_core.proofs.SameOperand.{operand_is}
 use Rattle.operand_core.proofs.Told.{told_joined}
 use Rattle.jcl_cards.specs.ExecCards.{calls, exec_with, runs_badly}
 use Rattle.jcl_cards.specs.Keywords.{as_it_is, twice_faults}
-use Rattle.jcl_cards.proofs.ExecNames.{faults_on}
+use Rattle.jcl_cards.specs.Execs.{faults_on}
 use Rattle.jcl_cards.proofs.exec.exec_fault.Goals as goal
 
 pub returns : goal.returns
@@ -23,7 +24,10 @@ returns c = λ denoted is.
     let each_faults = flat_map (faults_on (calls operand)) keywords in
     let runs = c.when-badly.ensures ∙ ap (λ b. told (when b (P NotOneProgram))) c.runs_badly.ensures in
     let first = c.read_name_fault.ensures ∙ ap (λ text. told (read_name_faults text)) c.first_of.ensures in
-    let each = c.each_fault.ensures ∙ ap (λ b. told (flat_map (faults_on b) keywords)) c.calls.ensures in
+    let each =
+    c.requires ∙ ap (λ ps. told (flat_map (faults_on (calls (operand_with ps c.args.operand.now.keywords.items))) c.args.operand.now.keywords.items))
+    (sym c.as_slice-positional.ensures.value)
+    ∙ ap (λ ks. told (flat_map (faults_on (calls (operand_with positional ks))) ks)) (sym c.as_slice-keywords.ensures.value) in
     let own = told_joined names denoted.faults c.written_name_fault.ensures is.fault c.earlier-own.ensures in
     let with_runs = told_joined (names ++ denoted.faults) runs_faults own runs c.earlier-with_runs.ensures in
     let with_name = told_joined (names ++ denoted.faults ++ runs_faults) first_faults with_runs first c.earlier-with_name.ensures in

@@ -2,7 +2,8 @@ use Rattle.std.proofs.Common.{◌≡◌, [], true, sym, ap, ◌∙◌}
 use Rattle.operand_core.specs.Faults.{told}
 use Rattle.operand_core.proofs.Keys.{one_has_none}
 use Rattle.jcl_cards.specs.ExecCards.{is_symbol}
-use Rattle.jcl_cards.proofs.ExecNames.{faults_on, symbol_is_named}
+use Rattle.jcl_cards.specs.Execs.{faults_on}
+use Rattle.jcl_cards.proofs.ExecNames.{symbol_is_named}
 use Rattle.jcl_cards.proofs.exec.symbols_of.Goals as goal
 
 pub symbol_of-requires : goal.symbol_of-requires
