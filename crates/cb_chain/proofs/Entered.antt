@@ -14,7 +14,7 @@ use Rattle.cb_records.specs.Writes.{ChangesOnly, IsWithin}
 use Rattle.cb_queue.specs.RecordQueues.{HasOwnLink, unlinked}
 use Rattle.cb_queue.proofs.Parts.{with_part_is}
 use Rattle.cb_chain.specs.Entries.{AreEntered, Byte, Entry, Number, Stands, Text, place, places, zeros}
-use Rattle.cb_chain.specs.Written.{all_apart, is_apart}
+use Rattle.cb_meaning.specs.Layouts.{all_apart, is_apart}
 
 pub append_entered : (xs ys : List Entry) (old middle new : List ℕ) → AreEntered old xs middle → AreEntered middle ys new → AreEntered old (xs ++ ys) new
 append_entered [] ys old middle new first then = subst (λ r. AreEntered r ys new) first then

@@ -11,6 +11,7 @@ use Rattle.jcl_plan.specs.declared.plan.VolumePlan.TheVariants as volume
 use Rattle.jcl_plan.specs.declared.plan.Word.TheVariants as word
 use Rattle.cb_meaning.specs.declared.layout.TheConstants.{LAYOUT_1}
 use Rattle.cb_meaning.specs.Needs.{records_needed}
+use Rattle.cb_meaning.specs.Readings.{plan_read}
 use Rattle.cb_meaning.specs.Spelled.{Records, Spell}
 
 abbrev pub job_with : List ℕ → List DdPlan → JobPlan
@@ -84,3 +85,8 @@ pub record SpellsAJobOfOneSet : Type 0 where
 pub record SpellsTwoDummies : Type 0 where
   pub needs : records_needed two_dummies ≡ 4
   pub spelled : Spell LAYOUT_1 (four jct_of_dummies sct_of_dummies first_dd_of_dummies last_of_dummies) 1 (1 ∷ 2 ∷ 3 ∷ 4 ∷ []) two_dummies
+
+-- read back
+pub record ReadsBack : Type 0 where
+  pub a_set : plan_read LAYOUT_1 (four jct_of_set sct_of_set first_dd_of_set last_of_set) 1 ≡ catalogs_a_set
+  pub dummies : plan_read LAYOUT_1 (four jct_of_dummies sct_of_dummies first_dd_of_dummies last_of_dummies) 1 ≡ two_dummies

@@ -2,7 +2,9 @@ pub mod Codes
 pub mod Damages
 pub mod Examples
 pub mod Fields
+pub mod Layouts
 pub mod Needs
+pub mod Readings
 pub mod Spelled
 pub mod Walks
 pub mod Writable
