@@ -1,5 +1,5 @@
 -- The walk over cards, a record further.
-use Rattle.std.proofs.Common.{◌≡◌, ℕ, suc, ◌+◌, ◌-◌, ◌<◌, ◌≤◌, ◌≢◌, Bool, List, ◌∷◌, Option, Some, None, refl, sym, ap, subst, ◌∙◌, arith, eq-eqb}
+use Rattle.std.proofs.Common.{◌≡◌, ℕ, suc, ◌+◌, ◌<◌, ◌≤◌, ◌≢◌, Bool, List, ◌∷◌, Option, Some, None, refl, sym, ap, subst, ◌∙◌, eq-eqb}
 use Rattle.std.specs.Prelude.{Ok, Err}
 use Rattle.std.proofs.lemmas.Bool.{le-ltb, lt-ltb, ne_eqb}
 use Rattle.cb_meaning.specs.declared.layout.Layout.{Layout}
@@ -8,16 +8,7 @@ use Rattle.cb_meaning.specs.Spelled.{Records, card_record}
 use Rattle.cb_meaning.specs.Walks.{arrival_fault, card_faults, lowest, walk_cards}
 use Rattle.cb_queue.specs.RecordQueues.{RecordQueue, bytes_or_zeros, record_at, shown}
 use Rattle.cb_walk.specs.Marks.{AreMarked, IsAt}
-use Rattle.cb_walk.specs.Follows.{Follows, From, PassesCards, Refuses, cards_from}
-
-pub follows_on : {A : Type 0} (first second third : List Bool) (f g h : From A) → Follows first second f g → Follows second third g h → Follows first third f h
-follows_on first second third f g h one two seen marked =
-    let a = one seen marked in
-    let b = two a.0 a.1 in
-    (b.0, b.1, a.2 ∙ b.2)
-
-pub refuses_on : {A : Type 0} (first second : List Bool) (f g : From A) (fault : ℕ) → Follows first second f g → Refuses second g fault → Refuses first f fault
-refuses_on first second f g fault one two seen marked = let a = one seen marked in a.2 ∙ two a.0 a.1
+use Rattle.cb_walk.specs.Follows.{Follows, PassesCards, Refuses, cards_from}
 
 cards_spent : (l : Layout) (q : Records) (job stated read n : ℕ) (seen : List ℕ) → walk_cards l q job 0 stated read seen n ≡ Err 4
 unfolding walk_cards
@@ -101,45 +92,14 @@ passed_cards q l same job stated read n marks later r byte next some arrived tol
       );
 }
 
--- of so many records one is left
-with_left : (q : RecordQueue) (job left stated read n : ℕ) (first marks : List Bool) (walk : From (List ℕ)) → 0 < left →
-    Follows first marks walk (cards_from q job left stated read n) → Follows first marks walk (cards_from q job (suc (left - 1)) stated read n)
-with_left q job left stated read n first marks walk some goes =
-    let whole : left ≡ suc (left - 1) = omega (arith, some) in
-    let P : ℕ → Type 0 = λ x. Follows first marks walk (cards_from q job x stated read n) in
-    subst P whole goes
+-- at the end of the cards
+pub cards_end : (q : RecordQueue) (job stated read n : ℕ) (marks : List Bool) → n ≡ 0 → read ≡ stated →
+    (fuel : ℕ) → Follows marks marks (cards_from q job (suc fuel) stated read n) (λ met. Ok met)
+cards_end q job stated read n marks end same fuel seen marked = (seen, marked, cards_whole q.layout (shown q) job fuel stated read n seen end same)
 
-pub one_passed : (q : RecordQueue) (job left stated read n more next : ℕ) (first marks later : List Bool) (walk : From (List ℕ)) → 0 < left →
-    Follows first marks walk (cards_from q job left stated read n) → PassesCards q job stated read n marks later more next →
-    Follows first later walk (cards_from q job (left - 1) stated more next)
-one_passed q job left stated read n more next first marks later walk some goes passes =
-    follows_on first marks later walk (cards_from q job (suc (left - 1)) stated read n) (cards_from q job (left - 1) stated more next)
-    (with_left q job left stated read n first marks walk some goes) (passes.follows (left - 1))
+pub cards_other : (q : RecordQueue) (job stated read n : ℕ) (marks : List Bool) → n ≡ 0 → read ≢ stated →
+    (fuel : ℕ) → Refuses marks (cards_from q job (suc fuel) stated read n) 5
+cards_other q job stated read n marks end other fuel seen marked = cards_miscounted q.layout (shown q) job fuel stated read n seen end other
 
-pub one_refused : (q : RecordQueue) (job left stated read n fault : ℕ) (first marks : List Bool) (walk : From (List ℕ)) → 0 < left →
-    Follows first marks walk (cards_from q job left stated read n) → ((fuel : ℕ) → Refuses marks (cards_from q job (suc fuel) stated read n) fault) →
-    Refuses first walk fault
-one_refused q job left stated read n fault first marks walk some goes refuses =
-    refuses_on first marks walk (cards_from q job (suc (left - 1)) stated read n) fault
-    (with_left q job left stated read n first marks walk some goes) (refuses (left - 1))
-
-pub all_read : (q : RecordQueue) (job left stated read n : ℕ) (first marks : List Bool) (walk : From (List ℕ)) → 0 < left → n ≡ 0 → read ≡ stated →
-    Follows first marks walk (cards_from q job left stated read n) → Follows first marks walk (λ met. Ok met)
-all_read q job left stated read n first marks walk some end same goes =
-    follows_on first marks marks walk (cards_from q job (suc (left - 1)) stated read n) (λ met. Ok met)
-    (with_left q job left stated read n first marks walk some goes)
-    (λ seen marked. (seen, marked, cards_whole q.layout (shown q) job (left - 1) stated read n seen end same))
-
-pub other_read : (q : RecordQueue) (job left stated read n : ℕ) (first marks : List Bool) (walk : From (List ℕ)) → 0 < left → n ≡ 0 → read ≢ stated →
-    Follows first marks walk (cards_from q job left stated read n) → Refuses first walk 5
-other_read q job left stated read n first marks walk some end other goes =
-    one_refused q job left stated read n 5 first marks walk some goes
-    (λ fuel seen marked. cards_miscounted q.layout (shown q) job fuel stated read n seen end other)
-
-pub none_left : (q : RecordQueue) (job left stated read n : ℕ) (first marks : List Bool) (walk : From (List ℕ)) → left ≤ 0 →
-    Follows first marks walk (cards_from q job left stated read n) → Refuses first walk 4
-none_left q job left stated read n first marks walk end goes =
-    let none : left ≡ 0 = omega (arith, end) in
-    let P : ℕ → Type 0 = λ x. Follows first marks walk (cards_from q job x stated read n) in
-    refuses_on first marks walk (cards_from q job 0 stated read n) 4 (subst P none goes)
-    (λ seen marked. cards_spent q.layout (shown q) job stated read n seen)
+pub cards_none : (q : RecordQueue) (job stated read n : ℕ) (marks : List Bool) → Refuses marks (cards_from q job 0 stated read n) 4
+cards_none q job stated read n marks seen marked = cards_spent q.layout (shown q) job stated read n seen

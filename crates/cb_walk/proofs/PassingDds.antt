@@ -12,7 +12,7 @@ use Rattle.cb_walk.specs.Below.{below_from}
 use Rattle.cb_walk.specs.Dds.{dds_from}
 use Rattle.cb_walk.specs.Follows.{Follows, From, Refuses}
 use Rattle.cb_walk.specs.Marks.{AreMarked, IsAt}
-use Rattle.cb_walk.proofs.Following.{follows_on}
+use Rattle.cb_walk.proofs.Onward.{follows_on}
 
 unmet : (l : Layout) (units : ℕ) (q : Records) (job fuel stated : ℕ) (steps : List (List Bool)) (dds : List Bool) (seen : List ℕ) (n fault : ℕ) → n ≢ 0 →
     arrival_fault l q job siot seen n ≡ Some fault → walk_dds l units q job (suc fuel) stated steps dds seen n ≡ Err fault

@@ -38,7 +38,7 @@ fn are_cards_bad(r: &Rec) -> bool
 }
 
 /// The number of the fault of a record of cards, or none.
-pub fn card_fault(layout: &Layout, r: &Rec) -> Option<u8>
+pub(crate) fn card_fault(layout: &Layout, r: &Rec) -> Option<u8>
     ensures { result ≡ lowest (card_faults layout.now r.now) }
 {
     if are_cards_bad(r) || is_second_bad(r) || !is_zero_but(&card_fields(layout), r.bytes()) {

@@ -195,7 +195,7 @@ fn is_other_bad(layout: &Layout, units: u16, first: bool, r: &Rec) -> bool
 }
 
 /// The number of the first fault of an SIOT, or none: of the DD behind these of its step, which stands behind these steps.
-pub fn siot_fault(
+pub(crate) fn siot_fault(
     layout: &Layout,
     units: u16,
     steps: &[Listed<bool>],

@@ -52,7 +52,7 @@ fn are_classes_bad(r: &Rec) -> bool
 }
 
 /// The number of the first fault of a JCT, or none.
-pub fn jct_fault(layout: &Layout, r: &Rec) -> Option<u8>
+pub(crate) fn jct_fault(layout: &Layout, r: &Rec) -> Option<u8>
     ensures { result ≡ lowest (jct_faults layout.now r.now) }
 {
     let tests = r.text(Field { at: 26, width: 24 });

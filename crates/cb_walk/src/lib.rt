@@ -2,15 +2,19 @@
 #![tactic(auto)]
 
 mod arrival;
-pub mod cards;
-pub mod dd;
+mod cards;
+mod dd;
 mod fields;
-pub mod job;
+pub mod first_fault;
+mod job;
 mod parts;
-pub mod set;
+mod set;
 mod sets;
-pub mod step;
+mod step;
+#[cfg(test)]
+mod tests;
 mod texts;
 mod walk_below;
 mod walk_cards;
 mod walk_dds;
+mod walk_steps;

@@ -122,7 +122,7 @@ fn are_names_bad(siot: &Rec, r: &Rec) -> bool
 }
 
 /// The number of the first fault of a JFCB, or none: of the DD behind these of its step, which stands behind these steps.
-pub fn jfcb_fault(
+pub(crate) fn jfcb_fault(
     layout: &Layout,
     steps: &[Listed<bool>],
     dds: &[bool],

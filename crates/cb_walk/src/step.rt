@@ -54,7 +54,7 @@ fn are_names_bad(r: &Rec) -> bool
 }
 
 /// The number of the first fault of the k-th step's SCT, or none.
-pub fn sct_fault(layout: &Layout, k: u16, r: &Rec) -> Option<u8>
+pub(crate) fn sct_fault(layout: &Layout, k: u16, r: &Rec) -> Option<u8>
     ensures { result ≡ lowest (sct_faults layout.now k r.now) }
 {
     let tests = r.text(Field { at: 40, width: 40 });

@@ -40,7 +40,7 @@ pub(crate) fn walk_below<S: RecordStore>(
     store: &S,
     marks: &mut [bool],
     job: u16,
-    fuel: u32,
+    fuel: u64,
     steps: &[Listed<bool>],
     dds: &[bool],
     siot: &Rec,

@@ -41,7 +41,7 @@ pub(crate) fn walk_cards<S: RecordStore>(
     store: &S,
     marks: &mut [bool],
     job: u16,
-    fuel: u32,
+    fuel: u64,
     stated: u32,
     first: u32,
 ) -> Result<(), u8>

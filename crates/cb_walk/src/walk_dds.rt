@@ -13,12 +13,12 @@ use std::alloc::{AllocError, Global};
 const MOST_DDS: usize = 64;
 
 /// Passes one DD, behind these of its step and behind these steps. Tells whether it is a set, and the number of the next SIOT, or a fault.
-pub(crate) fn pass_dd<S: RecordStore>(
+fn pass_dd<S: RecordStore>(
     store: &S,
     marks: &mut [bool],
     units: u16,
     job: u16,
-    left: u32,
+    left: u64,
     steps: &[Listed<bool>],
     dds: &[bool],
     n: u32,
@@ -53,7 +53,7 @@ pub(crate) fn walk_dds<S: RecordStore>(
     marks: &mut [bool],
     units: u16,
     job: u16,
-    fuel: u32,
+    fuel: u64,
     stated: u32,
     steps: &[Listed<bool>],
     first: u32,

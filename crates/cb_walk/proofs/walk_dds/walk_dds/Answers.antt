@@ -1,7 +1,7 @@
 use Rattle.std.proofs.Common.{◌≢◌, ◌∙◌, [], ap, sym}
 use Rattle.std.specs.Prelude.{Ok}
 use Rattle.cb_walk.specs.Dds.{dds_from}
-use Rattle.cb_walk.proofs.Following.{follows_on, refuses_on}
+use Rattle.cb_walk.proofs.Onward.{follows_on, refuses_on}
 use Rattle.cb_walk.proofs.PassingDds.{all_dds, dd_passed, none_left, other_dds}
 use Rattle.cb_walk.proofs.walk_dds.walk_dds.Goals as goal
 
