@@ -17,7 +17,8 @@ use Rattle.jcl_procs.specs.declared.step.FlatStep.{FlatStep}
 use Rattle.jcl_refs.specs.Plans.{MakesDummy, Names, NamesNothing, Naming, Own, OwnCards, OwnDummy, OwnSet, OwnSysout, Spot, all_of, by_fault, dds_with, kind_of, kind_with, kinds_from, naming, own_kind, plan_of, spot, units_of_dds, with_dds_left, with_units}
 use Rattle.plan_laws.specs.PlanLaws.{HasKnownUnits}
 use Rattle.plan_laws.proofs.Few.{each_all, nothing_asked}
-use Rattle.plan_laws.proofs.Making.{StepMade, each_placed, each_planned, job_made, same_ok}
+use Rattle.deck_laws.proofs.Given.{same_ok}
+use Rattle.plan_laws.proofs.Making.{StepMade, each_placed, each_planned, job_made}
 use Rattle.plan_laws.proofs.Units.{Put, Same, With, all_put}
 
 no_fault : {A : Type 0} (fault : Option Cause) (next : Result A Cause) (a : A) → by_fault fault next ≡ Ok a → next ≡ Ok a

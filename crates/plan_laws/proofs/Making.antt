@@ -17,19 +17,12 @@ use Rattle.jcl_plan.specs.declared.plan.Test.{Test}
 use Rattle.jcl_procs.specs.declared.step.FlatStep.{FlatStep}
 use Rattle.jcl_procs.specs.Expansions.{and_then}
 use Rattle.jcl_refs.specs.Plans.{all_of, dds_with, job_with, kinds_from, kinds_in, most_dd_names, most_dds, most_names, most_steps, onto, plan_by, plan_of, refused_if, step_of, step_with, steps_from, tests_of, units_of_dds, units_of_step, units_of_steps, with_dds_left}
+use Rattle.deck_laws.proofs.Given.{and_ok, same_ok}
 use Rattle.plan_laws.specs.Each.{EachStep}
-
--- what is given where nothing is refused
-pub and_ok : {A B : Type 0} (r : Result A Cause) (next : A → Result B Cause) (b : B) → and_then r next ≡ Ok b → (a : A) × (r ≡ Ok a) × (next a ≡ Ok b)
-and_ok (Err fault) next b is = absurd cc
-and_ok (Ok a) next b is = (a, refl, is)
 
 pub not_refused : {A : Type 0} (b : Bool) (fault : Cause) (next : Result A Cause) (a : A) → refused_if b fault next ≡ Ok a → (b ≡ false) × (next ≡ Ok a)
 not_refused true fault next a is = absurd cc
 not_refused false fault next a is = (refl, is)
-
-pub same_ok : {A : Type 0} (a b : A) → (let r : Result A Cause = Ok a in r) ≡ Ok b → a ≡ b
-same_ok a b is = cc
 
 -- all of a list
 pub record Firsts {A : Type 0} (r : Result A Cause) (rs : List (Result A Cause)) (found : List A) : Type 0 where

@@ -22,10 +22,12 @@ use Rattle.jcl_procs.specs.declared.step.FlatStep.{FlatStep}
 use Rattle.jcl_refs.specs.Planning.{counts_in, planned_counts}
 use Rattle.jcl_refs.specs.Plans.{all_of, by_fault, dds_with, kind_of, kinds_from, kinds_in, plan_of, spot, step_of, steps_from, unit_of, units_of_dds, units_of_step, units_of_steps, with_dds_left, with_units}
 use Rattle.plan_laws.specs.Each.{EachDd, EachStep}
-use Rattle.plan_laws.specs.PlanLaws.{CodesName, IsWritten, KeyLooksBack, KindLooksBack, VolumeLooksBack, WritesNames}
+use Rattle.card_laws.specs.Ranges.{CodesName}
+use Rattle.plan_laws.specs.PlanLaws.{IsWritten, KeyLooksBack, KindLooksBack, VolumeLooksBack, WritesNames}
 use Rattle.plan_laws.proofs.Few.{map_length}
 use Rattle.plan_laws.proofs.LeftDds.{steps_left}
-use Rattle.plan_laws.proofs.Making.{StepMade, and_ok, append_none, firsts, job_made, none_left, same_ok, step_made}
+use Rattle.deck_laws.proofs.Given.{and_ok, same_ok}
+use Rattle.plan_laws.proofs.Making.{StepMade, append_none, firsts, job_made, none_left, step_made}
 use Rattle.plan_laws.proofs.Places.{empty_there, look, was_before}
 use Rattle.plan_laws.proofs.References.{AllFine, Earlier, KeyAt, VolumeAt, fine_in, kinds_fine}
 use Rattle.plan_laws.proofs.Units.{Put, Same, With, put}

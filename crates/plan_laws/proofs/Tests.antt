@@ -21,7 +21,8 @@ use Rattle.jcl_refs.specs.Plans.{all_of, job_test, plan_of, test_of, test_with, 
 use Rattle.jcl_refs.specs.Targets.{earlier_step, is_brought_by, is_own_step, is_step_of_call, latest, latest_from, or_else}
 use Rattle.plan_laws.specs.Each.{EachStep}
 use Rattle.plan_laws.proofs.Few.{nothing_asked}
-use Rattle.plan_laws.proofs.Making.{StepMade, each_placed, each_planned, firsts, job_made, none_left, same_ok}
+use Rattle.deck_laws.proofs.Given.{same_ok}
+use Rattle.plan_laws.proofs.Making.{StepMade, each_placed, each_planned, firsts, job_made, none_left}
 
 -- an earlier step stands before
 same_some : (a b : ℕ) → (let o : Option ℕ = Some a in o) ≡ Some b → a ≡ b

@@ -20,28 +20,14 @@ use Rattle.jcl_cards.specs.declared.coded.Coded.{Coded}
 use Rattle.jcl_cards.specs.declared.coded.Coded.TheVariants.{NotGiven, Value}
 use Rattle.jcl_cards.specs.declared.dd.DdCard.{DdCard}
 use Rattle.jcl_cards.specs.declared.job.JobCard.{JobCard}
+use Rattle.jcl_cards.specs.Examples.{empty_dd}
 use Rattle.jcl_procs.specs.declared.step.FlatStep.{FlatStep}
 use Rattle.jcl_refs.specs.Plans.{plan_of}
-use Rattle.plan_laws.specs.Sound.{IsSoundJob, IsSoundStep}
+use Rattle.card_laws.specs.Ranges.{IsSoundJob}
+use Rattle.deck_laws.specs.Sound.{IsSoundStep}
 
 abbrev pub card : List ℕ → Coded SetName → Coded VolumeName → DdCard
-card name set_name volume = record {
-  qualifier = None;
-  name = Some name;
-  word = None;
-  set_name = set_name;
-  disposition = NotGiven;
-  unit = NotGiven;
-  volume = volume;
-  space = NotGiven;
-  sysout = NotGiven;
-  dd_name = NotGiven;
-  label = NotGiven;
-  control_blocks = NotGiven;
-  character_set = NotGiven;
-  forms_control = NotGiven;
-  output_limit = NotGiven;
-}
+card name set_name volume = record (empty_dd name) { set_name = set_name; volume = volume }
 
 abbrev pub a_job : JobCard
 a_job = record { name = codes "J"; class = 65; priority = 1; message_class = 65; tests = record { items = [] } }

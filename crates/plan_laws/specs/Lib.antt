@@ -1,4 +1,4 @@
 pub mod Each
 pub mod PlanLaws
-pub mod Sound
+pub mod Writing
 pub mod Examples

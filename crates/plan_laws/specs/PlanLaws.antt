@@ -9,13 +9,10 @@ use Rattle.jcl_plan.specs.declared.plan.JobPlan.{JobPlan}
 use Rattle.jcl_plan.specs.declared.plan.StepPlan.{StepPlan}
 use Rattle.jcl_plan.specs.declared.plan.VolumePlan.{VolumePlan}
 use Rattle.jcl_plan.specs.declared.plan.VolumePlan.TheVariants as volume
-use Rattle.value_core.specs.declared.set.SetName.{SetName}
-use Rattle.value_core.specs.declared.set.SetName.TheVariants as name
-use Rattle.jcl_cards.specs.declared.coded.Coded.{Coded}
-use Rattle.jcl_cards.specs.declared.coded.Coded.TheVariants.{NotGiven, Nullified, Value}
 use Rattle.jcl_cards.specs.declared.job.JobCard.{JobCard}
 use Rattle.jcl_procs.specs.declared.step.FlatStep.{FlatStep}
 use Rattle.cb_meaning.specs.Writable.{IsEarlierSet, IsUnits, NamesEarlier}
+use Rattle.card_laws.specs.Ranges.{CodesName}
 use Rattle.jcl_refs.specs.Plans.{most_dds, most_steps, plan_of}
 use Rattle.plan_laws.specs.Each.{EachDd, EachStep}
 
@@ -28,14 +25,6 @@ StepsAreFew = (units : List (List ℕ)) (job : JobCard) (steps : List FlatStep) 
 abbrev pub TestsLookBack : Type 0
 TestsLookBack = (units : List (List ℕ)) (job : JobCard) (steps : List FlatStep) (plan : JobPlan) → plan_of units job steps ≡ Ok plan →
     All (λ t. t.step ≡ None) plan.tests.items × EachStep (λ k step. All (λ t. NamesEarlier k t.step) step.tests.items) 1 plan.steps
-
--- the name of a set, where DSNAME codes one
-abbrev pub CodesName : (Key → Type 0) → Coded SetName → Type 0
-CodesName Rule NotGiven = Unit {0}
-CodesName Rule Nullified = Unit {0}
-CodesName Rule (Value name.Null) = Unit {0}
-CodesName Rule (Value (name.Of key)) = Rule key
-CodesName Rule (Value (name.OfDd reference)) = Unit {0}
 
 -- no name that a deck can write is that of an unnamed set
 abbrev pub IsWritten : Key → Type 0

@@ -3,7 +3,7 @@
 
 ghost use Rattle.plan_laws.specs.Examples.{Example};
 ghost use Rattle.plan_laws.specs.PlanLaws.{ReferencesLookBack, StepsAreFew, TestsLookBack, UnitsAreKnown};
-ghost use Rattle.plan_laws.specs.Sound.{JobIsWritable, PlanIsWritable};
+ghost use Rattle.plan_laws.specs.Writing.{JobIsWritable, PlanIsWritable};
 
 /// A job has 32 steps at most, and a step 64 DDs.
 pub fn steps_are_few()
@@ -30,7 +30,7 @@ pub fn plan_is_writable()
     ensures { PlanIsWritable }
 {}
 
-/// Where what is read of a deck's cards is sound, records can spell the job that it denotes.
+/// Records can spell every job that a deck denotes.
 pub fn job_is_writable()
     ensures { JobIsWritable }
 {}

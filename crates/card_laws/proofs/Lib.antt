@@ -1,0 +1,11 @@
+pub mod Faultless
+pub mod Numbers
+pub mod Codes
+pub mod Jobs
+pub mod Names
+pub mod Execs
+pub mod SetNames
+pub mod VolumeNames
+pub mod Spaces
+pub mod Dds
+pub mod Merging

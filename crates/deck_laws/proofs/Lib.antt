@@ -1,0 +1,11 @@
+pub mod Cards
+pub mod Statements
+pub mod Taken
+pub mod Lasts
+pub mod Decks
+pub mod Given
+pub mod Calls
+pub mod Conditions
+pub mod Overrides
+pub mod Bodies
+pub mod Expansions

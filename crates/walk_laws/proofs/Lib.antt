@@ -1,0 +1,3 @@
+pub mod Denoted
+pub mod Exact
+pub mod faultless

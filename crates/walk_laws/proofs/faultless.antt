@@ -1,0 +1,22 @@
+-- Records without a fault denote the job that is read from them.
+pub mod Parts
+pub mod Zeros
+pub mod Codes
+pub mod Told
+pub mod Tests
+pub mod Names
+pub mod Earlier
+pub mod Heads
+pub mod Sets
+pub mod Volumes
+pub mod Siots
+pub mod UsedFields
+pub mod SiotsSpelled
+pub mod SetsSpelled
+pub mod CardRecords
+pub mod Passing
+pub mod CardChains
+pub mod Below
+pub mod DdChains
+pub mod StepChains
+pub mod Whole
