@@ -1,5 +1,5 @@
 -- Parts of a record that are written.
-use Rattle.std.proofs.Common.{◌≡◌, ◌≢◌, ℕ, zero, suc, ◌+◌, ◌-◌, ◌<◌, ◌≤◌, ◌⊎◌, inl, inr, true, false, ◌&&◌, List, ◌++◌, length, get_or, take, drop, replicate, arith, ◌∙◌, ap, sym, refl, length-append, length-drop}
+use Rattle.std.proofs.Common.{◌≡◌, ◌≢◌, ℕ, zero, suc, ◌+◌, ◌-◌, ◌<◌, ◌≤◌, ◌⊎◌, inl, inr, true, false, ◌&&◌, List, All, ◌++◌, length, get_or, take, drop, replicate, arith, ◌∙◌, ap, sym, refl, length-append, length-drop}
 use Rattle.std.specs.Prelude.{nat_le, nat_lt}
 use Rattle.std.proofs.lemmas.Bool.{and_left, and_parts, and_right, cases_Bool, le-ltb, leb-false, leb-true, lt-leb, ltb-false, ltb-true}
 use Rattle.std.proofs.lemmas.Grind.{same_number_lists}
@@ -102,13 +102,14 @@ zero_at (suc n) (suc k) = zero_at n k
 
 -- records in use
 module _ (l : Layout) (own : HasOwnLink l) where
-  pub in_use_put : (r : List ℕ) → length r ≡ 176 → number_at r (field 2 2) ≢ 0 → IsInUse l (unlinked l r)
-  in_use_put r whole owner =
+  pub in_use_put : (r : List ℕ) → length r ≡ 176 → number_at r (field 2 2) ≢ 0 → All (λ b. b < 256) (unlinked l r) → IsInUse l (unlinked l r)
+  in_use_put r whole owner bytes =
       let size : length (replicate l.link.width 0) ≡ l.link.width = length-replicate {A = ℕ} l.link.width 0 in
       let within : l.link.at + l.link.width ≤ length r = (let w = own.fits.link.within in omega (arith, w, whole)) in
       let change = only l.link r (replicate l.link.width 0) within size in
       record {
         size = change.size ∙ whole;
+        bytes = bytes;
         owner = λ none. owner (sym (ap number_of (part_stays l.link (field 2 2) r (unlinked l r) change own.owner)) ∙ none);
         link = λ k in_it.
             let parts = and_parts _ _ in_it in
@@ -133,9 +134,10 @@ module _ (l : Layout) (own : HasOwnLink l) where
     pub owner_status : number_at (with_part r 168 status) (field 2 2) ≡ number_at r (field 2 2)
     owner_status = ap number_of (part_stays status_bytes (field 2 2) r (with_part r 168 status) change (inr (omega arith)))
 
-    pub in_use_status : IsInUse l (with_part r 168 status)
-    in_use_status = record {
+    pub in_use_status : All (λ b. b < 256) (with_part r 168 status) → IsInUse l (with_part r 168 status)
+    in_use_status bytes = record {
       size = change.size ∙ used.size;
+      bytes = bytes;
       owner = λ none. used.owner (sym owner_status ∙ none);
       link = λ k in_it. change.others k (not_in l.link status_bytes k own.status in_it) ∙ used.link k in_it;
     }
@@ -143,11 +145,12 @@ module _ (l : Layout) (own : HasOwnLink l) where
   pub owner_zero : (owner : ℕ) → number_at (zero_record owner) (field 2 2) ≡ owner
   owner_zero owner = let is : part (zero_record owner) 2 2 ≡ two_bytes owner = refl in ap number_of is ∙ omega arith
 
-  pub in_use_zero : (owner : ℕ) → owner ≢ 0 → IsInUse l (zero_record owner)
-  in_use_zero owner h =
+  pub in_use_zero : (owner : ℕ) → owner ≢ 0 → All (λ b. b < 256) (zero_record owner) → IsInUse l (zero_record owner)
+  in_use_zero owner h bytes =
       let change = only (field 2 2) (replicate 176 0) (two_bytes owner) (let size = length-replicate {A = ℕ} 176 0 in omega (arith, size)) refl in
       record {
         size = change.size ∙ length-replicate {A = ℕ} 176 0;
+        bytes = bytes;
         owner = λ none. h (sym (owner_zero owner) ∙ none);
         link = λ k in_it. change.others k (not_in l.link (field 2 2) k own.owner in_it) ∙ zero_at 176 k;
       }

@@ -1,5 +1,5 @@
 -- The tables of a store and the queue that they are.
-use Rattle.std.proofs.Common.{◌≡◌, ◌≢◌, ℕ, zero, suc, ◌+◌, ◌-◌, ◌<◌, ◌≤◌, ◌==◌, true, cond, List, [], ◌∷◌, length, get_or, map, reverse, take, Option, None, Some, replicate, ◌^◌, arith, ◌∙◌, ap, sym, refl, subst, length-set}
+use Rattle.std.proofs.Common.{◌≡◌, ◌≢◌, ℕ, zero, suc, ◌+◌, ◌-◌, ◌<◌, ◌≤◌, ◌==◌, true, cond, List, [], ◌∷◌, All, length, get_or, map, reverse, take, Option, None, Some, replicate, ◌^◌, arith, ◌∙◌, ap, sym, refl, subst, length-set}
 use Rattle.std.specs.Prelude.{IfSome, is_some, slice_set}
 use Rattle.std.specs.List.{count_by}
 use Rattle.std.proofs.lemmas.Bool.{ne_eqb}
@@ -194,9 +194,9 @@ module _ (l : Layout) (os : List ℕ) (rs : List (List ℕ)) (stack : List ℕ) 
         let new : zero_count owner ≡ 0 = ap (λ b. cond b 1 0) (ne_eqb owner 0 some) in
         omega (arith, is, step, was, new, more)
 
-    pub stored_taken : AreStored l (slice_set os i owner) (slice_set rs i (zero_record owner)) stack c waiting
-    stored_taken = record {
-      sound = subst IsSound (sym seen_taken) (sound_taken now i owner (reverse (take c stack)) h.sound first_is (in_use_zero l h.sound.own_link owner some));
+    pub stored_taken : All (λ b. b < 256) (zero_record owner) → AreStored l (slice_set os i owner) (slice_set rs i (zero_record owner)) stack c waiting
+    stored_taken bytes = record {
+      sound = subst IsSound (sym seen_taken) (sound_taken now i owner (reverse (take c stack)) h.sound first_is (in_use_zero l h.sound.own_link owner some bytes));
       few = h.few;
       records_room = length-set rs i (zero_record owner) ∙ h.records_room;
       owners_room = length-set os i owner ∙ h.owners_room;

@@ -1,5 +1,5 @@
 -- What is done to a record in use, by its number.
-use Rattle.std.proofs.Common.{◌≡◌, ◌≢◌, ℕ, suc, ◌+◌, ◌-◌, ◌<◌, ◌≤◌, List, [], ◌∷◌, length, get_or, drop, reverse, take, None, Some, true, arith, ◌∙◌, ap, refl, sym, subst, length-drop}
+use Rattle.std.proofs.Common.{◌≡◌, ◌≢◌, ℕ, suc, ◌+◌, ◌-◌, ◌<◌, ◌≤◌, List, [], ◌∷◌, All, length, get_or, drop, reverse, take, None, Some, true, arith, ◌∙◌, ap, refl, sym, subst, length-drop}
 use Rattle.std.specs.Prelude.{is_some, slice_get, slice_set}
 use Rattle.std.specs.Option.{option_map}
 use Rattle.std.proofs.lemmas.List.{get_or_read, length-take-le}
@@ -73,10 +73,11 @@ module _ (a : Inside) (h : IsStored a) (n : ℕ) (used : is_some (record_at (see
         put_seen new ∙ ap (λ r. with_record_at (seen a) n (Some r)) new_is
         ∙ ap (λ o. with_record_at (seen a) n (option_map (λ r. with_part r 168 status) o)) (sym record_there)
 
-    pub status_stored : AreStored a.layout a.owners.items (slice_set a.records.items (n - 1) new) a.free.items a.free_count a.waiting
-    status_stored =
+    pub status_stored : All (λ b. b < 256) new → AreStored a.layout a.owners.items (slice_set a.records.items (n - 1) new) a.free.items a.free_count a.waiting
+    status_stored bytes =
         put_stored new
-        (subst (IsInUse a.layout) (sym new_is) (in_use_status a.layout h.sound.own_link (get_or a.records.items (n - 1) []) status in_use_there status_size))
+        (subst (IsInUse a.layout) (sym new_is) (in_use_status a.layout h.sound.own_link (get_or a.records.items (n - 1) []) status in_use_there status_size
+        (All-same (λ b. b < 256) (with_part (get_or a.records.items (n - 1) []) 168 status) new (sym new_is) bytes)))
         (ap (λ r. number_at r (field 2 2)) new_is ∙ owner_status a.layout h.sound.own_link (get_or a.records.items (n - 1) []) status in_use_there status_size
         ∙ sym (ap owner_in record_there))
 
@@ -118,8 +119,8 @@ module _ (a : Inside) (h : IsStored a) (n c owner : ℕ) (more : c + 1 ≡ a.fre
   pub taken_seen : seen_in a.layout (slice_set a.owners.items (n - 1) owner) (slice_set a.records.items (n - 1) (zero_record owner)) a.free.items c a.waiting ≡ taken (seen a) owner
   taken_seen = seen_taken a.layout a.owners.items a.records.items a.free.items a.free_count a.waiting h c (n - 1) owner more last some
 
-  pub taken_stored : AreStored a.layout (slice_set a.owners.items (n - 1) owner) (slice_set a.records.items (n - 1) (zero_record owner)) a.free.items c a.waiting
-  taken_stored = stored_taken a.layout a.owners.items a.records.items a.free.items a.free_count a.waiting h c (n - 1) owner more last some
+  pub taken_stored : All (λ b. b < 256) (zero_record owner) → AreStored a.layout (slice_set a.owners.items (n - 1) owner) (slice_set a.records.items (n - 1) (zero_record owner)) a.free.items c a.waiting
+  taken_stored bytes = stored_taken a.layout a.owners.items a.records.items a.free.items a.free_count a.waiting h c (n - 1) owner more last some bytes
 
 -- the owner of any record
 pub owner_read : (a : Inside) (h : IsStored a) (n : ℕ) → 1 ≤ n → n - 1 < a.layout.most_records → get_or a.owners.items (n - 1) 0 ≡ owner_at (seen a) n

@@ -119,9 +119,10 @@ pub record HasOwnLink (l : Layout) : Type 0 where
   pub owner : AreApart l.link (field 2 2)
   pub status : AreApart l.link status_bytes
 
--- a record in use: it is whole, has an owner, and its link is of zeros
+-- a record in use: it is whole and of bytes, has an owner, and its link is of zeros
 pub record IsInUse (l : Layout) (r : List ℕ) : Type 0 where
   pub size : length r ≡ RECORD_BYTES
+  pub bytes : All (λ b. b < 256) r
   pub owner : number_at r (field 2 2) ≢ 0
   pub link : (k : ℕ) → is_in l.link k ≡ true → byte_at r k ≡ 0
 

@@ -2,10 +2,12 @@
 ghost use Rattle.std.specs.Prelude.{◌≡◌, ◌<◌, ◌^◌, IfOk, None, length, replicate, reverse};
 ghost use Rattle.cb_meaning.specs.declared.layout.TheConstants.{RECORD_BYTES};
 ghost use Rattle.cb_queue.specs.RecordQueues.{HasOwnLink, empty_queue, numbers_from, owner_at, record_at, with_part, zero_record};
+ghost use Rattle.cb_records.specs.Laws.{AreBytes};
 ghost use Rattle.cb_records.specs.Writes.{HoldsNumber};
 
 use crate::store::RecordStore;
 use cb_meaning::layout::{Field, Layout};
+use cb_records::laws::are_bytes;
 use cb_records::rec::Rec;
 use queue_core::queue::{JobQueue, Queued};
 use std::alloc::{AllocError, Global};
@@ -58,10 +60,12 @@ fn all_numbers(alloc: Global, count: u32) -> Result<Vec<u32>, AllocError>
 
 /// A record of zeros but for its owner.
 fn zero_record(owner: u16) -> Rec
-    ensures { result ≡ zero_record owner }
+    ensures value { result ≡ zero_record owner }
+    ensures bytes { AreBytes result }
 {
     let mut rec = Rec::zeroed();
     rec.write_part(OWNER, &[(owner / 256) as u8, (owner % 256) as u8]);
+    are_bytes(&rec);
     rec
 }
 
@@ -70,10 +74,12 @@ fn unlinked(rec: &Rec, link: Field) -> Rec
     requires { HoldsNumber link }
     ensures value { result ≡ with_part rec.now link.at (replicate link.width 0) }
     ensures whole { length rec.now ≡ RECORD_BYTES }
+    ensures bytes { AreBytes result }
 {
     let mut own = *rec;
     let zeros = [0; 4];
     own.write_part(link, &zeros[..usize::from(link.width)]);
+    are_bytes(&own);
     own
 }
 
@@ -128,7 +134,9 @@ impl RecordStore for ListStore {
     }
 
     fn write_status(&mut self, n: u32, status: &[u8; 8]) {
-        self.records[n as usize - 1].write_part(STATUS, status.as_slice());
+        let rec = &mut self.records[n as usize - 1];
+        rec.write_part(STATUS, status.as_slice());
+        are_bytes(rec);
     }
 
     fn free_count(&self) -> u32 {

@@ -1,5 +1,5 @@
--- What a write leaves as it was. (This profile)
-use Rattle.std.specs.Prelude.{◌≡◌, ℕ, ◌+◌, ◌≤◌, ◌⊎◌, true, List}
+-- What holds of any record, and what a write leaves as it was. (This profile)
+use Rattle.std.specs.Prelude.{◌≡◌, ℕ, ◌+◌, ◌≤◌, ◌<◌, ◌⊎◌, true, List, All}
 use Rattle.std.specs.List.{list_any}
 use Rattle.cb_meaning.specs.declared.layout.Field.{Field}
 use Rattle.cb_meaning.specs.Fields.{is_in, is_zero_but, part}
@@ -19,3 +19,7 @@ IsCovered f named = (k : ℕ) → is_in f k ≡ true → list_any (λ g. is_in g
 abbrev pub UnusedStayZero : Type 0
 UnusedStayZero = (f : Field) (named : List Field) (old new : List ℕ) → ChangesOnly f old new → IsCovered f named → is_zero_but named old ≡ true →
     is_zero_but named new ≡ true
+
+-- each byte is below 256
+abbrev pub AreBytes : List ℕ → Type 0
+AreBytes r = All (λ b. b < 256) r

@@ -1,5 +1,7 @@
-//! What a write leaves as it was: laws, which have no code.
-ghost use Rattle.cb_records.specs.Laws.{OtherFieldsStay, UnusedStayZero};
+//! What holds of any record, and what a write leaves as it was: laws, which do nothing.
+ghost use Rattle.cb_records.specs.Laws.{AreBytes, OtherFieldsStay, UnusedStayZero};
+
+use crate::rec::Rec;
 
 /// A field that has no byte in common with the one that is written has the bytes that it had.
 pub fn other_fields_stay()
@@ -10,3 +12,14 @@ pub fn other_fields_stay()
 pub fn unused_stay_zero()
     ensures { UnusedStayZero }
 {}
+
+fn slice_bytes(bytes: &[u8])
+    ensures { AreBytes bytes.now }
+{}
+
+/// The bytes of a record are below 256.
+pub fn are_bytes(rec: &Rec)
+    ensures { AreBytes rec.now }
+{
+    slice_bytes(rec.bytes());
+}

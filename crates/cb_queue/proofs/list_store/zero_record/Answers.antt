@@ -5,8 +5,8 @@ use Rattle.cb_queue.specs.RecordQueues.{with_part}
 use Rattle.cb_queue.proofs.Parts.{with_part_is}
 use Rattle.cb_queue.proofs.list_store.zero_record.Goals as goal
 
-pub returns : goal.returns
-returns c =
+pub returns-clause-value : goal.returns-clause-value
+returns-clause-value c =
     let size = ap length c.zeroed-rec.ensures in
     with_part_is (field 2 2) c.zeroed-rec.result (two_bytes c.args.owner) (omega (arith, size, length-replicate {A = ℕ} 176 0)) refl c.write_part.new.self
     c.write_part.ensures.value c.write_part.ensures.others ∙ ap (λ r. with_part r 2 (two_bytes c.args.owner)) c.zeroed-rec.ensures

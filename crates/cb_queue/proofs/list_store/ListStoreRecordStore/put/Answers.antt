@@ -1,5 +1,6 @@
-use Rattle.std.proofs.Common.{◌≡◌, ◌∙◌, ap, arith, subst, sym, true, Some}
+use Rattle.std.proofs.Common.{◌≡◌, ◌<◌, ◌∙◌, ap, arith, subst, sym, true, Some}
 use Rattle.std.specs.Prelude.{is_some}
+use Rattle.std.proofs.lemmas.List.Elements.{All-same}
 use Rattle.cb_meaning.specs.Fields.{field, number_at}
 use Rattle.cb_queue.specs.RecordQueues.{IsInUse, owner_at, record_at, unlinked, with_record_at}
 use Rattle.cb_queue.specs.Stored.{seen}
@@ -22,7 +23,8 @@ invariant_of-self c =
     put_stored c.self.inside c.self.invariant c.args.n used c.unlinked.result
     (subst (IsInUse c.self.inside.layout) (sym c.unlinked.ensures.value)
     (in_use_put c.self.inside.layout c.self.invariant.sound.own_link c.args.rec.now c.unlinked.ensures.whole
-    (λ none. owner_there c.self.inside c.self.invariant c.args.n used (sym owner ∙ none))))
+    (λ none. owner_there c.self.inside c.self.invariant c.args.n used (sym owner ∙ none))
+    (All-same (λ b. b < 256) (unlinked c.self.inside.layout c.args.rec.now) c.unlinked.result (sym c.unlinked.ensures.value) c.unlinked.ensures.bytes)))
     (ap (λ r. number_at r (field 2 2)) c.unlinked.ensures.value
     ∙ owner_put c.self.inside.layout c.self.invariant.sound.own_link c.args.rec.now c.unlinked.ensures.whole ∙ owner)
 

@@ -1,6 +1,7 @@
-use Rattle.std.proofs.Common.{◌≡◌, ◌+◌, ◌-◌, ◌∙◌, ap, arith, subst, sym}
+use Rattle.std.proofs.Common.{◌≡◌, ◌+◌, ◌-◌, ◌<◌, ◌∙◌, ap, arith, subst, sym}
 use Rattle.std.specs.Prelude.{slice_set}
-use Rattle.cb_queue.specs.RecordQueues.{next_free, taken}
+use Rattle.std.proofs.lemmas.List.Elements.{All-same}
+use Rattle.cb_queue.specs.RecordQueues.{next_free, taken, zero_record}
 use Rattle.cb_queue.specs.Stored.{AreStored, seen_in}
 use Rattle.cb_queue.proofs.Uses.{answer_there, number, taken_seen, taken_stored}
 use Rattle.cb_queue.proofs.list_store.ListStoreRecordStore.take_free.Goals as goal
@@ -37,7 +38,8 @@ invariant_of-self c =
     let n = c.index-n.result.now in
     let more : a.free_count - 1 + 1 ≡ a.free_count = omega (arith, c.if-self-eq0.false) in
     subst (λ r. AreStored a.layout (slice_set a.owners.items (n - 1) c.args.owner) (slice_set a.records.items (n - 1) r) a.free.items (a.free_count - 1) a.waiting)
-    (sym c.zero_record.ensures) (taken_stored a c.self.invariant n (a.free_count - 1) c.args.owner more c.index-n.ensures c.requires)
+    (sym c.zero_record.ensures.value) (taken_stored a c.self.invariant n (a.free_count - 1) c.args.owner more c.index-n.ensures c.requires
+    (All-same (λ b. b < 256) (zero_record c.args.owner) c.zero_record.result (sym c.zero_record.ensures.value) c.zero_record.ensures.bytes))
 
 pub returns-clause-answer : goal.returns-clause-answer
 returns-clause-answer c =
@@ -50,5 +52,5 @@ returns-clause-taken c =
     let a = c.self.inside in
     let n = c.index-n.result.now in
     let more : a.free_count - 1 + 1 ≡ a.free_count = omega (arith, c.if-self-eq0.false) in
-    ap (λ r. seen_in a.layout (slice_set a.owners.items (n - 1) c.args.owner) (slice_set a.records.items (n - 1) r) a.free.items (a.free_count - 1) a.waiting) c.zero_record.ensures
+    ap (λ r. seen_in a.layout (slice_set a.owners.items (n - 1) c.args.owner) (slice_set a.records.items (n - 1) r) a.free.items (a.free_count - 1) a.waiting) c.zero_record.ensures.value
     ∙ taken_seen a c.self.invariant n (a.free_count - 1) c.args.owner more c.index-n.ensures c.requires ∙ ap (λ q. taken q c.args.owner) c.self.view_is
