@@ -1,0 +1,79 @@
+-- A case for every event.
+use Rattle.std.proofs.Common.{◌≡◌, ◌≤◌, ◌<◌, ◌⊎◌, inl, inr, ℕ, [], ◌∷◌, Option, Some, None, All, refl}
+use Rattle.std.proofs.lemmas.Bool.{cases_lt}
+use Rattle.jcl_plan.specs.declared.entry.Entry.TheVariants as entry
+use Rattle.jcl_plan.specs.declared.fault.Cause.TheVariants.{A}
+use Rattle.jcl_plan.specs.declared.fault.EventFault.TheVariants.{PastLimit}
+use Rattle.machine_meaning.specs.declared.machine.TheConstants.{MOST_EVENTS}
+use Rattle.world_meaning.specs.declared.event.Event.{Event}
+use Rattle.world_meaning.specs.declared.event.Event.TheVariants as event
+use Rattle.world_meaning.specs.Readings.{Denoting}
+use Rattle.world_meaning.specs.Selections.{HasNone, IsSelected, Selects, nothing, selected}
+use Rattle.world_meaning.specs.Transitions.{Acts, Does, Happens, Turns, acts, past, shown, taken, unknown}
+use Rattle.world_meaning.specs.Worlds.{Admitted, HasNoInitiator, Initiator, IsAt, Named, Running, Selected, Stage, Waiting, Wanting, World, counted}
+use Rattle.run_laws.specs.Soundness.{IsSound}
+use Rattle.case_laws.specs.Cases.{CanBeWritten, HasCase, IsWhole}
+use Rattle.case_laws.proofs.Advancing.{advances}
+use Rattle.case_laws.proofs.Events.{Done, cancels, ends_device, reads, sets_date, writes, zaps}
+use Rattle.case_laws.proofs.Finding.{Found, initiator_of}
+use Rattle.case_laws.proofs.Queues.{selected_or_none}
+use Rattle.case_laws.proofs.Turning.{WentOn, admits, holds, reads_records}
+
+module _ (w : World) (s : IsSound w) (whole : IsWhole w) where
+  goes_on : (place : ℕ) (x : Initiator) (r : Running) (stage : Stage) → IsAt w place x → x.running ≡ Some r → r.stage ≡ stage →
+      WentOn w.config w.shared r stage
+  goes_on place x r (Selected first) at runs e = reads_records w.config w.shared r first whole.fields whole.records
+  goes_on place x r (Wanting plan) at runs e = holds w.config w.shared r plan
+  goes_on place x r (Named plan) at runs e = admits w.config w.shared r plan
+  goes_on place x r (Admitted plan a count own) at runs e =
+      advances w.config w.shared r plan a count own s.programs (whole.left place r plan a count own (record { it = x; at = at; running = runs }) e)
+      (whole.covered place r plan a count own (record { it = x; at = at; running = runs }) e)
+
+  by_queue : (place : ℕ) (x : Initiator) → (All (HasNone w.waiting) x.classes) ⊎ ((v : Waiting) × IsSelected w.waiting x.classes v) →
+      Done (Selects (counted w) place x)
+  by_queue place x (inl none) = (_, _, nothing none refl refl)
+  by_queue place x (inr (v, is)) = (_, _, selected v is refl refl)
+
+  by_running : (place : ℕ) (x : Initiator) (o : Option Running) → IsAt w place x → x.running ≡ o → Done (Acts (counted w) place x o)
+  by_running place x None at e = by_queue place x (selected_or_none w.waiting x.classes)
+  by_running place x (Some r) at e =
+      let went : WentOn w.config w.shared r r.stage = goes_on place x r r.stage at e refl in
+      (_, _, record { job_lines = went.0; shared = went.1; runs = went.2; goes = went.3; told = refl; leaves = refl })
+
+  by_initiator : (number : ℕ) → HasNoInitiator w number ⊎ Found (λ x. x.number ≡ number) w.initiators → Done (Turns (counted w) number)
+  by_initiator number (inl none) = (_, _, unknown none refl refl)
+  by_initiator number (inr f) =
+      let did : Done (Acts (counted w) f.place f.it f.it.running) = by_running f.place f.it f.it.running f.at refl in
+      (did.0, did.1, acts f.place f.it f.at f.is did.2)
+
+  does : (job_of : Denoting) (e : Event) → CanBeWritten job_of w → Done (Does job_of (counted w) e)
+  does job_of (event.Read deck) can = reads job_of (counted w) deck can
+  does job_of (event.Turn number) can = by_initiator number (initiator_of w.initiators number)
+  does job_of (event.DeviceEnd serial) can = ends_device (counted w) serial
+  does job_of (event.Write class) can = writes (counted w) class whole.spooled
+  does job_of (event.Cancel job) can = cancels (counted w) job
+  does job_of (event.Zap n offset bytes) can = zaps (counted w) n offset bytes
+  does job_of event.Display can = (_, _, shown refl refl)
+  does job_of (event.Date day) can = sets_date (counted w) day
+
+  -- nothing that is open differs
+  happens : (job_of : Denoting) (e : Event) (done : Done (Does job_of (counted w) e)) → Happens job_of (counted w) e done.0 done.1
+  happens job_of e done = record {
+    middle = done.1;
+    does = done.2;
+    reopened = record {
+      records = done.1.shared.records;
+      same = record { free = refl; used = λ n isnt. record { size = refl; bytes = λ k out. refl } };
+      rest = refl;
+    };
+    rest = refl;
+  }
+
+  by_count : (job_of : Denoting) (e : Event) → CanBeWritten job_of w → (w.events < MOST_EVENTS) ⊎ (MOST_EVENTS ≤ w.events) → HasCase job_of w e
+  by_count job_of e can (inl less) =
+      let done : Done (Does job_of (counted w) e) = does job_of e can in
+      record { lines = done.0; new = done.1; follows = taken less (happens job_of e done) }
+  by_count job_of e can (inr more) = record { lines = entry.Refused (A PastLimit) ∷ []; new = w; follows = past more refl refl }
+
+pub has_case : (job_of : Denoting) (w : World) (e : Event) → IsSound w → IsWhole w → CanBeWritten job_of w → HasCase job_of w e
+has_case job_of w e s whole can = by_count w s whole job_of e can (cases_lt w.events MOST_EVENTS)

@@ -1,0 +1,87 @@
+-- Every event has a case of the machine's table.
+use Rattle.std.specs.Prelude.{◌≡◌, ◌≢◌, ◌⊎◌, ℕ, ◌+◌, ◌<◌, ◌≤◌, Bool, true, ◌&&◌, nat_le, List, [], ◌∷◌, drop, length, Ok, All}
+use Rattle.std.specs.List.{Contains, list_any}
+use Rattle.jcl_plan.specs.declared.entry.Entry.{Entry}
+use Rattle.jcl_plan.specs.declared.plan.JobPlan.{JobPlan}
+use Rattle.jcl_meaning.specs.declared.state.Own.{Own}
+use Rattle.jcl_meaning.specs.declared.state.Place.{Place}
+use Rattle.jcl_meaning.specs.Acts.{act}
+use Rattle.jcl_meaning.specs.Agendas.{Action, agenda}
+use Rattle.jcl_meaning.specs.History.{IsStepOutcome}
+use Rattle.jcl_meaning.specs.States.{Answers, Fixed, State}
+use Rattle.jcl_meaning.specs.Stores.{Store}
+use Rattle.cb_meaning.specs.Layouts.{HasOwnFields}
+use Rattle.cb_meaning.specs.Needs.{records_needed}
+use Rattle.cb_meaning.specs.Spelled.{Records}
+use Rattle.cb_meaning.specs.Writable.{kind_at}
+use Rattle.walk_laws.specs.WalkLaws.{AreRecords}
+use Rattle.world_meaning.specs.declared.event.Event.{Event}
+use Rattle.world_meaning.specs.Admissions.{primary_asked}
+use Rattle.world_meaning.specs.Lenses.{seen}
+use Rattle.world_meaning.specs.Readings.{Denoting, IsWritten}
+use Rattle.world_meaning.specs.Tracks.{is_kept_for}
+use Rattle.world_meaning.specs.Transitions.{Transition}
+use Rattle.world_meaning.specs.Worlds.{Admission, Admitted, Config, Kept, Running, Shared, World}
+use Rattle.run_laws.specs.Soundness.{IsSound, RunsAt}
+
+-- some lines, and a machine behind them
+pub record HasCase (job_of : Denoting) (w : World) (e : Event) : Type 0 where
+  pub lines : List Entry
+  pub new : World
+  pub follows : Transition job_of w e lines new
+
+-- records with a job written into the first free ones
+pub record CanHold (c : Config) (q : Records) (job : ℕ) (plan : JobPlan) : Type 0 where
+  pub first : ℕ
+  pub records : Records
+  pub written : IsWritten c q records job plan first
+
+-- A plan for which there are free records enough can be written into them: what the writing of a job gives.
+abbrev pub CanBeWritten : Denoting → World → Type 0
+CanBeWritten job_of w = (deck : List (List ℕ)) (plan : JobPlan) → job_of deck ≡ Ok plan → records_needed plan ≤ length w.shared.records.free →
+    CanHold w.config w.shared.records (w.jobs + 1) plan
+
+-- tracks are kept for the set that a DD of a job is to make at a place: as many at least as it asks for
+abbrev pub is_ample : JobPlan → ℕ → Place → Kept → Bool
+is_ample plan job p k = is_kept_for job p k && nat_le (primary_asked (kind_at plan.steps p.step p.dd)) k.tracks
+
+abbrev pub HasTracks : List Kept → JobPlan → ℕ → Place → Type 0
+HasTracks kept plan job p = list_any (is_ample plan job p) kept ≡ true
+
+-- its primaries are granted, and its steps end with what is an end
+pub record AreFair (answers : Answers) : Type 0 where
+  pub granted : answers.primary ≡ true
+  pub ends : All IsStepOutcome answers.outcomes
+
+abbrev pub with_answers : Store → Own → Answers → State
+with_answers store own answers = record { store = store; own = own; answers = answers }
+
+-- A job may yet make a set at a place: for some answers the next of these actions makes it, or it leaves what may.
+abbrev pub MayMake : Fixed → List Action → Store → Own → Place → Type 0
+MayMake fixed [] store own p = ⊥
+MayMake fixed (a ∷ actions) store own p = (answers : Answers) × AreFair answers × (Contains (act fixed a (with_answers store own answers)).made p
+    ⊎ MayMake fixed actions (act fixed a (with_answers store own answers)).state.store (act fixed a (with_answers store own answers)).state.own p)
+
+-- For whatever a job may yet make tracks are kept.
+abbrev pub IsCovered : Config → Shared → ℕ → JobPlan → Admission → ℕ → Own → Type 0
+IsCovered c s job plan a count own =
+    (p : Place) → MayMake a.fixed (drop count (agenda plan c.programs)) (seen job s.store) own p → HasTracks s.kept plan job p
+
+-- What holds of the machine beside its soundness.
+pub record IsWhole (w : World) : Type 0 where
+  -- of the configuration
+  pub fields : HasOwnFields w.config.layout
+  -- records in use are of bytes
+  pub records : AreRecords w.shared.records
+  -- a set that waits for a writer has a line
+  pub spooled : All (λ set. set.lines ≢ []) w.shared.spool
+  -- an admitted job has an action left
+  pub left : (place : ℕ) (r : Running) (plan : JobPlan) (a : Admission) (count : ℕ) (own : Own) → RunsAt w place r → r.stage ≡ Admitted plan a count own →
+      count < length (agenda plan w.config.programs)
+  -- and where it is assured, tracks for all that it may make
+  pub covered : (place : ℕ) (r : Running) (plan : JobPlan) (a : Admission) (count : ℕ) (own : Own) → RunsAt w place r → r.stage ≡ Admitted plan a count own →
+      a.assured ≡ true → IsCovered w.config w.shared r.job plan a count own
+
+-- Whatever the event, a sound machine has a case of the table for it.
+abbrev pub EachEventHasACase : Type 0
+EachEventHasACase = (job_of : Denoting) (w : World) (e : Event) → IsSound w → IsWhole w → CanBeWritten job_of w → HasCase job_of w e
