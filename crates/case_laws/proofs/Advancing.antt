@@ -40,7 +40,7 @@ module _ (c : Config) (old : Shared) (r : Running) (plan : JobPlan) (a : Admissi
   gains : (x : Advanced) → DoesNext x → Gains a.fixed x.action x.before x.done
   gains x t =
       subst (Gains a.fixed x.action x.before) (sym t.does)
-      (act_gains a.fixed x.action x.before (ap (λ (b : Answers). head_or true b.grants) t.answered))
+      (act_gains a.fixed x.action x.before)
 
   has_tracks : (x : Advanced) → DoesNext x → (p : Place) → MakesSet a.fixed x.action x.before x.done → x.done.made ≡ p ∷ [] → HasTracks old.kept plan r.job p
   has_tracks x t p m made =
@@ -56,7 +56,7 @@ module _ (c : Config) (old : Shared) (r : Running) (plan : JobPlan) (a : Admissi
   spends : (x : Advanced) → DoesNext x → (kept : List Kept) → ((v : List ℕ) → kept_on kept v ≤ kept_on (kept_unless_made old.kept r.job x.done.made) v) →
       Spent old (put_back r.job old.store x.done.state.store) kept
   spends x t kept few =
-      spent old r.job plan a.fixed x.action x.before x.done t.before (known x t) (has_tracks x t) kept few (gains x t)
+      spent old r.job plan a.fixed x.action x.before x.done t.before (ap (λ (b : Answers). head_or true b.grants) t.answered) (known x t) (has_tracks x t) kept few (gains x t)
 
   by_end : (x : Advanced) → advanced c old r.job plan a count own false a.assured ≡ Some x → DoesNext x → must_wait old.operations r.job x ≡ false →
       (is_over c plan x ≡ true) ⊎ (is_over c plan x ≡ false) → WentOn c old r (Admitted plan a count own)

@@ -12,22 +12,19 @@ use Rattle.world_meaning.specs.Selections.{HasNone, IsSelected, Selects, nothing
 use Rattle.world_meaning.specs.Transitions.{Acts, Does, Happens, Turns, acts, past, shown, taken, unknown}
 use Rattle.world_meaning.specs.Worlds.{Admitted, HasNoInitiator, Initiator, IsAt, Named, Running, Selected, Stage, Waiting, Wanting, World, counted}
 use Rattle.run_laws.specs.Soundness.{IsSound}
-use Rattle.case_laws.specs.Cases.{CanBeWritten, HasCase, IsWhole}
+use Rattle.case_laws.specs.Cases.{CanBeWritten, CanGoOn, HasCase, HasWholeQueue, IsSupplied}
 use Rattle.case_laws.proofs.Advancing.{advances}
 use Rattle.case_laws.proofs.Events.{Done, cancels, ends_device, reads, sets_date, writes, zaps}
 use Rattle.case_laws.proofs.Finding.{Found, initiator_of}
 use Rattle.case_laws.proofs.Queues.{selected_or_none}
 use Rattle.case_laws.proofs.Turning.{WentOn, admits, holds, reads_records}
 
-module _ (w : World) (s : IsSound w) (whole : IsWhole w) where
-  goes_on : (place : ℕ) (x : Initiator) (r : Running) (stage : Stage) → IsAt w place x → x.running ≡ Some r → r.stage ≡ stage →
-      WentOn w.config w.shared r stage
-  goes_on place x r (Selected first) at runs e = reads_records w.config w.shared r first whole.fields whole.records
-  goes_on place x r (Wanting plan) at runs e = holds w.config w.shared r plan
-  goes_on place x r (Named plan) at runs e = admits w.config w.shared r plan
-  goes_on place x r (Admitted plan a count own) at runs e =
-      advances w.config w.shared r plan a count own s.programs (whole.left place r plan a count own (record { it = x; at = at; running = runs }) e)
-      (whole.covered place r plan a count own (record { it = x; at = at; running = runs }) e)
+module _ (w : World) (s : IsSound w) (supplied : IsSupplied w) (queue : HasWholeQueue w) where
+  goes_on : (r : Running) (stage : Stage) → CanGoOn w.config w.shared r.job stage → WentOn w.config w.shared r stage
+  goes_on r (Selected first) can = reads_records w.config w.shared r first queue.fields queue.records
+  goes_on r (Wanting plan) can = holds w.config w.shared r plan
+  goes_on r (Named plan) can = admits w.config w.shared r plan
+  goes_on r (Admitted plan a count own) can = advances w.config w.shared r plan a count own s.programs can.0 can.1
 
   by_queue : (place : ℕ) (x : Initiator) → (All (HasNone w.waiting) x.classes) ⊎ ((v : Waiting) × IsSelected w.waiting x.classes v) →
       Done (Selects (counted w) place x)
@@ -37,7 +34,7 @@ module _ (w : World) (s : IsSound w) (whole : IsWhole w) where
   by_running : (place : ℕ) (x : Initiator) (o : Option Running) → IsAt w place x → x.running ≡ o → Done (Acts (counted w) place x o)
   by_running place x None at e = by_queue place x (selected_or_none w.waiting x.classes)
   by_running place x (Some r) at e =
-      let went : WentOn w.config w.shared r r.stage = goes_on place x r r.stage at e refl in
+      let went : WentOn w.config w.shared r r.stage = goes_on r r.stage (supplied.running place r (record { it = x; at = at; running = e })) in
       (_, _, record { job_lines = went.0; shared = went.1; runs = went.2; goes = went.3; told = refl; leaves = refl })
 
   by_initiator : (number : ℕ) → HasNoInitiator w number ⊎ Found (λ x. x.number ≡ number) w.initiators → Done (Turns (counted w) number)
@@ -50,7 +47,7 @@ module _ (w : World) (s : IsSound w) (whole : IsWhole w) where
   does job_of (event.Read deck) can = reads job_of (counted w) deck can
   does job_of (event.Turn number) can = by_initiator number (initiator_of w.initiators number)
   does job_of (event.DeviceEnd serial) can = ends_device (counted w) serial
-  does job_of (event.Write class) can = writes (counted w) class whole.spooled
+  does job_of (event.Write class) can = writes (counted w) class supplied.spooled
   does job_of (event.Cancel job) can = cancels (counted w) job
   does job_of (event.Zap n offset bytes) can = zaps (counted w) n offset bytes
   does job_of event.Display can = (_, _, shown refl refl)
@@ -75,5 +72,6 @@ module _ (w : World) (s : IsSound w) (whole : IsWhole w) where
       record { lines = done.0; new = done.1; follows = taken less (happens job_of e done) }
   by_count job_of e can (inr more) = record { lines = entry.Refused (A PastLimit) ∷ []; new = w; follows = past more refl refl }
 
-pub has_case : (job_of : Denoting) (w : World) (e : Event) → IsSound w → IsWhole w → CanBeWritten job_of w → HasCase job_of w e
-has_case job_of w e s whole can = by_count w s whole job_of e can (cases_lt w.events MOST_EVENTS)
+pub has_case : (job_of : Denoting) (w : World) (e : Event) → IsSound w → IsSupplied w → HasWholeQueue w → CanBeWritten job_of w →
+    HasCase job_of w e
+has_case job_of w e s supplied queue can = by_count w s supplied queue job_of e can (cases_lt w.events MOST_EVENTS)

@@ -1,4 +1,4 @@
--- No action gives a set more tracks where no growth is granted, but for the set that it makes.
+-- No action gives a set more tracks, but for a growth that is granted and the set that it makes.
 use Rattle.std.proofs.Common.{◌≡◌, ◌≤◌, ◌-◌, ℕ, Bool, true, false, cond, List, [], Option, Some, None, arith, refl, sym, ap, subst}
 use Rattle.std.specs.Prelude.{◌||◌, ◌==◌, drop, slice_get, is_some}
 use Rattle.jname_core.specs.declared.key.Key.{Key}
@@ -36,7 +36,7 @@ use Rattle.jcl_meaning.specs.States.{Done, Fixed, State, asks_open, cancel_due, 
 use Rattle.jcl_meaning.specs.TakeActs.{decided, decision_at, takes, takes_set, target_at}
 use Rattle.jcl_meaning.specs.Takes.{decide, is_known, is_there, looked_at, releases, secondary_of}
 use Rattle.world_meaning.specs.Tracks.{tracks_of}
-use Rattle.case_laws.specs.Gains.{Gains, GainsNone, none, one}
+use Rattle.case_laws.specs.Gains.{Gains, GainsNone, grows, none, one}
 use Rattle.case_laws.proofs.Gained.{all_back, chained, changes, cut_if, rewritten, unchanged}
 
 -- a primary that is not granted makes no set
@@ -128,48 +128,47 @@ module _ (fixed : Fixed) (a : Action) (s : State) where
   get_gains name d x m p (Some text) None = still _ refl refl
   get_gains name d x m p (Some text) (Some serial) = still _ refl refl
 
-  module _ (refused : head_or true s.answers.grants ≡ false) where
-    grow_gains : (b : Bool) → b ≡ false → (name text : List ℕ) (d : ℕ) (x : DdState) (t : TakenSet) (n : ℕ) (set : DataSet) →
-        set.tracks ≤ tracks_of (s.store.set t.key t.serial) → Gains fixed a s (put_grows b name text d x t n set s)
-    grow_gains true e name text d x t n set few = absurd cc
-    grow_gains false e name text d x t n set few = none (rewritten s.store t.key t.serial (s.store.set t.key t.serial) set refl few) refl
+  grow_gains : (b : Bool) → head_or true s.answers.grants ≡ b → (name text : List ℕ) (d : ℕ) (x : DdState) (t : TakenSet) (n : ℕ) (set : DataSet) →
+      set.tracks ≤ tracks_of (s.store.set t.key t.serial) → Gains fixed a s (put_grows b name text d x t n set s)
+  grow_gains true e name text d x t n set few = grows e refl
+  grow_gains false e name text d x t n set few = none (rewritten s.store t.key t.serial (s.store.set t.key t.serial) set refl few) refl
 
-    set_gains : (name text : List ℕ) (d : ℕ) (x : DdState) (t : TakenSet) (n : ℕ) (set : DataSet) → set.tracks ≤ tracks_of (s.store.set t.key t.serial) →
-        Gains fixed a s (put_to_set name text d x t n set s)
-    set_gains name text d x t n set few =
-        either (is_full set) _ _
-        (either (n == 0) _ _ (none (rewritten s.store t.key t.serial (s.store.set t.key t.serial) set refl few) refl)
-        (grow_gains (head_or true s.answers.grants) refused name text d x t n set few))
-        (none (rewritten s.store t.key t.serial (s.store.set t.key t.serial) set refl few) refl)
+  set_gains : (name text : List ℕ) (d : ℕ) (x : DdState) (t : TakenSet) (n : ℕ) (set : DataSet) → set.tracks ≤ tracks_of (s.store.set t.key t.serial) →
+      Gains fixed a s (put_to_set name text d x t n set s)
+  set_gains name text d x t n set few =
+      either (is_full set) _ _
+      (either (n == 0) _ _ (none (rewritten s.store t.key t.serial (s.store.set t.key t.serial) set refl few) refl)
+      (grow_gains (head_or true s.answers.grants) refl name text d x t n set few))
+      (none (rewritten s.store t.key t.serial (s.store.set t.key t.serial) set refl few) refl)
 
-    put_in_gains : (name text : List ℕ) (d : ℕ) (x : DdState) (p : SetPlan) (t : Option TakenSet) → Gains fixed a s (puts_in name text d x p t s)
-    put_in_gains name text d x p None = still _ refl refl
-    put_in_gains name text d x p (Some t) =
-        set_gains name text d x t (secondary_of p.space) (emptied (empties p.status x.written) (or_nothing (s.store.set t.key t.serial)))
-        (emptied_tracks (empties p.status x.written) (s.store.set t.key t.serial))
+  put_in_gains : (name text : List ℕ) (d : ℕ) (x : DdState) (p : SetPlan) (t : Option TakenSet) → Gains fixed a s (puts_in name text d x p t s)
+  put_in_gains name text d x p None = still _ refl refl
+  put_in_gains name text d x p (Some t) =
+      set_gains name text d x t (secondary_of p.space) (emptied (empties p.status x.written) (or_nothing (s.store.set t.key t.serial)))
+      (emptied_tracks (empties p.status x.written) (s.store.set t.key t.serial))
 
-    put_gains : (name text : List ℕ) (d : ℕ) (x : DdState) (kind : DdKind) → Gains fixed a s (puts name text d x kind s)
-    put_gains name text d x (Sysout class) = still _ refl refl
-    put_gains name text d x Dummy = still _ refl refl
-    put_gains name text d x (Cards cards) = still _ refl refl
-    put_gains name text d x (Set p) = put_in_gains name text d x p x.taken
+  put_gains : (name text : List ℕ) (d : ℕ) (x : DdState) (kind : DdKind) → Gains fixed a s (puts name text d x kind s)
+  put_gains name text d x (Sysout class) = still _ refl refl
+  put_gains name text d x Dummy = still _ refl refl
+  put_gains name text d x (Cards cards) = still _ refl refl
+  put_gains name text d x (Set p) = put_in_gains name text d x p x.taken
 
-    put_unless_gains : (b : Bool) (name text : List ℕ) (d : ℕ) (x : DdState) (kind : DdKind) → Gains fixed a s (puts_unless b name text d x kind s)
-    put_unless_gains true name text d x kind = still _ refl refl
-    put_unless_gains false name text d x kind = put_gains name text d x kind
+  put_unless_gains : (b : Bool) (name text : List ℕ) (d : ℕ) (x : DdState) (kind : DdKind) → Gains fixed a s (puts_unless b name text d x kind s)
+  put_unless_gains true name text d x kind = still _ refl refl
+  put_unless_gains false name text d x kind = put_gains name text d x kind
 
-    ask_of_gains : (step : StepPlan) (m : Move) (d : ℕ) (x : DdState) (dd : DdPlan) → Gains fixed a s (asks_of step m d x dd s)
-    ask_of_gains step (From name) d x dd = let f = reads step d x s in get_gains name d x f.member f.position f.text f.serial
-    ask_of_gains step (To name text) d x dd = put_unless_gains (is_read_only dd.kind || is_concatenated (drop d step.dds)) name text d x dd.kind
+  ask_of_gains : (step : StepPlan) (m : Move) (d : ℕ) (x : DdState) (dd : DdPlan) → Gains fixed a s (asks_of step m d x dd s)
+  ask_of_gains step (From name) d x dd = let f = reads step d x s in get_gains name d x f.member f.position f.text f.serial
+  ask_of_gains step (To name text) d x dd = put_unless_gains (is_read_only dd.kind || is_concatenated (drop d step.dds)) name text d x dd.kind
 
-    ask_dd_gains : (x : Option DdState) (dd : Option DdPlan) (step : StepPlan) (m : Move) (d : ℕ) → Gains fixed a s (asks_dd x dd step m d s)
-    ask_dd_gains None dd step m d = still _ refl refl
-    ask_dd_gains (Some x) None step m d = still _ refl refl
-    ask_dd_gains (Some x) (Some dd) step m d = ask_of_gains step m d x dd
+  ask_dd_gains : (x : Option DdState) (dd : Option DdPlan) (step : StepPlan) (m : Move) (d : ℕ) → Gains fixed a s (asks_dd x dd step m d s)
+  ask_dd_gains None dd step m d = still _ refl refl
+  ask_dd_gains (Some x) None step m d = still _ refl refl
+  ask_dd_gains (Some x) (Some dd) step m d = ask_of_gains step m d x dd
 
-    ask_gains : (d : Option ℕ) (step : StepPlan) (m : Move) → Gains fixed a s (asks_at d step m s)
-    ask_gains None step m = still _ refl refl
-    ask_gains (Some d) step m = ask_dd_gains (slice_get s.own.dds d) (slice_get step.dds d) step m d
+  ask_gains : (d : Option ℕ) (step : StepPlan) (m : Move) → Gains fixed a s (asks_at d step m s)
+  ask_gains None step m = still _ refl refl
+  ask_gains (Some d) step m = ask_dd_gains (slice_get s.own.dds d) (slice_get step.dds d) step m d
 
   append_gains : (t : Option TakenSet) (text : List ℕ) → GainsNone s.store (appended_at t text s.store)
   append_gains None text = unchanged s.store
@@ -224,17 +223,17 @@ module _ (fixed : Fixed) (a : Action) (s : State) where
   left_gains n dd name (Cards cards) = still _ refl refl
   left_gains n dd name (Set p) = leave_gains n dd name p (passed_by s.own.passed n dd)
 
-pub act_gains : (fixed : Fixed) (a : Action) (s : State) → head_or true s.answers.grants ≡ false → Gains fixed a s (act fixed a s)
+pub act_gains : (fixed : Fixed) (a : Action) (s : State) → Gains fixed a s (act fixed a s)
 unfolding act
-act_gains fixed (Start n step) s refused = still fixed (Start n step) s _ refl refl
-act_gains fixed (Take n dd d) s refused =
+act_gains fixed (Start n step) s = still fixed (Start n step) s _ refl refl
+act_gains fixed (Take n dd d) s =
     if_running fixed (Take n dd d) s s.own.runs (takes fixed n dd d.name d.kind s) (take_gains fixed (Take n dd d) s n dd d d.kind refl refl)
-act_gains fixed (Ask step move) s refused =
+act_gains fixed (Ask step move) s =
     if_running fixed (Ask step move) s (asks_open s.own) _
-    (uncancelled fixed (Ask step move) s _ (ask_gains fixed (Ask step move) s refused (dd_of step.dds (dd_name move)) step move))
-act_gains fixed Receive s refused = if_running fixed Receive s (asks_open s.own) _ (due_gains fixed Receive s s.own.due)
-act_gains fixed (Finish n) s refused = either fixed (Finish n) s s.own.runs _ _ (finish_gains fixed (Finish n) s n s.own.over) (still fixed (Finish n) s _ refl refl)
-act_gains fixed (Dispose n dd d) s refused =
+    (uncancelled fixed (Ask step move) s _ (ask_gains fixed (Ask step move) s (dd_of step.dds (dd_name move)) step move))
+act_gains fixed Receive s = if_running fixed Receive s (asks_open s.own) _ (due_gains fixed Receive s s.own.due)
+act_gains fixed (Finish n) s = either fixed (Finish n) s s.own.runs _ _ (finish_gains fixed (Finish n) s n s.own.over) (still fixed (Finish n) s _ refl refl)
+act_gains fixed (Dispose n dd d) s =
     if_running fixed (Dispose n dd d) s s.own.runs _ (dispose_gains fixed (Dispose n dd d) s (slice_get s.own.dds (dd - 1)) n dd d.name d.kind)
-act_gains fixed (Left n dd d) s refused = left_gains fixed (Left n dd d) s n dd d.name d.kind
-act_gains fixed Over s refused = still fixed Over s _ refl refl
+act_gains fixed (Left n dd d) s = left_gains fixed (Left n dd d) s n dd d.name d.kind
+act_gains fixed Over s = still fixed Over s _ refl refl

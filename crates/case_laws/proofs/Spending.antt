@@ -3,7 +3,7 @@ use Rattle.std.proofs.Common.{◌≡◌, ◌≤◌, ◌+◌, ◌-◌, ℕ, Bool,
 use Rattle.std.specs.Prelude.{◌&&◌}
 use Rattle.std.specs.List.{list_any}
 use Rattle.std.specs.Str.{bytes_eq}
-use Rattle.std.proofs.lemmas.Bool.{or_parts}
+use Rattle.std.proofs.lemmas.Bool.{both_ways, or_parts}
 use Rattle.jname_core.specs.declared.key.Key.{Key}
 use Rattle.vtoc_core.specs.declared.entry.SetKey.{SetKey}
 use Rattle.jcl_plan.specs.declared.plan.JobPlan.{JobPlan}
@@ -11,6 +11,7 @@ use Rattle.jcl_meaning.specs.declared.state.Place.{Place}
 use Rattle.jcl_meaning.specs.declared.store.DataSet.{DataSet}
 use Rattle.jcl_meaning.specs.Agendas.{Action}
 use Rattle.jcl_meaning.specs.Names.{same_key}
+use Rattle.jcl_meaning.specs.RequestActs.{head_or}
 use Rattle.jcl_meaning.specs.States.{Done, Fixed, State}
 use Rattle.jcl_meaning.specs.Stores.{Store, with_set}
 use Rattle.jcl_meaning.specs.TakeActs.{new_set}
@@ -20,7 +21,7 @@ use Rattle.world_meaning.specs.Lenses.{WorldStore, put_back, seen, seen_set, wor
 use Rattle.world_meaning.specs.Tracks.{Conserves, are_different, is_touched, kept_on, kept_unless_made, tracks_of, used_by}
 use Rattle.world_meaning.specs.Worlds.{Kept, Shared}
 use Rattle.case_laws.specs.Cases.{HasTracks}
-use Rattle.case_laws.specs.Gains.{Gains, GainsNone, MakesSet, none, one}
+use Rattle.case_laws.specs.Gains.{Gains, GainsNone, MakesSet, grows, none, one}
 use Rattle.case_laws.proofs.Gained.{chained}
 use Rattle.case_laws.proofs.Keeping.{made_fits}
 use Rattle.case_laws.proofs.Known.{IsKnown}
@@ -105,11 +106,12 @@ module _ (old : Shared) (job : ℕ) where
           (made_gains job b key serial new (λ j x. tracks_of (seen_set job old.store j x)) g.less v)));
     }
 
-  module _ (plan : JobPlan) (fixed : Fixed) (a : Action) (s : State) (d : Done) (g : GainsNone (seen job old.store) s.store) (known : IsKnown plan.steps a)
+  module _ (plan : JobPlan) (fixed : Fixed) (a : Action) (s : State) (d : Done) (g : GainsNone (seen job old.store) s.store) (refused : head_or true s.answers.grants ≡ false) (known : IsKnown plan.steps a)
       (has : (p : Place) → (m : MakesSet fixed a s d) → d.made ≡ p ∷ [] → HasTracks old.kept plan job p) (kept : List Kept)
       (few : (v : List ℕ) → kept_on kept v ≤ kept_on (kept_unless_made old.kept job d.made) v) where
     pub spent : Gains fixed a s d → Spent old (put_back job old.store d.state.store) kept
     spent (none h made) = still d.state.store d.made kept (chained (seen job old.store) s.store d.state.store g h) few
+    spent (grows granted made) = absurd (both_ways (head_or true s.answers.grants) refused granted)
     spent (one m) =
         let p : Place = record { step = m.step; dd = m.number; serial = m.serial } in
         subst (λ (t : Store). Spent old (put_back job old.store t) kept) (sym m.store)

@@ -2,6 +2,7 @@
 use Rattle.std.proofs.Common.{◌≡◌, inl, inr, ℕ, suc, Bool, true, false, List, [], ◌∷◌, Some, refl, subst}
 use Rattle.std.specs.Prelude.{◌||◌}
 use Rattle.std.specs.List.{Contains, list_any}
+use Rattle.std.proofs.lemmas.Bool.{both_ways}
 use Rattle.jcl_plan.specs.declared.entry.JobLine.{JobLine}
 use Rattle.jcl_meaning.specs.declared.state.Own.{Own}
 use Rattle.jcl_meaning.specs.declared.state.Place.{Place}
@@ -12,7 +13,7 @@ use Rattle.jcl_meaning.specs.States.{Answers, Fixed, State}
 use Rattle.world_meaning.specs.Turns.{Advanced, advance, unless_silent}
 use Rattle.run_laws.proofs.Elements.{contains_first, contains_later}
 use Rattle.case_laws.specs.Cases.{AreFair, MayMake}
-use Rattle.case_laws.specs.Gains.{Gains, GainsNone, none, one}
+use Rattle.case_laws.specs.Gains.{Gains, GainsNone, grows, none, one}
 use Rattle.case_laws.proofs.Gained.{chained, unchanged}
 use Rattle.case_laws.proofs.Gaining.{act_gains}
 
@@ -84,6 +85,7 @@ module _ (answers : Action → Own → Answers) (fixed : Fixed) where
 
         behind : (act fixed a here).lines ≡ [] → Gains fixed a here (act fixed a here) → Turned actions (act fixed a here).state x →
             Turned (a ∷ actions) s x
+        behind told (grows granted made) t = absurd (both_ways (head_or true here.answers.grants) (refused a s.own) granted)
         behind told (one m) t = absurd (one_line (act fixed a here).lines m.line told m.told)
         behind told (none g made) t = record {
           before = chained s.store (act fixed a here).state.store x.before.store g t.before;
@@ -108,4 +110,4 @@ module _ (answers : Action → Own → Answers) (fixed : Fixed) where
             (advance answers fixed actions (act fixed a here).state (suc count)) ≡ Some x → Turned (a ∷ actions) s x
         by_lines (l ∷ ls) told more e =
             let same : record { action = a; before = here; done = act fixed a here; count = suc count } ≡ x = cc in subst (Turned (a ∷ actions) s) same first
-        by_lines [] told more e = behind told (act_gains fixed a here (refused a s.own)) (more e)
+        by_lines [] told more e = behind told (act_gains fixed a here) (more e)

@@ -19,9 +19,10 @@ use Rattle.world_meaning.specs.declared.event.Event.{Event}
 use Rattle.world_meaning.specs.Admissions.{primary_asked}
 use Rattle.world_meaning.specs.Lenses.{seen}
 use Rattle.world_meaning.specs.Readings.{Denoting, IsWritten}
+use Rattle.world_meaning.specs.Starts.{IsStart}
 use Rattle.world_meaning.specs.Tracks.{is_kept_for}
 use Rattle.world_meaning.specs.Transitions.{Transition}
-use Rattle.world_meaning.specs.Worlds.{Admission, Admitted, Config, Kept, Running, Shared, World}
+use Rattle.world_meaning.specs.Worlds.{Admission, Admitted, Config, Kept, Named, Running, Selected, Shared, Stage, Wanting, World}
 use Rattle.run_laws.specs.Soundness.{IsSound, RunsAt}
 
 -- some lines, and a machine behind them
@@ -67,21 +68,31 @@ abbrev pub IsCovered : Config → Shared → ℕ → JobPlan → Admission → �
 IsCovered c s job plan a count own =
     (p : Place) → MayMake a.fixed (drop count (agenda plan c.programs)) (seen job s.store) own p → HasTracks s.kept plan job p
 
--- What holds of the machine beside its soundness.
-pub record IsWhole (w : World) : Type 0 where
-  -- of the configuration
-  pub fields : HasOwnFields w.config.layout
-  -- records in use are of bytes
-  pub records : AreRecords w.shared.records
-  -- a set that waits for a writer has a line
-  pub spooled : All (λ set. set.lines ≢ []) w.shared.spool
-  -- an admitted job has an action left
-  pub left : (place : ℕ) (r : Running) (plan : JobPlan) (a : Admission) (count : ℕ) (own : Own) → RunsAt w place r → r.stage ≡ Admitted plan a count own →
-      count < length (agenda plan w.config.programs)
-  -- and where it is assured, tracks for all that it may make
-  pub covered : (place : ℕ) (r : Running) (plan : JobPlan) (a : Admission) (count : ℕ) (own : Own) → RunsAt w place r → r.stage ≡ Admitted plan a count own →
-      a.assured ≡ true → IsCovered w.config w.shared r.job plan a count own
+-- An admitted job has an action left, and an assured one tracks for all that it may yet make.
+abbrev pub CanGoOn : Config → Shared → ℕ → Stage → Type 0
+CanGoOn c s job (Selected first) = Unit {0}
+CanGoOn c s job (Wanting plan) = Unit {0}
+CanGoOn c s job (Named plan) = Unit {0}
+CanGoOn c s job (Admitted plan a count own) = (count < length (agenda plan c.programs)) × (a.assured ≡ true → IsCovered c s job plan a count own)
 
--- Whatever the event, a sound machine has a case of the table for it.
+-- What the machine has for its next events: a set that waits for a writer has a line, and each job can go on.
+pub record IsSupplied (w : World) : Type 0 where
+  pub spooled : All (λ set. set.lines ≢ []) w.shared.spool
+  pub running : (place : ℕ) (r : Running) → RunsAt w place r → CanGoOn w.config w.shared r.job r.stage
+
+-- and what its queue is: the fields of each record are apart, and records in use are of bytes
+pub record HasWholeQueue (w : World) : Type 0 where
+  pub fields : HasOwnFields w.config.layout
+  pub records : AreRecords w.shared.records
+
+-- Whatever the event, the machine has a case of the table for it.
 abbrev pub EachEventHasACase : Type 0
-EachEventHasACase = (job_of : Denoting) (w : World) (e : Event) → IsSound w → IsWhole w → CanBeWritten job_of w → HasCase job_of w e
+EachEventHasACase =
+    (job_of : Denoting) (w : World) (e : Event) → IsSound w → IsSupplied w → HasWholeQueue w → CanBeWritten job_of w → HasCase job_of w e
+
+-- The start is supplied, and so is what follows.
+abbrev pub StartsSupplied : Type 0
+StartsSupplied = (w : World) → IsStart w → IsSupplied w
+
+abbrev pub SuppliesAreKept : Type 0
+SuppliesAreKept = (job_of : Denoting) (old new : World) (e : Event) (lines : List Entry) → IsSound old → IsSupplied old → Transition job_of old e lines new → IsSupplied new

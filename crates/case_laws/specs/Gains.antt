@@ -1,4 +1,4 @@
--- What an action does to the tracks of sets, where no growth is granted.
+-- What an action does to the tracks of sets.
 use Rattle.std.specs.Prelude.{◌≡◌, ℕ, ◌≤◌, true, false, List, [], ◌∷◌, Some}
 use Rattle.std.specs.List.{list_any}
 use Rattle.jname_core.specs.declared.key.Key.{Key}
@@ -37,11 +37,12 @@ pub record MakesSet (fixed : Fixed) (a : Action) (s : State) (d : Done) : Type 0
   pub made : d.made ≡ record { step = step; dd = number; serial = serial } ∷ []
   pub store : d.state.store ≡ with_set s.store key serial (Some (new_set fixed plan key))
 
--- An action makes no set, and none gains, or it makes one and changes nothing else.
+-- An action makes no set, and none gains, or a growth is granted; or it makes one, and changes no other.
 pub data Gains (fixed : Fixed) (a : Action) (s : State) (d : Done) : Type 0 where
   none : GainsNone s.store d.state.store → d.made ≡ [] → Gains fixed a s d
+  grows : head_or true s.answers.grants ≡ true → d.made ≡ [] → Gains fixed a s d
   one : MakesSet fixed a s d → Gains fixed a s d
 
--- Where no growth is granted no action gives a set more tracks, but for the set that it makes.
+-- No action gives a set more tracks, but for a growth that is granted and the set that it makes.
 abbrev pub ActGains : Type 0
-ActGains = (fixed : Fixed) (a : Action) (s : State) → head_or true s.answers.grants ≡ false → Gains fixed a s (act fixed a s)
+ActGains = (fixed : Fixed) (a : Action) (s : State) → Gains fixed a s (act fixed a s)
