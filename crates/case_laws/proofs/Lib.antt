@@ -21,3 +21,12 @@ mod Keeping
 mod Spending
 mod Advancing
 mod Cases
+mod Ordered
+mod Making
+mod StillKept
+mod TakesMade
+mod FreeSteps
+mod Paths
+mod Going
+mod Spooled
+mod Supplies

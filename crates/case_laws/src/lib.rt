@@ -1,12 +1,22 @@
 //! Laws of the cases of the machine's table. They have no code: a law is a function that does nothing, and its contract is the law.
 #![tactic(auto)]
 
-ghost use Rattle.case_laws.specs.Cases.{EachEventHasACase};
+ghost use Rattle.case_laws.specs.Cases.{EachEventHasACase, StartsSupplied, SuppliesAreKept};
 ghost use Rattle.case_laws.specs.Gains.{ActGains};
 
 /// Whatever the event, a sound machine that is supplied has a case of the table for it.
 pub fn each_event_has_a_case()
     ensures { EachEventHasACase }
+{}
+
+/// The machine of a configuration is supplied.
+pub fn starts_supplied()
+    ensures { StartsSupplied }
+{}
+
+/// Each event leaves a sound machine that is supplied so.
+pub fn supplies_are_kept()
+    ensures { SuppliesAreKept }
 {}
 
 /// No action gives a set more tracks, but for a growth that is granted and the set that it makes.
