@@ -30,3 +30,5 @@ mod Paths
 mod Going
 mod Spooled
 mod Supplies
+mod Needed
+mod Lines

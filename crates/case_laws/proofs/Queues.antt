@@ -1,11 +1,11 @@
 -- The first job of a class, and of several.
-use Rattle.std.proofs.Common.{◌≡◌, ◌≢◌, ◌≤◌, ◌<◌, ◌⊎◌, inl, inr, ℕ, List, [], ◌∷◌, All, arith, ◌∙◌}
+use Rattle.std.proofs.Common.{◌≡◌, ◌≢◌, ◌≤◌, ◌<◌, ◌⊎◌, inl, inr, ℕ, List, [], ◌∷◌, All, arith, sym, ◌∙◌, subst}
 use Rattle.std.specs.List.{Contains}
 use Rattle.std.proofs.lemmas.Bool.{cases_eq, cases_lt, cases_order}
-use Rattle.std.proofs.lemmas.List.Elements.{All-cons, All-nil, All-weaker, Contains-append_left, Contains-append_right, Contains-push}
+use Rattle.std.proofs.lemmas.List.Elements.{All-cons, All-contains, All-nil, All-weaker, Contains-append_left, Contains-append_right, Contains-push}
 use Rattle.world_meaning.specs.Worlds.{Waiting}
 use Rattle.world_meaning.specs.Selections.{HasNone, IsFirst, IsSelected}
-use Rattle.case_laws.proofs.Firsts.{First, first_or_none}
+use Rattle.case_laws.proofs.Firsts.{First, first_or_none, none_and_one, same_first}
 
 -- a class that has a job has a first one
 abbrev pub Best : List Waiting → ℕ → Type 0
@@ -88,3 +88,26 @@ by_classes waiting classes (inr f) =
 
 pub selected_or_none : (waiting : List Waiting) (classes : List ℕ) → (All (HasNone waiting) classes) ⊎ ((w : Waiting) × IsSelected waiting classes w)
 selected_or_none waiting classes = by_classes waiting classes (first_or_none (HasNone waiting) (Best waiting) (best_or_none waiting) classes)
+
+clash : (waiting : List Waiting) (class : ℕ) → HasNone waiting class → Best waiting class → ⊥
+clash waiting class none (w, b) = All-contains (λ y. y.class ≢ class) waiting w none b.contained b.of_class
+
+pub not_both : (waiting : List Waiting) (classes : List ℕ) (w : Waiting) → All (HasNone waiting) classes → IsSelected waiting classes w → ⊥
+not_both waiting classes w none s =
+    none_and_one (HasNone waiting) (Best waiting) (clash waiting) s.before s.after s.class (subst (All (HasNone waiting)) s.stands none) (w, s.first)
+
+-- the job that is selected is one
+same_best : (waiting : List Waiting) (class : ℕ) (w v : Waiting) → IsFirst waiting class w → IsFirst waiting class v → w.job ≡ v.job
+same_best waiting class w v b c =
+    let up : w.priority ≤ v.priority = All-contains (NotAbove class v) waiting w c.highest b.contained b.of_class in
+    let down : v.priority ≤ w.priority = All-contains (NotAbove class w) waiting v b.highest c.contained c.of_class in
+    let one : w.priority ≡ v.priority = omega arith in
+    let before : v.job ≤ w.job = All-contains (NotBefore class v) waiting w c.earliest b.contained b.of_class one in
+    let behind : w.job ≤ v.job = All-contains (NotBefore class w) waiting v b.earliest c.contained c.of_class (sym one) in
+    omega arith
+
+pub same_job : (waiting : List Waiting) (classes : List ℕ) (w v : Waiting) → IsSelected waiting classes w → IsSelected waiting classes v → w.job ≡ v.job
+same_job waiting classes w v s t =
+    let one : s.class ≡ t.class = same_first (HasNone waiting) (Best waiting) (clash waiting) s.before t.before s.after t.after s.class t.class
+    (sym s.stands ∙ t.stands) s.none_before t.none_before (w, s.first) (v, t.first) in
+    same_best waiting t.class w v (subst (λ (c : ℕ). IsFirst waiting c w) one s.first) t.first

@@ -1,11 +1,11 @@
 -- The first set of a class on the spool.
-use Rattle.std.proofs.Common.{◌≡◌, ◌≢◌, ◌⊎◌, inl, inr, ◌++◌, ℕ, List, [], ◌∷◌, All, refl, subst}
+use Rattle.std.proofs.Common.{◌≡◌, ◌≢◌, ◌⊎◌, inl, inr, ◌++◌, ℕ, List, [], ◌∷◌, All, refl, sym, ap, ◌∙◌, subst}
 use Rattle.std.proofs.lemmas.Bool.{cases_eq}
 use Rattle.std.proofs.lemmas.List.Elements.{All-head, All-tail}
 use Rattle.jcl_plan.specs.declared.entry.Written.{Written}
 use Rattle.machine_meaning.specs.declared.machine.SpoolSet.{SpoolSet}
 use Rattle.machine_meaning.specs.Spools.{HasNoSet, Takes, left_of}
-use Rattle.case_laws.proofs.Firsts.{First, first_or_none}
+use Rattle.case_laws.proofs.Firsts.{First, first_or_none, none_and_one, same_first}
 
 abbrev Other : ℕ → SpoolSet → Type 0
 Other class set = set.class ≢ class
@@ -55,3 +55,19 @@ by_first spool class some (inr f) =
 
 pub given_or_none : (spool : List SpoolSet) (class : ℕ) → All (λ set. set.lines ≢ []) spool → HasNoSet spool class ⊎ Given spool class
 given_or_none spool class some = by_first spool class some (first_or_none (Other class) (Of class) (λ set. known class set (cases_eq set.class class)) spool)
+
+pub not_both : (spool : List SpoolSet) (class job : ℕ) (line : Written) (left : List SpoolSet) → HasNoSet spool class → Takes spool class job line left → ⊥
+not_both spool class job line left none t =
+    none_and_one (Other class) (Of class) (λ set isnt is_so. isnt is_so) t.before t.after t.set (subst (All (Other class)) t.stands none) t.of_class
+
+same_set : (spool : List SpoolSet) (class i j : ℕ) (line other : Written) (left rest : List SpoolSet) → (t : Takes spool class i line left) (u : Takes spool class j other rest) → t.set ≡ u.set
+same_set spool class i j line other left rest t u =
+    same_first (Other class) (Of class) (λ set isnt is_so. isnt is_so) t.before u.before t.after u.after t.set u.set (sym t.stands ∙ u.stands) t.none_before u.none_before t.of_class u.of_class
+
+pub same_taken_job : (spool : List SpoolSet) (class i j : ℕ) (line other : Written) (left rest : List SpoolSet) → Takes spool class i line left → Takes spool class j other rest → i ≡ j
+same_taken_job spool class i j line other left rest t u = sym t.of_job ∙ ap (λ (set : SpoolSet). set.job) (same_set spool class i j line other left rest t u) ∙ u.of_job
+
+pub same_line : (spool : List SpoolSet) (class i j : ℕ) (line other : Written) (left rest : List SpoolSet) → Takes spool class i line left → Takes spool class j other rest → line ≡ other
+same_line spool class i j line other left rest t u =
+    let heads : line ∷ t.lines ≡ other ∷ u.lines = sym t.is_first ∙ ap (λ (set : SpoolSet). set.lines) (same_set spool class i j line other left rest t u) ∙ u.is_first in
+    cc

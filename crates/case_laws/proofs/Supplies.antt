@@ -36,14 +36,14 @@ no_other [] n k all e = absurd cc
 no_other (m ∷ ns) n zero all e = let is : m ≡ n = cc in All-head (λ m. n ≢ m) m ns all (sym is)
 no_other (m ∷ ns) n (suc k) all e = no_other ns n k (All-tail (λ m. n ≢ m) m ns all) e
 
-same_place : (ns : List ℕ) (j k n : ℕ) → Differ ns → slice_get ns j ≡ Some n → slice_get ns k ≡ Some n → j ≡ k
+pub same_place : (ns : List ℕ) (j k n : ℕ) → Differ ns → slice_get ns j ≡ Some n → slice_get ns k ≡ Some n → j ≡ k
 same_place [] j k n d e f = absurd cc
 same_place (m ∷ ns) zero zero n d e f = refl
 same_place (m ∷ ns) zero (suc k) n d e f = let is : m ≡ n = cc in absurd (no_other ns m k d.0 (f ∙ ap Some (sym is)))
 same_place (m ∷ ns) (suc j) zero n d e f = let is : m ≡ n = cc in absurd (no_other ns m j d.0 (e ∙ ap Some (sym is)))
 same_place (m ∷ ns) (suc j) (suc k) n d e f = ap suc (same_place ns j k n d.1 e f)
 
-get_number : (xs : List Initiator) (k : ℕ) (x : Initiator) → slice_get xs k ≡ Some x → slice_get (map (λ (y : Initiator). y.number) xs) k ≡ Some x.number
+pub get_number : (xs : List Initiator) (k : ℕ) (x : Initiator) → slice_get xs k ≡ Some x → slice_get (map (λ (y : Initiator). y.number) xs) k ≡ Some x.number
 get_number [] k x e = absurd cc
 get_number (y ∷ xs) zero x e = let is : y ≡ x = cc in ap (λ (z : Initiator). Some z.number) is
 get_number (y ∷ xs) (suc k) x e = get_number xs k x e

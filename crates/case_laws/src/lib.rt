@@ -3,6 +3,7 @@
 
 ghost use Rattle.case_laws.specs.Cases.{EachEventHasACase, StartsSupplied, SuppliesAreKept};
 ghost use Rattle.case_laws.specs.Gains.{ActGains};
+ghost use Rattle.case_laws.specs.Lines.{LinesAreDetermined};
 
 /// Whatever the event, a sound machine that is supplied has a case of the table for it.
 pub fn each_event_has_a_case()
@@ -22,4 +23,9 @@ pub fn supplies_are_kept()
 /// No action gives a set more tracks, but for a growth that is granted and the set that it makes.
 pub fn act_gains()
     ensures { ActGains }
+{}
+
+/// The table leaves no freedom in the lines of an event, where nothing is open that the machine decides.
+pub fn lines_are_determined()
+    ensures { LinesAreDetermined }
 {}
