@@ -31,4 +31,7 @@ mod Going
 mod Spooled
 mod Supplies
 mod Needed
+mod Granted
+mod SameTurns
 mod Lines
+mod Along

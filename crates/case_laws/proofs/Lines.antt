@@ -1,5 +1,5 @@
 -- One list of lines for every event for which nothing is open.
-use Rattle.std.proofs.Common.{◌≡◌, ◌≢◌, ◌≤◌, ◌<◌, ◌+◌, ◌++◌, ◌⊎◌, inl, inr, ℕ, zero, suc, Bool, true, false, not, ◌&&◌, ◌||◌, List, [], ◌∷◌, map, Option, Some, None, All, arith, length, length-append, refl, sym, ap, ◌∙◌, subst}
+use Rattle.std.proofs.Common.{◌≡◌, ◌≢◌, ◌≤◌, ◌<◌, ◌+◌, ◌⊎◌, inl, inr, ℕ, zero, suc, true, false, not, ◌&&◌, ◌||◌, List, [], ◌∷◌, map, Option, Some, None, All, arith, length, length-append, refl, sym, ap, ◌∙◌, subst}
 use Rattle.std.specs.Prelude.{slice_get}
 use Rattle.std.specs.List.{Contains}
 use Rattle.std.proofs.lemmas.Bool.{both_ways, cases_order}
@@ -14,29 +14,28 @@ use Rattle.jcl_meaning.specs.declared.state.Own.{Own}
 use Rattle.cb_meaning.specs.Needs.{records_needed}
 use Rattle.cb_meaning.specs.Spelled.{Denotes, Records}
 use Rattle.cb_meaning.specs.Walks.{first_fault}
-use Rattle.machine_meaning.specs.declared.machine.TheConstants.{MOST_EVENTS, MOST_JOBS}
 use Rattle.record_laws.proofs.Chains.{one_job}
 use Rattle.walk_laws.proofs.Denoted.Jobs.{denoted_has_no_fault}
 use Rattle.world_meaning.specs.declared.event.Event.{Event}
 use Rattle.world_meaning.specs.declared.event.Event.TheVariants as event
-use Rattle.world_meaning.specs.Cancels.{CancelsJob, RunsNot, admitted as cancels_admitted, cancelled_lines, is_admitted, no_job, selected as cancels_selected, waiting as cancels_waiting}
+use Rattle.world_meaning.specs.Cancels.{CancelsJob, RunsNot, admitted as cancels_admitted, is_admitted, no_job, selected as cancels_selected, waiting as cancels_waiting}
 use Rattle.world_meaning.specs.Devices.{EndsDevice, Writes, ended, idle, no_volume, nothing_written, wrote}
 use Rattle.world_meaning.specs.Displays.{IsDate, SetsDate, days_before, days_in, set as dated}
 use Rattle.world_meaning.specs.Holdings.{Holds, ReadsRecords, blocked, broken, held, read as reads_plan, wants_of}
 use Rattle.world_meaning.specs.Readings.{Denoting, IsWritten, Reads, full, no_number, read, read_line, rejected}
 use Rattle.world_meaning.specs.Selections.{Selects, nothing, selected}
-use Rattle.world_meaning.specs.Transitions.{Acts, Does, Goes, GoesOn, Transition, Turns, acts, past, shown, taken, unknown}
+use Rattle.world_meaning.specs.Transitions.{Acts, Does, GoesOn, Transition, Turns, acts, past, shown, taken, unknown}
 use Rattle.world_meaning.specs.Turns.{Advanced, Advances, acts as does_act, ends, is_busy, is_cancelled, is_result, has_operation, must_wait, volume_needed, waits}
-use Rattle.world_meaning.specs.Worlds.{Admission, Admitted, Config, Initiator, IsAt, Named, Operation, Running, Selected, Shared, Stage, Waiting, Wanting, World, counted, of_job}
-use Rattle.world_meaning.specs.Zaps.{ZapsRecord, has_initiator, not_owned, selected as zaps_selected, zapped}
-use Rattle.world_laws.specs.Beside.{IsTurnOf}
+use Rattle.world_meaning.specs.Worlds.{Admission, Admitted, Config, Initiator, IsAt, Named, Running, Selected, Shared, Stage, Waiting, Wanting, World, counted, of_job}
+use Rattle.world_meaning.specs.Zaps.{ZapsRecord, not_owned, selected as zaps_selected, zapped}
 use Rattle.world_laws.proofs.Beside.{one_there}
 use Rattle.run_laws.specs.Soundness.{IsSound, RunsAt}
 use Rattle.run_laws.proofs.Places.{one_running}
-use Rattle.case_laws.specs.Lines.{IsDecided, IsSameTurn, LeavesNoneOpen}
+use Rattle.case_laws.specs.Lines.{IsDecided, LeavesNoneOpen}
 use Rattle.case_laws.proofs.Blocks.{not_both as not_both_held, same_block}
 use Rattle.case_laws.proofs.Needed.{needed}
 use Rattle.case_laws.proofs.Queues.{not_both as not_both_selected, same_job}
+use Rattle.case_laws.proofs.SameTurns.{IsSameTurn, turn_same}
 use Rattle.case_laws.proofs.Spools.{not_both as not_both_written, same_line, same_taken_job}
 use Rattle.case_laws.proofs.Supplies.{get_number, same_place}
 
@@ -115,21 +114,21 @@ module _ (c : Config) (old : Shared) (r : Running) (a b : Shared) (on off : Opti
       Advances c old r plan q count own l a on → Advances c old r plan q count own m b off → l ≡ m
   advances_same plan q count own d (waits x g p e must t n k) (waits y h o f must_too u v j) = t ∙ sym u
   advances_same plan q count own d (waits x g p e must t n k) (does_act y h o free f grants goes more u v conserved j) =
-      absurd (one_waits x y (d g p h o x y e f) must goes)
+      absurd (one_waits x y (turn_same c old r.job plan q count own d g p h o x y e f) must goes)
   advances_same plan q count own d (waits x g p e must t n k) (ends y h o free f grants goes last u v conserved j) =
-      absurd (one_waits x y (d g p h o x y e f) must goes)
+      absurd (one_waits x y (turn_same c old r.job plan q count own d g p h o x y e f) must goes)
   advances_same plan q count own d (does_act x g p free e grants goes more t n conserved k) (waits y h o f must u v j) =
-      absurd (other_waits x y (d g p h o x y e f) goes must)
+      absurd (other_waits x y (turn_same c old r.job plan q count own d g p h o x y e f) goes must)
   advances_same plan q count own d (does_act x g p free e grants goes more t n conserved k)
-      (does_act y h o free_too f grants_too goes_too more_too u v conserved_too j) = t ∙ (d g p h o x y e f).lines ∙ sym u
+      (does_act y h o free_too f grants_too goes_too more_too u v conserved_too j) = t ∙ (turn_same c old r.job plan q count own d g p h o x y e f).lines ∙ sym u
   advances_same plan q count own d (does_act x g p free e grants goes more t n conserved k) (ends y h o free_too f grants_too goes_too last u v conserved_too j) =
-      t ∙ (d g p h o x y e f).lines ∙ sym u
+      t ∙ (turn_same c old r.job plan q count own d g p h o x y e f).lines ∙ sym u
   advances_same plan q count own d (ends x g p free e grants goes last t n conserved k) (waits y h o f must u v j) =
-      absurd (other_waits x y (d g p h o x y e f) goes must)
+      absurd (other_waits x y (turn_same c old r.job plan q count own d g p h o x y e f) goes must)
   advances_same plan q count own d (ends x g p free e grants goes last t n conserved k) (does_act y h o free_too f grants_too goes_too more u v conserved_too j) =
-      t ∙ (d g p h o x y e f).lines ∙ sym u
+      t ∙ (turn_same c old r.job plan q count own d g p h o x y e f).lines ∙ sym u
   advances_same plan q count own d (ends x g p free e grants goes last t n conserved k) (ends y h o free_too f grants_too goes_too last_too u v conserved_too j) =
-      t ∙ (d g p h o x y e f).lines ∙ sym u
+      t ∙ (turn_same c old r.job plan q count own d g p h o x y e f).lines ∙ sym u
 
   goes_same : (stage : Stage) → IsDecided c old r.job stage → GoesOn c old r stage l a on → GoesOn c old r stage m b off → l ≡ m
   goes_same (Selected first) d p q = records_same first p q

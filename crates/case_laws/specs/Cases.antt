@@ -21,7 +21,7 @@ use Rattle.world_meaning.specs.Lenses.{seen}
 use Rattle.world_meaning.specs.Readings.{Denoting, IsWritten}
 use Rattle.world_meaning.specs.Starts.{IsStart}
 use Rattle.world_meaning.specs.Tracks.{is_kept_for}
-use Rattle.world_meaning.specs.Transitions.{Transition}
+use Rattle.world_meaning.specs.Transitions.{Runs, Transition}
 use Rattle.world_meaning.specs.Worlds.{Admission, Admitted, Config, Kept, Named, Running, Selected, Shared, Stage, Wanting, World}
 use Rattle.run_laws.specs.Soundness.{IsSound, RunsAt}
 
@@ -96,3 +96,8 @@ StartsSupplied = (w : World) → IsStart w → IsSupplied w
 
 abbrev pub SuppliesAreKept : Type 0
 SuppliesAreKept = (job_of : Denoting) (old new : World) (e : Event) (lines : List Entry) → IsSound old → IsSupplied old → Transition job_of old e lines new → IsSupplied new
+
+-- So whatever the events so far, the next one has a case.
+abbrev pub NextEventHasACase : Type 0
+NextEventHasACase = (job_of : Denoting) (start w : World) (before : List Event) (told : List (List Entry)) (e : Event) → IsStart start →
+    Runs job_of start before told w → HasWholeQueue w → CanBeWritten job_of w → HasCase job_of w e
