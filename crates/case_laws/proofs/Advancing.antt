@@ -56,7 +56,8 @@ module _ (c : Config) (old : Shared) (r : Running) (plan : JobPlan) (a : Admissi
   spends : (x : Advanced) → DoesNext x → (kept : List Kept) → ((v : List ℕ) → kept_on kept v ≤ kept_on (kept_unless_made old.kept r.job x.done.made) v) →
       Spent old (put_back r.job old.store x.done.state.store) kept
   spends x t kept few =
-      spent old r.job plan a.fixed x.action x.before x.done t.before (ap (λ (b : Answers). head_or true b.grants) t.answered) (known x t) (has_tracks x t) kept few (gains x t)
+      spent old r.job plan a.fixed x.action x.before x.done t.before (ap (λ (b : Answers). head_or true b.grants) t.answered) (known x t) (has_tracks x t)
+      kept few (gains x t)
 
   by_end : (x : Advanced) → advanced c old r.job plan a count own false a.assured ≡ Some x → DoesNext x → must_wait old.operations r.job x ≡ false →
       (is_over c plan x ≡ true) ⊎ (is_over c plan x ≡ false) → WentOn c old r (Admitted plan a count own)
@@ -71,7 +72,8 @@ module _ (c : Config) (old : Shared) (r : Running) (plan : JobPlan) (a : Admissi
       )
   by_end x e t goes (inl over) =
       let kept : List Kept = kept_without (kept_unless_made old.kept r.job x.done.made) r.job in
-      let s : Spent old (put_back r.job old.store x.done.state.store) kept = spends x t kept (λ v. sum_filter _ _ (kept_unless_made old.kept r.job x.done.made)) in (
+      let s : Spent old (put_back r.job old.store x.done.state.store) kept = spends x t kept
+      (λ v. sum_filter _ _ (kept_unless_made old.kept r.job x.done.made)) in (
         _,
         _,
         _,

@@ -28,7 +28,8 @@ it_first p h hs e =
     let here : (p h && h.job == h.job) ≡ true = and_from (p h) (h.job == h.job) e (eq-eqb h.job h.job refl) in
     ap (λ b. b || list_any (λ x. p x && x.job == h.job) hs) here ∙ true_or (list_any (λ x. p x && x.job == h.job) hs)
 
-later_there : (p : Hold → Bool) (h : Hold) (hs : List Hold) (job : ℕ) → list_any (λ x. p x && x.job == job) hs ≡ true → list_any (λ x. p x && x.job == job) (h ∷ hs) ≡ true
+later_there : (p : Hold → Bool) (h : Hold) (hs : List Hold) (job : ℕ) → list_any (λ x. p x && x.job == job) hs ≡ true →
+    list_any (λ x. p x && x.job == job) (h ∷ hs) ≡ true
 later_there p h hs job e = ap (λ b. (p h && h.job == job) || b) e ∙ or_true (p h && h.job == job)
 
 both_ways : (b : Bool) → b ≡ false → b ≡ true → ⊥
@@ -43,7 +44,8 @@ by_job p h hs job e l (inl less) = (
         (All-weaker (λ x. p x ≡ true → job ≤ x.job) (λ x. p x ≡ true → h.job ≤ x.job) (λ x least k. let far : job ≤ x.job = least k in omega arith) hs l.least);
   },
 )
-by_job p h hs job e l (inr more) = (job, record { there = later_there p h hs job l.there; least = All-cons (λ x. p x ≡ true → job ≤ x.job) h hs (λ k. more) l.least })
+by_job p h hs job e l (inr more) =
+    (job, record { there = later_there p h hs job l.there; least = All-cons (λ x. p x ≡ true → job ≤ x.job) h hs (λ k. more) l.least })
 
 by_test : (p : Hold → Bool) (h : Hold) (hs : List Hold) → (p h ≡ true) ⊎ (p h ≡ false) → (All (λ x. p x ≡ false) hs) ⊎ ((j : ℕ) × Lowest p hs j) →
     (All (λ x. p x ≡ false) (h ∷ hs)) ⊎ ((j : ℕ) × Lowest p (h ∷ hs) j)
@@ -102,14 +104,17 @@ holder_of holds wants f (inr (job, l)) = (
   },
 )
 
-by_wants : (holds : List Hold) (wants : List Want) → (All (Free holds) wants) ⊎ First (Free holds) (Taken holds) wants → (All (Free holds) wants) ⊎ ((by : Blocked) × IsFirstBlock holds wants by)
+by_wants : (holds : List Hold) (wants : List Want) → (All (Free holds) wants) ⊎ First (Free holds) (Taken holds) wants →
+    (All (Free holds) wants) ⊎ ((by : Blocked) × IsFirstBlock holds wants by)
 by_wants holds wants (inl free) = inl free
 by_wants holds wants (inr f) = inr (holder_of holds wants f (lowest_or_none (conflicts f.it) holds))
 
 pub free_or_blocked : (holds : List Hold) (wants : List Want) → (All (Free holds) wants) ⊎ ((by : Blocked) × IsFirstBlock holds wants by)
-free_or_blocked holds wants = by_wants holds wants (first_or_none (Free holds) (Taken holds) (λ want. free_or_taken holds want (cases_Bool (is_blocked holds want))) wants)
+free_or_blocked holds wants =
+    by_wants holds wants (first_or_none (Free holds) (Taken holds) (λ want. free_or_taken holds want (cases_Bool (is_blocked holds want))) wants)
 
-wider_by : (p q : Hold → Bool) (h : Hold) (hs : List Hold) → (p h ≡ true → q h ≡ true) → (list_any p hs ≡ true → list_any q hs ≡ true) → (p h ≡ true) ⊎ (list_any p hs ≡ true) →
+wider_by : (p q : Hold → Bool) (h : Hold) (hs : List Hold) → (p h ≡ true → q h ≡ true) → (list_any p hs ≡ true → list_any q hs ≡ true) →
+    (p h ≡ true) ⊎ (list_any p hs ≡ true) →
     list_any q (h ∷ hs) ≡ true
 wider_by p q h hs first rest (inl here) = ap (λ b. b || list_any q hs) (first here) ∙ true_or (list_any q hs)
 wider_by p q h hs first rest (inr there) = ap (λ b. q h || b) (rest there) ∙ or_true (q h)
@@ -118,7 +123,8 @@ any_wider : (p q : Hold → Bool) → ((h : Hold) → p h ≡ true → q h ≡ t
 any_wider p q wider [] e = absurd cc
 any_wider p q wider (h ∷ hs) e = wider_by p q h hs (wider h) (any_wider p q wider hs) (or_cases (p h) (list_any p hs) e)
 
-least_by : (p : Hold → Bool) (h : Hold) (i j : ℕ) (rest : Bool) → (p h ≡ true → i ≤ h.job) → (rest ≡ true → i ≤ j) → ((p h && h.job == j) ≡ true) ⊎ (rest ≡ true) → i ≤ j
+least_by : (p : Hold → Bool) (h : Hold) (i j : ℕ) (rest : Bool) → (p h ≡ true → i ≤ h.job) → (rest ≡ true → i ≤ j) →
+    ((p h && h.job == j) ≡ true) ⊎ (rest ≡ true) → i ≤ j
 least_by p h i j rest first more (inl here) =
     let low : i ≤ h.job = first (and_parts (p h) (h.job == j) here).0 in
     let same : h.job ≡ j = eqb-true h.job j (and_parts (p h) (h.job == j) here).1 in
@@ -137,11 +143,13 @@ taken_by holds wants by b =
 
 pub not_both : (holds : List Hold) (wants : List Want) (by : Blocked) → All (Free holds) wants → IsFirstBlock holds wants by → ⊥
 not_both holds wants by free b =
-    none_and_one (Free holds) (Taken holds) (λ want. both_ways (is_blocked holds want)) b.before b.behind b.want (subst (All (Free holds)) b.stands free) (taken_by holds wants by b)
+    none_and_one (Free holds) (Taken holds) (λ want. both_ways (is_blocked holds want)) b.before b.behind b.want (subst (All (Free holds)) b.stands free)
+    (taken_by holds wants by b)
 
 pub same_block : (holds : List Hold) (wants : List Want) (by other : Blocked) → IsFirstBlock holds wants by → IsFirstBlock holds wants other → by ≡ other
 same_block holds wants by other b c =
-    let one : b.want ≡ c.want = same_first (Free holds) (Taken holds) (λ want. both_ways (is_blocked holds want)) b.before c.before b.behind c.behind b.want c.want
+    let one : b.want ≡ c.want = same_first (Free holds) (Taken holds) (λ want. both_ways (is_blocked holds want)) b.before c.before b.behind c.behind
+    b.want c.want
     (sym b.stands ∙ c.stands) b.free c.free (taken_by holds wants by b) (taken_by holds wants other c) in
     let up : by.job ≤ other.job = least_of (conflicts b.want) holds by.job other.job b.lowest
     (subst (λ (want : Want). list_any (λ h. conflicts want h && h.job == other.job) holds ≡ true) (sym one) c.holder) in

@@ -1,6 +1,6 @@
 -- Each day is a day of some year.
-use Rattle.std.proofs.Common.{◌≡◌, ◌≤◌, ◌<◌, ◌+◌, ◌⊎◌, inl, inr, ℕ, zero, suc, Bool, true, false, cond, arith, refl}
-use Rattle.std.proofs.lemmas.Bool.{cases_lt}
+use Rattle.std.proofs.Common.{◌≡◌, ◌≤◌, ◌<◌, ◌+◌, ◌⊎◌, inl, inr, ℕ, zero, suc, Bool, true, false, cond, arith, refl, subst}
+use Rattle.std.proofs.lemmas.Bool.{cases_lt, cases_order}
 use Rattle.world_meaning.specs.Displays.{IsDate, days_before, days_in, is_leap}
 
 pub record Dated (day : ℕ) : Type 0 where
@@ -39,3 +39,38 @@ next day d (inr more) = record {
 pub dated : (day : ℕ) → Dated day
 dated zero = record { years = 0; of_year = 1; is = record { within = (omega arith, has_a_day 1900); counts = refl } }
 dated (suc day) = let d : Dated day = dated day in next day d (cases_lt d.of_year (days_in (1900 + d.years)))
+
+-- a day has one date
+earlier : (years more : ℕ) → years < more → days_before years + days_in (1900 + years) ≤ days_before more
+earlier years zero less = absurd (omega (arith, less))
+earlier years (suc more) less = by_order (earlier years more) (cases_order years more)
+  where
+    far : (a b c : ℕ) → a ≤ b → a ≤ b + c
+    far a b c e = omega (arith, e)
+
+    same : (n : ℕ) → n ≤ n
+    same n = omega arith
+
+    by_order : (years < more → days_before years + days_in (1900 + years) ≤ days_before more) → (years ≡ more) ⊎ ((years < more) ⊎ (more < years)) →
+        days_before years + days_in (1900 + years) ≤ days_before (suc more)
+    by_order later (inl is) =
+        subst (λ (n : ℕ). days_before years + days_in (1900 + years) ≤ days_before n + days_in (1900 + n)) is
+        (same (days_before years + days_in (1900 + years)))
+    by_order later (inr (inl before)) = far (days_before years + days_in (1900 + years)) (days_before more) (days_in (1900 + more)) (later before)
+    by_order later (inr (inr behind)) = absurd (omega (arith, less, behind))
+
+not_later : (day before n days more m : ℕ) → day + 1 ≡ before + n → n ≤ days → before + days ≤ more → day + 1 ≡ more + m → 1 ≤ m → ⊥
+not_later day before n days more m e f g h k = omega (arith, e, f, g, h, k)
+
+pub one_year : (day y n z m : ℕ) → IsDate day y n → IsDate day z m → y ≡ z
+one_year day y n z m d e = by_order (cases_order y z)
+  where
+    by_order : (y ≡ z) ⊎ ((y < z) ⊎ (z < y)) → y ≡ z
+    by_order (inl same) = same
+    by_order (inr (inl less)) =
+        absurd (not_later day (days_before y) n (days_in (1900 + y)) (days_before z) m d.counts d.within.1 (earlier y z less) e.counts e.within.0)
+    by_order (inr (inr more)) =
+        absurd (not_later day (days_before z) m (days_in (1900 + z)) (days_before y) n e.counts e.within.1 (earlier z y more) d.counts d.within.0)
+
+pub one_day : (day before n m : ℕ) → day + 1 ≡ before + n → day + 1 ≡ before + m → n ≡ m
+one_day day before n m e f = omega (arith, e, f)

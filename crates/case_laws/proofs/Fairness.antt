@@ -46,7 +46,8 @@ step_ends : (programs : List SoloProgram) (step : Option StepPlan) → AreWellFo
 step_ends programs None h = All-nil IsStepOutcome
 step_ends programs (Some step) h = All-cons IsStepOutcome (ending_of programs step.program) [] (ends programs step.program h) (All-nil IsStepOutcome)
 
-action_ends : (programs : List SoloProgram) (steps : List StepPlan) (a : Action) → AreWellFormedPrograms programs → All IsStepOutcome (outcomes_due programs steps a)
+action_ends : (programs : List SoloProgram) (steps : List StepPlan) (a : Action) → AreWellFormedPrograms programs →
+    All IsStepOutcome (outcomes_due programs steps a)
 action_ends programs steps (Start n step) h = All-nil IsStepOutcome
 action_ends programs steps (Take n dd d) h = All-nil IsStepOutcome
 action_ends programs steps (Ask step move) h = All-nil IsStepOutcome
@@ -56,6 +57,7 @@ action_ends programs steps (Dispose n dd d) h = All-nil IsStepOutcome
 action_ends programs steps (Left n dd d) h = All-nil IsStepOutcome
 action_ends programs steps Over h = All-nil IsStepOutcome
 
-pub are_fair : (programs : List SoloProgram) (steps : List StepPlan) (g : Granting) (a : Action) (own : Own) → AreWellFormedPrograms programs → g.primary ≡ true →
+pub are_fair : (programs : List SoloProgram) (steps : List StepPlan) (g : Granting) (a : Action) (own : Own) → AreWellFormedPrograms programs →
+    g.primary ≡ true →
     AreFair (answers_due programs steps g a own)
 are_fair programs steps g a own h granted = record { granted = granted; ends = action_ends programs steps a h }

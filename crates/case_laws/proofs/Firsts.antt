@@ -50,6 +50,7 @@ same_first No Yes clash (z ∷ zs) (w ∷ ws) after others x y e all both p q =
     same_first No Yes clash zs ws after others x y rest (All-tail No z zs all) (All-tail No w ws both) p q
 
 -- none, and one that is so
-pub none_and_one : {X : Type 0} (No Yes : X → Type 0) → ((x : X) → No x → Yes x → ⊥) → (before after : List X) (x : X) → All No (before ++ x ∷ after) → Yes x → ⊥
+pub none_and_one : {X : Type 0} (No Yes : X → Type 0) → ((x : X) → No x → Yes x → ⊥) → (before after : List X) (x : X) → All No (before ++ x ∷ after) →
+    Yes x → ⊥
 none_and_one No Yes clash [] after x all p = clash x (All-head No x after all) p
 none_and_one No Yes clash (z ∷ zs) after x all p = none_and_one No Yes clash zs after x (All-tail No z (zs ++ x ∷ after) all) p

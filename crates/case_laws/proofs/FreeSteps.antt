@@ -152,7 +152,8 @@ module _ (fixed : Fixed) (p : Place) where
   -- nor do dispositions
   record DisposesOut (n dd : ℕ) (ds : List DdPlan) (ys : List Action) (u : State) : Type 0 where
     left : State
-    keeps : (outs : List Outcome) (t : State) → Closed outs u t → Clean fixed (disposes_from n dd ds) t → Closed outs left (after fixed (disposes_from n dd ds) t)
+    keeps : (outs : List Outcome) (t : State) → Closed outs u t → Clean fixed (disposes_from n dd ds) t →
+        Closed outs left (after fixed (disposes_from n dd ds) t)
     more : MayMake fixed ys left.store left.own p
 
   no_disposition : (n dd : ℕ) (d : DdPlan) → IsTakeOf (Dispose n dd d) p → ⊥
@@ -215,7 +216,8 @@ module _ (fixed : Fixed) (p : Place) where
         by_takes (passed v f more) =
             let mv : MovesOut (Finish n ∷ (disposes_from n 1 step.dds ++ ys)) v = moves_out step ms (Finish n ∷ (disposes_from n 1 step.dds ++ ys)) v more in
             let e : EndOut n (disposes_from n 1 step.dds ++ ys) mv.left = end_out n (disposes_from n 1 step.dds ++ ys) mv.left mv.more in
-            by_end v mv.left (λ outs t o c. mv.keeps outs (after fixed (takes_from n 1 step.dds) t) (f outs t o c)) e (disposes_out n 1 step.dds ys e.left e.more)
+            by_end v mv.left (λ outs t o c. mv.keeps outs (after fixed (takes_from n 1 step.dds) t) (f outs t o c)) e
+            (disposes_out n 1 step.dds ys e.left e.more)
 
     pub step_out : (u : State) → MayMake fixed (step_actions n step ms ++ ys) u.store u.own p → StepOut n step ys u
     step_out u m = started_out u (subst (λ (actions : List Action). MayMake fixed actions u.store u.own p) (in_a_row n step ms ys) m)

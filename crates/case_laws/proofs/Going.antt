@@ -39,7 +39,8 @@ RunsOn c s (Some r) = CanGoOn c s r.job r.stage
 -- an agenda has an action
 pub some_action : (c : Config) (plan : JobPlan) → 0 < length (agenda plan c.programs)
 some_action c plan =
-    let some : (xs ys : List Action) → 0 < length (xs ++ (ys ++ Over ∷ [])) = λ xs ys. omega (arith, length-append xs (ys ++ Over ∷ []), length-append ys (Over ∷ [])) in
+    let some : (xs ys : List Action) → 0 < length (xs ++ (ys ++ Over ∷ [])) =
+    λ xs ys. omega (arith, length-append xs (ys ++ Over ∷ []), length-append ys (Over ∷ [])) in
     some (steps_from (moves_of c.programs) 1 plan.steps) (lefts_from 1 plan.steps)
 
 -- its own store, put back, is what the job then sees
@@ -90,7 +91,8 @@ module _ (c : Config) (old : Shared) (r : Running) (programs : AreWellFormedProg
     turn_goes_on lines new runs is can (acts x growth primary free e grants goes more t n conserved on) =
         subst (RunsOn c new) (sym on) (
           more_left (length (agenda plan c.programs)) x.count (is_over c plan x) refl more,
-          λ is_assured. covered_behind x growth primary new e (grants is_assured) (ap (λ (s : Shared). s.store) n) (ap (λ (s : Shared). s.kept) n) (can.1 is_assured),
+          λ is_assured. covered_behind x growth primary new e (grants is_assured) (ap (λ (s : Shared). s.store) n) (ap (λ (s : Shared). s.kept) n)
+              (can.1 is_assured),
         )
     turn_goes_on lines new runs is can (ends x growth primary free e grants goes last t n conserved gone) = subst (RunsOn c new) (sym gone) tt
 

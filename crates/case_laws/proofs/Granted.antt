@@ -127,7 +127,8 @@ module _ (fixed : Fixed) (store : Store) (own : Own) (outcomes : List Outcome) (
       either (is_full set) _ _ _ _ (either (n == 0) _ (put_grows growth name text d x k n set s) _ (put_grows true name text d x k n set t)
       (one _ _ refl refl refl) (grows refl)) (one _ _ refl refl refl)
 
-  put_in_beside : (name text : List ℕ) (d : ℕ) (x : DdState) (p : SetPlan) (k : Option TakenSet) → IsBeside (puts_in name text d x p k s) (puts_in name text d x p k t)
+  put_in_beside : (name text : List ℕ) (d : ℕ) (x : DdState) (p : SetPlan) (k : Option TakenSet) →
+      IsBeside (puts_in name text d x p k s) (puts_in name text d x p k t)
   put_in_beside name text d x p None = one _ _ refl refl refl
   put_in_beside name text d x p (Some k) =
       set_beside name text d x k (secondary_of p.space) (emptied (empties p.status x.written) (or_nothing (store.set k.key k.serial)))

@@ -21,7 +21,8 @@ last_behind : (count : ℕ) (actions : List Action) (a : Action) → is_last a �
     list_any is_last (drop count (actions ++ a ∷ [])) ≡ true
 last_behind zero [] a e less = or_left (is_last a) false e
 last_behind zero (x ∷ actions) a e less =
-    or_right (is_last x) (list_any is_last (actions ++ a ∷ [])) (last_behind zero actions a e (let l : 0 < length (actions ++ a ∷ []) = omega (arith, length-append actions (a ∷ [])) in l))
+    or_right (is_last x) (list_any is_last (actions ++ a ∷ [])) (last_behind zero actions a e
+    (let l : 0 < length (actions ++ a ∷ []) = omega (arith, length-append actions (a ∷ [])) in l))
 last_behind (suc count) [] a e less = absurd (omega (arith, less))
 last_behind (suc count) (x ∷ actions) a e less = last_behind count actions a e (omega (arith, less))
 

@@ -33,5 +33,6 @@ mod Supplies
 mod Needed
 mod Granted
 mod SameTurns
+mod TurnLines
 mod Lines
 mod Along

@@ -1,43 +1,36 @@
 -- One list of lines for every event for which nothing is open.
-use Rattle.std.proofs.Common.{◌≡◌, ◌≢◌, ◌≤◌, ◌<◌, ◌+◌, ◌⊎◌, inl, inr, ℕ, zero, suc, true, false, not, ◌&&◌, ◌||◌, List, [], ◌∷◌, map, Option, Some, None, All, arith, length, length-append, refl, sym, ap, ◌∙◌, subst}
+use Rattle.std.proofs.Common.{◌≡◌, ◌≢◌, ◌≤◌, ◌<◌, ◌+◌, ℕ, zero, suc, true, false, List, [], ◌∷◌, map, Option, Some, None, All, arith, length, length-append, refl, sym, ap, ◌∙◌, subst}
 use Rattle.std.specs.Prelude.{slice_get}
 use Rattle.std.specs.List.{Contains}
-use Rattle.std.proofs.lemmas.Bool.{both_ways, cases_order}
+use Rattle.std.proofs.lemmas.Bool.{both_ways}
 use Rattle.std.proofs.lemmas.List.Elements.{All-contains, All-head, All-tail}
-use Rattle.enq_core.specs.declared.table.Blocked.{Blocked}
 use Rattle.jcl_plan.specs.declared.entry.Entry.{Entry}
 use Rattle.jcl_plan.specs.declared.entry.Entry.TheVariants as entry
-use Rattle.jcl_plan.specs.declared.entry.JobLine.{JobLine}
 use Rattle.jcl_plan.specs.declared.entry.JobLine.TheVariants as line
 use Rattle.jcl_plan.specs.declared.plan.JobPlan.{JobPlan}
-use Rattle.jcl_meaning.specs.declared.state.Own.{Own}
 use Rattle.cb_meaning.specs.Needs.{records_needed}
-use Rattle.cb_meaning.specs.Spelled.{Denotes, Records}
-use Rattle.cb_meaning.specs.Walks.{first_fault}
-use Rattle.record_laws.proofs.Chains.{one_job}
-use Rattle.walk_laws.proofs.Denoted.Jobs.{denoted_has_no_fault}
+use Rattle.cb_meaning.specs.Spelled.{Records}
 use Rattle.world_meaning.specs.declared.event.Event.{Event}
 use Rattle.world_meaning.specs.declared.event.Event.TheVariants as event
 use Rattle.world_meaning.specs.Cancels.{CancelsJob, RunsNot, admitted as cancels_admitted, is_admitted, no_job, selected as cancels_selected, waiting as cancels_waiting}
 use Rattle.world_meaning.specs.Devices.{EndsDevice, Writes, ended, idle, no_volume, nothing_written, wrote}
-use Rattle.world_meaning.specs.Displays.{IsDate, SetsDate, days_before, days_in, set as dated}
-use Rattle.world_meaning.specs.Holdings.{Holds, ReadsRecords, blocked, broken, held, read as reads_plan, wants_of}
+use Rattle.world_meaning.specs.Displays.{SetsDate, days_before, set as dated}
 use Rattle.world_meaning.specs.Readings.{Denoting, IsWritten, Reads, full, no_number, read, read_line, rejected}
 use Rattle.world_meaning.specs.Selections.{Selects, nothing, selected}
-use Rattle.world_meaning.specs.Transitions.{Acts, Does, GoesOn, Transition, Turns, acts, past, shown, taken, unknown}
-use Rattle.world_meaning.specs.Turns.{Advanced, Advances, acts as does_act, ends, is_busy, is_cancelled, is_result, has_operation, must_wait, volume_needed, waits}
-use Rattle.world_meaning.specs.Worlds.{Admission, Admitted, Config, Initiator, IsAt, Named, Running, Selected, Shared, Stage, Waiting, Wanting, World, counted, of_job}
+use Rattle.world_meaning.specs.Transitions.{Acts, Does, Transition, Turns, acts, past, shown, taken, unknown}
+use Rattle.world_meaning.specs.Turns.{is_busy}
+use Rattle.world_meaning.specs.Worlds.{Initiator, IsAt, Running, Waiting, World, counted, of_job}
 use Rattle.world_meaning.specs.Zaps.{ZapsRecord, not_owned, selected as zaps_selected, zapped}
 use Rattle.world_laws.proofs.Beside.{one_there}
 use Rattle.run_laws.specs.Soundness.{IsSound, RunsAt}
 use Rattle.run_laws.proofs.Places.{one_running}
 use Rattle.case_laws.specs.Lines.{IsDecided, LeavesNoneOpen}
-use Rattle.case_laws.proofs.Blocks.{not_both as not_both_held, same_block}
 use Rattle.case_laws.proofs.Needed.{needed}
 use Rattle.case_laws.proofs.Queues.{not_both as not_both_selected, same_job}
-use Rattle.case_laws.proofs.SameTurns.{IsSameTurn, turn_same}
 use Rattle.case_laws.proofs.Spools.{not_both as not_both_written, same_line, same_taken_job}
 use Rattle.case_laws.proofs.Supplies.{get_number, same_place}
+use Rattle.case_laws.proofs.Dates.{one_day, one_year}
+use Rattle.case_laws.proofs.TurnLines.{goes_same}
 
 -- a job is written only where there are records enough for it
 too_few : (free behind left need : ℕ) → free ≡ suc (behind + left) → need ≤ suc behind → free < need → ⊥
@@ -75,105 +68,10 @@ module _ (job_of : Denoting) (w : World) (deck : List (List ℕ)) where
   reads_same a b l m (read plan first records less d h e n) (read other second others less_too g k f o) =
       let same : plan ≡ other = cc in e ∙ ap (λ (p : JobPlan). of_job (w.jobs + 1) (read_line p ∷ [])) same ∙ sym f
 
-module _ (c : Config) (old : Shared) (r : Running) (a b : Shared) (on off : Option Running) (l m : List JobLine) where
-  holds_same : (plan : JobPlan) → Holds old r plan l a on → Holds old r plan m b off → l ≡ m
-  holds_same plan (held free t n g) (held free_too u o h) = t ∙ sym u
-  holds_same plan (held free t n g) (blocked by d u o h) = absurd (not_both_held old.holds (wants_of plan) by free d)
-  holds_same plan (blocked by d t n g) (held free u o h) = absurd (not_both_held old.holds (wants_of plan) by free d)
-  holds_same plan (blocked by d t n g) (blocked other e u o h) =
-      t ∙ ap (λ (z : Blocked). line.WaitNames z.job z.name ∷ []) (same_block old.holds (wants_of plan) by other d e) ∙ sym u
-
-  no_fault : (first n : ℕ) (behind : List ℕ) (plan : JobPlan) → first_fault c.layout (length c.units) old.records r.job first ≡ Some n →
-      Denotes c.layout (length c.units) old.records r.job (first ∷ behind) plan → ⊥
-  no_fault first n behind plan e d =
-      let none : first_fault c.layout (length c.units) old.records r.job first ≡ None =
-      denoted_has_no_fault c.layout (length c.units) old.records r.job first behind plan d in
-      cc
-
-  records_same : (first : ℕ) → ReadsRecords c old r first l a on → ReadsRecords c old r first m b off → l ≡ m
-  records_same first (broken n free f t e conserved gone) (broken k free_too g u o conserved_too gone_too) =
-      let same : n ≡ k = cc in t ∙ ap (λ (i : ℕ). line.Broken i ∷ []) same ∙ sym u
-  records_same first (broken n free f t e conserved gone) (reads_plan plan behind d h) = absurd (no_fault first n behind plan f d)
-  records_same first (reads_plan plan behind d h) (broken n free f t e conserved gone) = absurd (no_fault first n behind plan f d)
-  records_same first (reads_plan plan behind d h) (reads_plan other others e k) =
-      let same : other ≡ plan = (one_job c.layout (length c.units) old.records r.job first others behind other plan e d).0 in
-      holds_same plan h (subst (λ (p : JobPlan). Holds old r p m b off) same k)
-
-  -- turns that do the same wait alike
-  same_wait : (x y : Advanced) → IsSameTurn x y → must_wait old.operations r.job x ≡ must_wait old.operations r.job y
-  same_wait x y s = λ i. is_busy old.operations (volume_needed (s.lines i) (s.action i) (s.own i))
-      || (is_result (s.action i) && not (is_cancelled (s.lines i)) && has_operation old.operations r.job)
-
-  one_waits : (x y : Advanced) → IsSameTurn x y → must_wait old.operations r.job x ≡ true → must_wait old.operations r.job y ≡ false → ⊥
-  one_waits x y s e f = both_ways (must_wait old.operations r.job y) f (sym (same_wait x y s) ∙ e)
-
-  other_waits : (x y : Advanced) → IsSameTurn x y → must_wait old.operations r.job x ≡ false → must_wait old.operations r.job y ≡ true → ⊥
-  other_waits x y s e f = both_ways (must_wait old.operations r.job x) e (same_wait x y s ∙ f)
-
-  advances_same : (plan : JobPlan) (q : Admission) (count : ℕ) (own : Own) → IsDecided c old r.job (Admitted plan q count own) →
-      Advances c old r plan q count own l a on → Advances c old r plan q count own m b off → l ≡ m
-  advances_same plan q count own d (waits x g p e must t n k) (waits y h o f must_too u v j) = t ∙ sym u
-  advances_same plan q count own d (waits x g p e must t n k) (does_act y h o free f grants goes more u v conserved j) =
-      absurd (one_waits x y (turn_same c old r.job plan q count own d g p h o x y e f) must goes)
-  advances_same plan q count own d (waits x g p e must t n k) (ends y h o free f grants goes last u v conserved j) =
-      absurd (one_waits x y (turn_same c old r.job plan q count own d g p h o x y e f) must goes)
-  advances_same plan q count own d (does_act x g p free e grants goes more t n conserved k) (waits y h o f must u v j) =
-      absurd (other_waits x y (turn_same c old r.job plan q count own d g p h o x y e f) goes must)
-  advances_same plan q count own d (does_act x g p free e grants goes more t n conserved k)
-      (does_act y h o free_too f grants_too goes_too more_too u v conserved_too j) = t ∙ (turn_same c old r.job plan q count own d g p h o x y e f).lines ∙ sym u
-  advances_same plan q count own d (does_act x g p free e grants goes more t n conserved k) (ends y h o free_too f grants_too goes_too last u v conserved_too j) =
-      t ∙ (turn_same c old r.job plan q count own d g p h o x y e f).lines ∙ sym u
-  advances_same plan q count own d (ends x g p free e grants goes last t n conserved k) (waits y h o f must u v j) =
-      absurd (other_waits x y (turn_same c old r.job plan q count own d g p h o x y e f) goes must)
-  advances_same plan q count own d (ends x g p free e grants goes last t n conserved k) (does_act y h o free_too f grants_too goes_too more u v conserved_too j) =
-      t ∙ (turn_same c old r.job plan q count own d g p h o x y e f).lines ∙ sym u
-  advances_same plan q count own d (ends x g p free e grants goes last t n conserved k) (ends y h o free_too f grants_too goes_too last_too u v conserved_too j) =
-      t ∙ (turn_same c old r.job plan q count own d g p h o x y e f).lines ∙ sym u
-
-  goes_same : (stage : Stage) → IsDecided c old r.job stage → GoesOn c old r stage l a on → GoesOn c old r stage m b off → l ≡ m
-  goes_same (Selected first) d p q = records_same first p q
-  goes_same (Wanting plan) d p q = holds_same plan p q
-  goes_same (Named plan) d p q = absurd d
-  goes_same (Admitted plan q count own) d p k = advances_same plan q count own d p k
-
 all_at : {X : Type 0} (P : X → Type 0) (xs : List X) (k : ℕ) (x : X) → All P xs → slice_get xs k ≡ Some x → P x
 all_at P [] k x all e = absurd cc
 all_at P (y ∷ ys) zero x all e = let same : y ≡ x = cc in subst P same (All-head P y ys all)
 all_at P (y ∷ ys) (suc k) x all e = all_at P ys k x (All-tail P y ys all) e
-
--- a day has one date
-earlier : (years more : ℕ) → years < more → days_before years + days_in (1900 + years) ≤ days_before more
-earlier years zero less = absurd (omega (arith, less))
-earlier years (suc more) less = by_order (earlier years more) (cases_order years more)
-  where
-    far : (a b c : ℕ) → a ≤ b → a ≤ b + c
-    far a b c e = omega (arith, e)
-
-    same : (n : ℕ) → n ≤ n
-    same n = omega arith
-
-    by_order : (years < more → days_before years + days_in (1900 + years) ≤ days_before more) → (years ≡ more) ⊎ ((years < more) ⊎ (more < years)) →
-        days_before years + days_in (1900 + years) ≤ days_before (suc more)
-    by_order later (inl is) =
-        subst (λ (n : ℕ). days_before years + days_in (1900 + years) ≤ days_before n + days_in (1900 + n)) is (same (days_before years + days_in (1900 + years)))
-    by_order later (inr (inl before)) = far (days_before years + days_in (1900 + years)) (days_before more) (days_in (1900 + more)) (later before)
-    by_order later (inr (inr behind)) = absurd (omega (arith, less, behind))
-
-not_later : (day before n days more m : ℕ) → day + 1 ≡ before + n → n ≤ days → before + days ≤ more → day + 1 ≡ more + m → 1 ≤ m → ⊥
-not_later day before n days more m e f g h k = omega (arith, e, f, g, h, k)
-
-one_year : (day y n z m : ℕ) → IsDate day y n → IsDate day z m → y ≡ z
-one_year day y n z m d e = by_order (cases_order y z)
-  where
-    by_order : (y ≡ z) ⊎ ((y < z) ⊎ (z < y)) → y ≡ z
-    by_order (inl same) = same
-    by_order (inr (inl less)) =
-        absurd (not_later day (days_before y) n (days_in (1900 + y)) (days_before z) m d.counts d.within.1 (earlier y z less) e.counts e.within.0)
-    by_order (inr (inr more)) =
-        absurd (not_later day (days_before z) m (days_in (1900 + z)) (days_before y) n e.counts e.within.1 (earlier z y more) d.counts d.within.0)
-
-one_day : (day before n m : ℕ) → day + 1 ≡ before + n → day + 1 ≡ before + m → n ≡ m
-one_day day before n m e f = omega (arith, e, f)
 
 module _ (w : World) (s : IsSound w) where
   selects_same : (a b : World) (place : ℕ) (x : Initiator) (l m : List Entry) → Selects (counted w) place x l a → Selects (counted w) place x m b → l ≡ m
@@ -224,15 +122,18 @@ module _ (w : World) (s : IsSound w) where
       e ∙ (λ i. entry.Writer class (jobs i) (its i) ∷ []) ∙ sym f
 
   -- a job waits, or one initiator has it
-  not_running : (job place : ℕ) (x : Initiator) (r : Running) → All (λ y. RunsNot y.running job) w.initiators → IsAt w place x → x.running ≡ Some r → r.job ≡ job → ⊥
-  not_running job place x r none at runs is = subst (λ (o : Option Running). RunsNot o job) runs (all_at (λ y. RunsNot y.running job) w.initiators place x none at) is
+  not_running : (job place : ℕ) (x : Initiator) (r : Running) → All (λ y. RunsNot y.running job) w.initiators → IsAt w place x → x.running ≡ Some r →
+      r.job ≡ job → ⊥
+  not_running job place x r none at runs is =
+      subst (λ (o : Option Running). RunsNot o job) runs (all_at (λ y. RunsNot y.running job) w.initiators place x none at) is
 
   not_waiting : (job place : ℕ) (x : Initiator) (r : Running) (v : Waiting) → Contains w.waiting v → v.job ≡ job → IsAt w place x → x.running ≡ Some r →
       r.job ≡ job → ⊥
   not_waiting job place x r v there is at runs same =
       All-contains (λ y. y.job ≢ r.job) w.waiting v (s.alone place r (record { it = x; at = at; running = runs })).not_waiting there (is ∙ sym same)
 
-  one_stage : (job place other : ℕ) (x y : Initiator) (r q : Running) → IsAt w place x → x.running ≡ Some r → r.job ≡ job → IsAt w other y → y.running ≡ Some q →
+  one_stage : (job place other : ℕ) (x y : Initiator) (r q : Running) → IsAt w place x → x.running ≡ Some r → r.job ≡ job → IsAt w other y →
+      y.running ≡ Some q →
       q.job ≡ job → is_admitted r.stage ≡ true → is_admitted q.stage ≡ false → ⊥
   one_stage job place other x y r q at runs is too runs_too so yet not_yet =
       let run : RunsAt w place r = record { it = x; at = at; running = runs } in
@@ -251,12 +152,14 @@ module _ (w : World) (s : IsSound w) where
   cancels_same a b job l m (cancels_waiting v free there is e n conserved) (no_job none f o) =
       absurd (All-contains (λ y. y.job ≢ job) w.waiting v none.waits_not there is)
   cancels_same a b job l m (cancels_waiting v free there is e n conserved) (cancels_waiting u free_too there_too so f o conserved_too) = e ∙ sym f
-  cancels_same a b job l m (cancels_waiting v free there is e n conserved) (cancels_selected place x r free_too at runs so not_yet f o conserved_too) = e ∙ sym f
+  cancels_same a b job l m (cancels_waiting v free there is e n conserved) (cancels_selected place x r free_too at runs so not_yet f o conserved_too) =
+      e ∙ sym f
   cancels_same a b job l m (cancels_waiting v free there is e n conserved) (cancels_admitted place x r at runs so yet f o) =
       absurd (not_waiting job place x r v there is at runs so)
   cancels_same a b job l m (cancels_selected place x r free at runs is not_yet e n conserved) (no_job none f o) =
       absurd (not_running job place x r none.runs_not at runs is)
-  cancels_same a b job l m (cancels_selected place x r free at runs is not_yet e n conserved) (cancels_waiting v free_too there so f o conserved_too) = e ∙ sym f
+  cancels_same a b job l m (cancels_selected place x r free at runs is not_yet e n conserved) (cancels_waiting v free_too there so f o conserved_too) =
+      e ∙ sym f
   cancels_same a b job l m (cancels_selected place x r free at runs is not_yet e n conserved)
       (cancels_selected other y q free_too too runs_too so not_yet_too f o conserved_too) = e ∙ sym f
   cancels_same a b job l m (cancels_selected place x r free at runs is not_yet e n conserved) (cancels_admitted other y q too runs_too so yet f o) =

@@ -66,7 +66,8 @@ may_make_alike names fixed (a ∷ actions) s t own p part fits (answers, fair, m
       answers,
       fair,
       by_place alike
-          (λ left later. may_make_alike names fixed actions (act fixed a (with_answers s own answers)).state.store (act fixed a (with_answers t own answers)).state.store
+          (λ left later. may_make_alike names fixed actions (act fixed a (with_answers s own answers)).state.store
+          (act fixed a (with_answers t own answers)).state.store
           (act fixed a (with_answers s own answers)).state.own p alike.state.part left later)
           (act_fits names fixed a actions (with_answers s own answers) fits) m,
     )
@@ -127,11 +128,13 @@ module _ (answers : Action → Own → Answers) (fixed : Fixed) (whole : List Ac
       (led rest (acted answers fixed a s).state (suc count) x (drop_next count whole rest a left) o.1))
 
 -- what a turn made is not made again
-pub not_again : (fixed : Fixed) (whole actions : List Action) (s : State) (x : Advanced) → Led fixed whole actions s x → (store : Store) (own : Own) (p q : Place) →
+pub not_again : (fixed : Fixed) (whole actions : List Action) (s : State) (x : Advanced) → Led fixed whole actions s x →
+    (store : Store) (own : Own) (p q : Place) →
     MayMake fixed (drop x.count whole) store own p → Contains x.done.made q → p.step ≡ q.step → p.dd ≡ q.dd → ⊥
 not_again fixed whole actions s x l store own p q m h e f =
     let t : IsTakeOf x.action q = made_by_take fixed x.action x.before q (subst (λ (d : Done). Contains d.made q) l.does h) in
-    apart ((may_take (AtLeast q.step (q.dd + 1)) fixed (drop x.count whole) store own p (subst (λ (a : Action). IsAhead a (drop x.count whole)) t.is l.ahead) m).1)
+    apart ((may_take (AtLeast q.step (q.dd + 1)) fixed (drop x.count whole) store own p
+    (subst (λ (a : Action). IsAhead a (drop x.count whole)) t.is l.ahead) m).1)
   where
     apart : (q.step < p.step) ⊎ ((q.step ≡ p.step) × (q.dd + 1 ≤ p.dd)) → ⊥
     apart (inl less) = omega (arith, e, less)

@@ -110,7 +110,8 @@ step_ordered n step moves rest o =
     (finish_ordered (n + 1) 1 n (disposes_from n 1 step.dds ++ rest) (disposes_ordered (n + 1) 1 n 1 step.dds rest o))) in
     subst (From n 1) (sym (in_a_row n step moves rest)) (
       (tt, inner.0),
-      All-cons (AtLeast n 1) (Start n step) (takes_from n 1 step.dds ++ (moves_from step moves ++ (Finish n ∷ (disposes_from n 1 step.dds ++ rest)))) tt inner.1,
+      All-cons (AtLeast n 1) (Start n step) (takes_from n 1 step.dds ++ (moves_from step moves ++ (Finish n ∷ (disposes_from n 1 step.dds ++ rest)))) tt
+          inner.1,
     )
 
 steps_ordered : (moves : List ℕ → List Move) (n : ℕ) (steps : List StepPlan) (rest : List Action) → ((m : ℕ) → From m 1 rest) →

@@ -169,7 +169,8 @@ founded_ample fixed plan store job p (k ∷ kept) all e =
         and_from (is_kept_for job p k) (nat_le (primary_asked (kind_at plan.steps p.step p.dd)) k.tracks) is
         (le-leb (primary_asked (kind_at plan.steps p.step p.dd)) k.tracks (omega (arith, asked)))
 
-    by_place : (is_kept_for job p k ≡ true) ⊎ (list_any (is_kept_for job p) kept ≡ true) → (list_any (is_kept_for job p) kept ≡ true → HasTracks kept plan job p) →
+    by_place : (is_kept_for job p k ≡ true) ⊎ (list_any (is_kept_for job p) kept ≡ true) →
+        (list_any (is_kept_for job p) kept ≡ true → HasTracks kept plan job p) →
         HasTracks (k ∷ kept) plan job p
     by_place (inl here) more =
         or_left (is_ample plan job p k) (list_any (is_ample plan job p) kept) (enough here (All-head (IsFounded fixed plan store job) k kept all))

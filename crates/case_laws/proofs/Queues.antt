@@ -24,8 +24,10 @@ alone : (class : ℕ) (x : Waiting) (xs : List Waiting) → x.class ≡ class �
 alone class x xs e none = record {
   contained = it_is_there x xs;
   of_class = e;
-  highest = All-cons (NotAbove class x) x xs (λ h. omega arith) (All-weaker (λ y. y.class ≢ class) (NotAbove class x) (λ y isnt is_so. absurd (isnt is_so)) xs none);
-  earliest = All-cons (NotBefore class x) x xs (λ h k. omega arith) (All-weaker (λ y. y.class ≢ class) (NotBefore class x) (λ y isnt is_so. absurd (isnt is_so)) xs none);
+  highest = All-cons (NotAbove class x) x xs (λ h. omega arith) (All-weaker (λ y. y.class ≢ class) (NotAbove class x)
+      (λ y isnt is_so. absurd (isnt is_so)) xs none);
+  earliest = All-cons (NotBefore class x) x xs (λ h k. omega arith) (All-weaker (λ y. y.class ≢ class) (NotBefore class x)
+      (λ y isnt is_so. absurd (isnt is_so)) xs none);
 }
 
 -- a job that stands before the others, and the best of them
@@ -58,7 +60,8 @@ goes_before class x xs w b e same less = record {
       (All-weaker (NotBefore class w) (NotBefore class x) (λ y h k l. let behind : w.job ≤ y.job = h k (l ∙ same) in omega arith) xs b.earliest);
 }
 
-by_job : (class : ℕ) (x : Waiting) (xs : List Waiting) (w : Waiting) → IsFirst xs class w → x.class ≡ class → x.priority ≡ w.priority → (x.job < w.job) ⊎ (w.job ≤ x.job) →
+by_job : (class : ℕ) (x : Waiting) (xs : List Waiting) (w : Waiting) → IsFirst xs class w → x.class ≡ class → x.priority ≡ w.priority →
+    (x.job < w.job) ⊎ (w.job ≤ x.job) →
     Best (x ∷ xs) class
 by_job class x xs w b e same (inl less) = (x, goes_before class x xs w b e same (omega arith))
 by_job class x xs w b e same (inr more) = (w, stays class x xs w b (λ h. omega arith) (λ h k. more))
@@ -69,7 +72,8 @@ by_priority class x xs w b e (inl same) = by_job class x xs w b e same (cases_lt
 by_priority class x xs w b e (inr (inl less)) = (w, stays class x xs w b (λ h. omega arith) (λ h k. absurd (omega arith)))
 by_priority class x xs w b e (inr (inr more)) = (x, beats class x xs w b e more)
 
-by_class : (class : ℕ) (x : Waiting) (xs : List Waiting) → (x.class ≡ class) ⊎ (x.class ≡ class → ⊥) → HasNone xs class ⊎ Best xs class → HasNone (x ∷ xs) class ⊎ Best (x ∷ xs) class
+by_class : (class : ℕ) (x : Waiting) (xs : List Waiting) → (x.class ≡ class) ⊎ (x.class ≡ class → ⊥) → HasNone xs class ⊎ Best xs class →
+    HasNone (x ∷ xs) class ⊎ Best (x ∷ xs) class
 by_class class x xs (inl e) (inl none) = inr (x, alone class x xs e none)
 by_class class x xs (inl e) (inr (w, b)) = inr (by_priority class x xs w b e (cases_order x.priority w.priority))
 by_class class x xs (inr isnt) (inl none) = inl (All-cons (λ y. y.class ≢ class) x xs isnt none)

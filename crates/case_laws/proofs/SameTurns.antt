@@ -125,7 +125,8 @@ module _ (c : Config) (old : Shared) (job : ℕ) (plan : JobPlan) (a : Admission
       same_next c.programs plan.steps a.fixed (has_cancel old.cancels job) growth primary (drop count (agenda plan c.programs)) (seen job old.store) own
       (state_in (seen job old.store) own).answers (state_in (seen job old.store) own).answers count x y e f asks
 
-  pub turn_same : ((z : Advanced) → advanced c old job plan a count own true true ≡ Some z → AsksNothing z) → (growth primary other another : Bool) (x y : Advanced) →
+  pub turn_same : ((z : Advanced) → advanced c old job plan a count own true true ≡ Some z → AsksNothing z) →
+      (growth primary other another : Bool) (x y : Advanced) →
       advanced c old job plan a count own growth primary ≡ Some x → advanced c old job plan a count own other another ≡ Some y → IsSameTurn x y
   turn_same asks growth primary other another x y e f =
       let z = turn_told (answers_due c.programs plan.steps (granting old job true true)) a.fixed (drop count (agenda plan c.programs))

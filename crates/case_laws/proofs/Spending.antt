@@ -67,8 +67,10 @@ module _ (old : Shared) (job : ℕ) where
     once = touched_once job g.touched;
     others = λ k v out. put_others job old.store t g.touched g.others k v out;
     fits = λ v. no_more (kept_on kept v) (used_by (put_back job old.store t) v (touched_by job g.touched)) (kept_on old.kept v)
-        (used_by old.store v (touched_by job g.touched)) (along (kept_on kept v) (kept_on (kept_unless_made old.kept job made) v) (kept_on old.kept v) (few v) (sum_filter _ _ old.kept))
-        (sum_gains (λ k. tracks_of (written_set job old.store t k v)) (λ k. tracks_of (old.store.set k v)) None 0 (touched_by job g.touched) (touched_once job g.touched)
+        (used_by old.store v (touched_by job g.touched)) (along (kept_on kept v) (kept_on (kept_unless_made old.kept job made) v) (kept_on old.kept v)
+        (few v) (sum_filter _ _ old.kept))
+        (sum_gains (λ k. tracks_of (written_set job old.store t k v)) (λ k. tracks_of (old.store.set k v)) None 0 (touched_by job g.touched)
+        (touched_once job g.touched)
         (put_gains job old.store t None 0 v (λ j k is. as_before (tracks_of (t.set j v)) (tracks_of (seen_set job old.store j v)) (g.less j v))));
   }
     where
@@ -96,17 +98,20 @@ module _ (old : Shared) (job : ℕ) where
       once = touched_once job (key ∷ g.touched);
       others = λ k v out. put_others job old.store t (key ∷ g.touched) elsewhere k v out;
       fits = λ v. as_many (kept_on kept v) (kept_on (kept_unless_made old.kept job (p ∷ [])) v) (cond (bytes_eq v serial) new.tracks 0)
-          (used_by (put_back job old.store t) v (touched_by job (key ∷ g.touched))) (kept_on old.kept v) (used_by old.store v (touched_by job (key ∷ g.touched))) (few v)
+          (used_by (put_back job old.store t) v (touched_by job (key ∷ g.touched))) (kept_on old.kept v)
+          (used_by old.store v (touched_by job (key ∷ g.touched))) (few v)
           (subst (λ (x : List ℕ). kept_on (kept_unless_made old.kept job (p ∷ [])) v + cond (bytes_eq v x) new.tracks 0 ≤ kept_on old.kept v) there
           (subst (λ (n : ℕ). kept_on (kept_unless_made old.kept job (p ∷ [])) v + cond (bytes_eq v p.serial) n 0 ≤ kept_on old.kept v) asked
           (made_fits plan job p v old.kept has)))
-          (sum_gains (λ k. tracks_of (written_set job old.store t k v)) (λ k. tracks_of (old.store.set k v)) (world_key job key) (cond (bytes_eq v serial) new.tracks 0)
+          (sum_gains (λ k. tracks_of (written_set job old.store t k v)) (λ k. tracks_of (old.store.set k v)) (world_key job key)
+          (cond (bytes_eq v serial) new.tracks 0)
           (touched_by job (key ∷ g.touched)) (touched_once job (key ∷ g.touched))
           (put_gains job old.store t (world_key job key) (cond (bytes_eq v serial) new.tracks 0) v
           (made_gains job b key serial new (λ j x. tracks_of (seen_set job old.store j x)) g.less v)));
     }
 
-  module _ (plan : JobPlan) (fixed : Fixed) (a : Action) (s : State) (d : Done) (g : GainsNone (seen job old.store) s.store) (refused : head_or true s.answers.grants ≡ false) (known : IsKnown plan.steps a)
+  module _ (plan : JobPlan) (fixed : Fixed) (a : Action) (s : State) (d : Done) (g : GainsNone (seen job old.store) s.store)
+      (refused : head_or true s.answers.grants ≡ false) (known : IsKnown plan.steps a)
       (has : (p : Place) → (m : MakesSet fixed a s d) → d.made ≡ p ∷ [] → HasTracks old.kept plan job p) (kept : List Kept)
       (few : (v : List ℕ) → kept_on kept v ≤ kept_on (kept_unless_made old.kept job d.made) v) where
     pub spent : Gains fixed a s d → Spent old (put_back job old.store d.state.store) kept

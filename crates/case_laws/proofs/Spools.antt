@@ -28,7 +28,8 @@ at : {X : Type 0} (P : X → Type 0) (before after : List X) (x : X) → All P (
 at P [] after x all = All-head P x after all
 at P (y ∷ ys) after x all = at P ys after x (All-tail P y (ys ++ x ∷ after) all)
 
-with_lines : (spool : List SpoolSet) (class : ℕ) (f : First (Other class) (Of class) spool) (lines : List Written) → f.it.lines ≡ lines → lines ≢ [] → Given spool class
+with_lines : (spool : List SpoolSet) (class : ℕ) (f : First (Other class) (Of class) spool) (lines : List Written) → f.it.lines ≡ lines → lines ≢ [] →
+    Given spool class
 with_lines spool class f [] e some = absurd (some refl)
 with_lines spool class f (line ∷ lines) e some = record {
   job = f.it.job;
@@ -48,7 +49,8 @@ with_lines spool class f (line ∷ lines) e some = record {
   };
 }
 
-by_first : (spool : List SpoolSet) (class : ℕ) → All (λ set. set.lines ≢ []) spool → (All (Other class) spool) ⊎ First (Other class) (Of class) spool → HasNoSet spool class ⊎ Given spool class
+by_first : (spool : List SpoolSet) (class : ℕ) → All (λ set. set.lines ≢ []) spool → (All (Other class) spool) ⊎ First (Other class) (Of class) spool →
+    HasNoSet spool class ⊎ Given spool class
 by_first spool class some (inl none) = inl none
 by_first spool class some (inr f) =
     inr (with_lines spool class f f.it.lines refl (at (λ set. set.lines ≢ []) f.before f.after f.it (subst (All (λ set. set.lines ≢ [])) f.stands some)))
@@ -60,14 +62,20 @@ pub not_both : (spool : List SpoolSet) (class job : ℕ) (line : Written) (left 
 not_both spool class job line left none t =
     none_and_one (Other class) (Of class) (λ set isnt is_so. isnt is_so) t.before t.after t.set (subst (All (Other class)) t.stands none) t.of_class
 
-same_set : (spool : List SpoolSet) (class i j : ℕ) (line other : Written) (left rest : List SpoolSet) → (t : Takes spool class i line left) (u : Takes spool class j other rest) → t.set ≡ u.set
+same_set : (spool : List SpoolSet) (class i j : ℕ) (line other : Written) (left rest : List SpoolSet) →
+    (t : Takes spool class i line left) (u : Takes spool class j other rest) → t.set ≡ u.set
 same_set spool class i j line other left rest t u =
-    same_first (Other class) (Of class) (λ set isnt is_so. isnt is_so) t.before u.before t.after u.after t.set u.set (sym t.stands ∙ u.stands) t.none_before u.none_before t.of_class u.of_class
+    same_first (Other class) (Of class) (λ set isnt is_so. isnt is_so) t.before u.before t.after u.after t.set u.set (sym t.stands ∙ u.stands)
+    t.none_before u.none_before t.of_class u.of_class
 
-pub same_taken_job : (spool : List SpoolSet) (class i j : ℕ) (line other : Written) (left rest : List SpoolSet) → Takes spool class i line left → Takes spool class j other rest → i ≡ j
-same_taken_job spool class i j line other left rest t u = sym t.of_job ∙ ap (λ (set : SpoolSet). set.job) (same_set spool class i j line other left rest t u) ∙ u.of_job
+pub same_taken_job : (spool : List SpoolSet) (class i j : ℕ) (line other : Written) (left rest : List SpoolSet) → Takes spool class i line left →
+    Takes spool class j other rest → i ≡ j
+same_taken_job spool class i j line other left rest t u =
+    sym t.of_job ∙ ap (λ (set : SpoolSet). set.job) (same_set spool class i j line other left rest t u) ∙ u.of_job
 
-pub same_line : (spool : List SpoolSet) (class i j : ℕ) (line other : Written) (left rest : List SpoolSet) → Takes spool class i line left → Takes spool class j other rest → line ≡ other
+pub same_line : (spool : List SpoolSet) (class i j : ℕ) (line other : Written) (left rest : List SpoolSet) → Takes spool class i line left →
+    Takes spool class j other rest → line ≡ other
 same_line spool class i j line other left rest t u =
-    let heads : line ∷ t.lines ≡ other ∷ u.lines = sym t.is_first ∙ ap (λ (set : SpoolSet). set.lines) (same_set spool class i j line other left rest t u) ∙ u.is_first in
+    let heads : line ∷ t.lines ≡ other ∷ u.lines = sym t.is_first ∙ ap (λ (set : SpoolSet). set.lines) (same_set spool class i j line other left rest t u)
+    ∙ u.is_first in
     cc

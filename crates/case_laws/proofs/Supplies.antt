@@ -96,7 +96,8 @@ part_supply c x y job plan a count own fits part kept can = (
       (part_back (names_of plan) (seen job x.store) (seen job y.store) part) fits m)),
 )
 
-module _ (job_of : Denoting) (old new : World) (e : Event) (lines : List Entry) (s : IsSound old) (h : IsSupplied old) (t : Transition job_of old e lines new) where
+module _ (job_of : Denoting) (old new : World) (e : Event) (lines : List Entry) (s : IsSound old) (h : IsSupplied old)
+    (t : Transition job_of old e lines new) where
   fits_there : (place : ℕ) (r : Running) → RunsAt old place r → FitsAt old.config r.stage
   fits_there place r run = subst (RunsFit old.config) run.running (s.fits place run.it run.at)
 

@@ -60,7 +60,13 @@ module _ (answers : Action → Own → Answers) (fixed : Fixed) where
           (list_any is_last actions ≡ true →
           (x : Advanced) × (advance answers fixed actions (act fixed a (record s { answers = answers a s.own })).state (suc count) ≡ Some x)) →
           (x : Advanced) × (unless_silent lines
-          (record { action = a; before = record s { answers = answers a s.own }; done = act fixed a (record s { answers = answers a s.own }); count = suc count })
+          (record {
+            action = a;
+            before = record s { answers = answers a s.own };
+            done = act fixed a (record s { answers = answers a s.own });
+            count = suc
+                count;
+          })
           (advance answers fixed actions (act fixed a (record s { answers = answers a s.own })).state (suc count)) ≡ Some x)
       by_lines (l ∷ ls) told more = (_, refl)
       by_lines [] told more =

@@ -27,7 +27,8 @@ WentOn c old r stage = (lines : List JobLine) × (new : Shared) × (runs : Optio
 
 module _ (c : Config) (old : Shared) (r : Running) where
   by_names : (plan : JobPlan) →
-      (All (λ want. is_blocked old.holds want ≡ false) (wants_of plan)) ⊎ ((by : Blocked) × IsFirstBlock old.holds (wants_of plan) by) → WentOn c old r (Wanting plan)
+      (All (λ want. is_blocked old.holds want ≡ false) (wants_of plan)) ⊎ ((by : Blocked) × IsFirstBlock old.holds (wants_of plan) by) →
+      WentOn c old r (Wanting plan)
   by_names plan (inl free) = (_, _, _, held free refl refl refl)
   by_names plan (inr (by, b)) = (_, _, _, blocked by b refl refl refl)
 
@@ -57,7 +58,8 @@ module _ (c : Config) (old : Shared) (r : Running) where
           places = p.0;
           placed = p.1;
           answers = assured [] old.free (is_safe (fixed_at c old r.job plan p.0) plan (seen r.job old.store) h)
-              (none_kept (fixed_at c old r.job plan p.0) plan (seen r.job old.store) r.job h) refl refl (conserved_same old _ refl refl (append-nil old.kept)) refl;
+              (none_kept (fixed_at c old r.job plan p.0) plan (seen r.job old.store) r.job h) refl refl
+              (conserved_same old _ refl refl (append-nil old.kept)) refl;
         },
       )
 

@@ -95,7 +95,8 @@ abbrev pub StartsSupplied : Type 0
 StartsSupplied = (w : World) → IsStart w → IsSupplied w
 
 abbrev pub SuppliesAreKept : Type 0
-SuppliesAreKept = (job_of : Denoting) (old new : World) (e : Event) (lines : List Entry) → IsSound old → IsSupplied old → Transition job_of old e lines new → IsSupplied new
+SuppliesAreKept =
+    (job_of : Denoting) (old new : World) (e : Event) (lines : List Entry) → IsSound old → IsSupplied old → Transition job_of old e lines new → IsSupplied new
 
 -- So whatever the events so far, the next one has a case.
 abbrev pub NextEventHasACase : Type 0
