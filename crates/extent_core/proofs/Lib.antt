@@ -1,0 +1,10 @@
+pub mod Changes
+pub mod CompareLemmas
+pub mod Covering
+pub mod Finding
+pub mod LawLemmas
+pub mod ListChanges
+pub mod Listing
+pub mod Marking
+pub mod MaximaLemmas
+pub mod Tracks

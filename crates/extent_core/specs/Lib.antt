@@ -1,0 +1,4 @@
+pub mod ExtentLaws
+pub mod Extents
+pub mod Maxima
+pub mod Sizes
