@@ -1,25 +1,15 @@
 //! The records of a set in order.
 ghost use Rattle.std.specs.Prelude.{◌≡◌, ◌≤◌, ◌*◌, ◌∷◌, ◌++◌, [], OnOk, OnErr, IsTrue, ◌↔◌, length, slice_get};
 ghost use Rattle.std.specs.Option.{option_copied};
-ghost use Rattle.vtoc_core.specs.Extents.{tracks_in};
 ghost use Rattle.jcl_plan.specs.declared.plan.TheConstants.{RECORDS_A_TRACK};
 ghost use Rattle.jcl_plan.specs.Tracks.{tracks_for};
 
 use jcl_plan::plan::RECORDS_A_TRACK;
 use std::alloc::{AllocError, Global};
 use std::marker::Model;
-use vtoc_core::entry::{Extent, SetEntry};
 
 /// A record: 80 columns.
 pub type DataRecord = [u8; 80];
-
-/// How many tracks these extents have.
-fn tracks_of(extents: &[Extent]) -> usize
-    requires { length extents.now ≤ 16 }
-    ensures { result ≡ tracks_in extents.now }
-{
-    extents.iter().map(|e| usize::from(e.tracks)).sum()
-}
 
 /// The records of a set.
 #[derive(Debug, Drop)]
@@ -57,10 +47,11 @@ impl Records {
         self.records.clear();
     }
 
-    /// Puts a record in place of all. An `Err` changes nothing.
+    /// Puts a record in place of all. An `Err` changes nothing, and comes only where there was no record.
     pub fn write_first(&mut self, columns: DataRecord) -> Result<(), AllocError>
         ensures ok { OnOk result (self.new ≡ columns ∷ []) }
         ensures err { OnErr result (self.new ≡ self.old) }
+        ensures memory { OnErr result (self.old ≡ []) }
     {
         if self.records.is_empty() {
             return self.append(columns);
@@ -93,10 +84,10 @@ impl Records {
         self.len().div_ceil(RECORDS_A_TRACK)
     }
 
-    /// Whether no further record fits on the set's tracks.
-    pub fn fills(&self, entry: &SetEntry) -> bool
-        ensures { IsTrue result ↔ (RECORDS_A_TRACK * tracks_in entry.now.extents.items ≤ length self.now) }
+    /// Whether no further record fits on so many tracks.
+    pub fn fills(&self, tracks: usize) -> bool
+        ensures { IsTrue result ↔ (RECORDS_A_TRACK * tracks ≤ length self.now) }
     {
-        tracks_of(entry.extents.as_slice()) <= self.len() / RECORDS_A_TRACK
+        tracks <= self.len() / RECORDS_A_TRACK
     }
 }

@@ -2,14 +2,6 @@
 use crate::records::{DataRecord, Records};
 use std::alloc::Global;
 use std::process::Abort;
-use vtoc_core::entry::{Extent, SetKey};
-use vtoc_core::volume::Volume;
-
-const KEY: SetKey = SetKey::Unnamed {
-    job: 1,
-    step: 1,
-    dd: 1,
-};
 
 fn columns(byte: u8) -> DataRecord {
     [byte; 80]
@@ -33,7 +25,7 @@ fn counts_tracks(rt: HostRuntime) {
 
 #[test]
 fn is_full(rt: HostRuntime) {
-    let all: [(u16, u16, bool); 6] = [
+    let all: [(usize, u16, bool); 6] = [
         (0, 0, true),
         (1, 31, false),
         (1, 32, true),
@@ -42,21 +34,8 @@ fn is_full(rt: HostRuntime) {
         (3, 97, true),
     ];
     for (tracks, count, want) in all {
-        let mut volume = Volume::new(
-            rt.alloc(),
-            5,
-            &[Extent {
-                start: 1,
-                tracks: 1,
-            }],
-        )
-        .expect(&rt, "memory");
-        assert_eq!(rt; volume.make_set(KEY, tracks, None), Ok(()));
         let records = with(&rt, rt.alloc(), count);
-        match volume.find(&KEY) {
-            Some(set) => assert_eq!(rt; records.fills(set), want, "{count} on {tracks}"),
-            None => panic!(rt; "no set"),
-        }
+        assert_eq!(rt; records.fills(tracks), want, "{count} on {tracks}");
     }
 }
 

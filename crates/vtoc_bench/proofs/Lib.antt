@@ -1,1 +1,2 @@
+mod MadeBack
 mod MarkedBack

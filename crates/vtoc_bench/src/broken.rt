@@ -1,5 +1,6 @@
 //! A volume whose free tracks all lie apart.
-ghost use Rattle.std.specs.Prelude.{◌≡◌, ◌*◌, ◌≤◌, [], IfOk};
+ghost use Rattle.std.specs.Prelude.{◌≡◌, ◌*◌, ◌≤◌, IfOk};
+ghost use Rattle.std.specs.FinMap as map;
 ghost use Rattle.vtoc_core.specs.Volumes.{first_tracks};
 ghost use Rattle.vtoc_bench.specs.Broken.{odd_extents};
 
@@ -29,7 +30,7 @@ fn odd_extents(alloc: Global, extents: u16) -> Result<Vec<Extent>, AllocError>
 /// A volume of so many free tracks, with a track that is never free behind each.
 pub fn broken_volume(alloc: Global, extents: u16) -> Result<Volume, AllocError>
     requires { extents ≤ 2000 }
-    ensures { IfOk result (λ v. v ≡ record { tracks = first_tracks (2 * extents) (odd_extents extents); sets = [] }) }
+    ensures { IfOk result (λ v. v ≡ record { tracks = first_tracks (2 * extents) (odd_extents extents); sets = map.empty }) }
 {
     let unusable = odd_extents(alloc, extents)?;
     Volume::new(alloc, 2 * extents, unusable.as_slice())

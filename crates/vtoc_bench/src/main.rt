@@ -1,17 +1,28 @@
-//! How fast a volume grants and refuses reservations where its free tracks all lie apart. Without an argument a hundred rounds are
-//! made and only what came of them is printed; with a number of rounds, also the time of each round.
+//! How fast a volume grants and refuses reservations where its free tracks all lie apart, and how fast sets are made and scratched, and
+//! tracks counted, where it has many sets. Without an argument a hundred rounds are made and only what came of them is printed; with a
+//! number of rounds, also the time of each; a second number is that of the sets.
 #![tactic(auto)]
+
+ghost use Rattle.std.specs.Prelude.{◌≤◌, IfOk};
 
 mod broken;
 mod rounds;
+mod sets;
 
 use crate::broken::{EXTENTS, broken_volume};
 use crate::rounds::timed_rounds;
+use crate::sets::{MOST_SETS, SETS, timed_counts, timed_remakes, timed_sets};
 use anyhow::{Context, Result, ensure};
+use jname_core::ds_name::read_base;
 use std::env::{self, Env};
+use std::io::Write;
+use std::rt::Clock;
 use vtoc_core::volume::Volume;
 
 const USUAL_ROUNDS: u32 = 100;
+
+/// The tracks of the volume that has many sets: the most that there may be.
+const TRACKS: u16 = 4000;
 
 /// The number of rounds that the command line asks for, from 1 on.
 fn asked_rounds(rt: &(impl Env + AllocGlobal)) -> Result<Option<u32>> {
@@ -26,22 +37,100 @@ fn asked_rounds(rt: &(impl Env + AllocGlobal)) -> Result<Option<u32>> {
     Ok(Some(rounds))
 }
 
-fn main(rt: HostRuntime) -> Result<()> {
-    let asked = asked_rounds(&rt)?;
-    let rounds = asked.unwrap_or(USUAL_ROUNDS);
+/// The number of sets that the command line asks for, or the usual one.
+fn asked_sets(rt: &(impl Env + AllocGlobal)) -> Result<u16>
+    ensures { IfOk result (λ sets. sets ≤ 9998) }
+{
+    let Some(word) = env::args(rt)?.nth(2) else {
+        return Ok(SETS);
+    };
+    let sets = word
+        .as_str()
+        .parse::<u16>()
+        .context(format_args!("reading the number of sets, {word:?}"))?;
+    ensure!(sets <= MOST_SETS, "more than {MOST_SETS} sets");
+    Ok(sets)
+}
+
+/// Measures reservations on a broken-up volume.
+fn measure_reservations(
+    rt: &(impl Clock + AllocGlobal),
+    out: &mut impl Write,
+    rounds: u32,
+    is_timed: bool,
+) -> Result<()> {
     let mut volume = broken_volume(rt.alloc(), EXTENTS)?;
-    println!(rt; "{} tracks free", volume.free_tracks())?;
+    writeln!(out, "{} tracks free", volume.free_tracks())?;
     for tracks in [5, 6] {
-        let made = timed_rounds(&rt, &mut volume, tracks, rounds)?;
-        println!(rt;
+        let made = timed_rounds(rt, &mut volume, tracks, rounds)?;
+        writeln!(
+            out,
             "{tracks} tracks: {} reserved and given back, {} refused",
             made.granted,
             made.refused()
         )?;
-        if asked.is_some() {
-            println!(rt; "{tracks} tracks: {} ns a round", made.nanoseconds_each())?;
+        if is_timed {
+            writeln!(
+                out,
+                "{tracks} tracks: {} ns a round",
+                made.nanoseconds_each()
+            )?;
         }
     }
-    println!(rt; "{} tracks free", volume.free_tracks())?;
+    writeln!(out, "{} tracks free", volume.free_tracks())?;
     Ok(())
+}
+
+/// Measures sets of no tracks on a whole volume.
+fn measure_sets(
+    rt: &(impl Clock + AllocGlobal),
+    out: &mut impl Write,
+    sets: u16,
+    rounds: u32,
+    is_timed: bool,
+) -> Result<()>
+    requires { sets ≤ 9998 }
+{
+    let first = read_base(b"MEASURE.OF.SETS.WITH.LONG.NAMES.A")?;
+    let second = read_base(b"MEASURE.OF.SETS.WITH.LONG.NAMES.B")?;
+    let mut volume = Volume::new(rt.alloc(), TRACKS, &[])?;
+    let made = timed_sets(rt, &mut volume, rt.alloc(), &first, &second, sets)?;
+    writeln!(
+        out,
+        "{} sets made, {} refused",
+        made.granted,
+        made.refused()
+    )?;
+    let remade = timed_remakes(rt, &mut volume, rt.alloc(), &first, sets / 2, rounds)?;
+    writeln!(
+        out,
+        "{} more made and scratched, {} refused",
+        remade.granted,
+        remade.refused()
+    )?;
+    let counted = timed_counts(rt, &mut volume, rounds)?;
+    writeln!(out, "counted {} times with free tracks", counted.granted)?;
+    if is_timed {
+        writeln!(out, "{sets} sets: {} ns for all", made.elapsed.as_nanos())?;
+        writeln!(
+            out,
+            "{sets} sets: {} ns to make and scratch one more",
+            remade.nanoseconds_each()
+        )?;
+        writeln!(
+            out,
+            "{sets} sets: {} ns to reserve no track, give it back and count tracks",
+            counted.nanoseconds_each()
+        )?;
+    }
+    Ok(())
+}
+
+fn main(rt: HostRuntime) -> Result<()> {
+    let asked = asked_rounds(&rt)?;
+    let sets = asked_sets(&rt)?;
+    let rounds = asked.unwrap_or(USUAL_ROUNDS);
+    let mut out = rt.stdout();
+    measure_reservations(&rt, &mut out, rounds, asked.is_some())?;
+    measure_sets(&rt, &mut out, sets, rounds, asked.is_some())
 }

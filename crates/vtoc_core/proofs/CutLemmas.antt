@@ -1,11 +1,12 @@
 -- A set's extents parted behind so many tracks, one extent after another.
-use Rattle.std.proofs.Common.{true, ◌≡◌, ◌≢◌, ℕ, suc, zero, ◌+◌, ◌-◌, ◌<◌, ◌≤◌, cond, List, [], ◌∷◌, ◌++◌, length, get_or, refl, ap, sym, ◌∙◌, arith, ⊎_elim, inl, inr, nat_eq, nat_le, append_assoc}
+use Rattle.std.proofs.Common.{true, ◌≡◌, ◌≢◌, ℕ, suc, zero, ◌+◌, ◌-◌, ◌<◌, ◌≤◌, min, cond, List, [], ◌∷◌, ◌++◌, length, get_or, refl, ap, sym, ◌∙◌, arith, ⊎_elim, inl, inr, nat_eq, nat_le, append_assoc}
 use Rattle.std.proofs.lemmas.Bool.{cases_eq, cases_lt, cond_both, eq-eqb, ne_eqb, le-leb, lt-leb}
 use Rattle.vtoc_core.specs.declared.entry.Extent.{Extent}
-use Rattle.vtoc_core.specs.Extents.{extent, kept_front, past_front}
-use Rattle.vtoc_core.specs.Volumes.{is_in, times_in}
+use Rattle.vtoc_core.specs.Extents.{extent, kept_front, past_front, tracks_in}
+use Rattle.vtoc_core.specs.Volumes.{is_in, times_in, tracks_past}
 use Rattle.vtoc_core.proofs.MarkLemmas.{is_in_within, is_in_before, is_in_behind}
 use Rattle.vtoc_core.proofs.FreeLemmas.{times_in-cons}
+use Rattle.vtoc_core.proofs.PlanLemmas.{tracks_in-cons}
 
 kept_none : (n : ℕ) (es : List Extent) → n ≡ 0 → kept_front n es ≡ []
 kept_none n [] h = refl
@@ -101,3 +102,23 @@ kept_few n (e ∷ es) =
     (λ z. omega arith)
     (λ z. cond_both (nat_le e.tracks n) (e ∷ kept_front (n - e.tracks) es) (extent e.start n ∷ []) (λ fs. length fs ≤ suc (length es))
     (λ l. let i = kept_few (n - e.tracks) es in omega arith) (λ l. omega arith))
+
+-- how many tracks are past so many
+pub tracks_in_parts : (n : ℕ) (es : List Extent) → tracks_in (past_front n es) + min n (tracks_in es) ≡ tracks_in es
+tracks_in_parts n [] = omega arith
+tracks_in_parts n (e ∷ es) =
+    let t : tracks_in (e ∷ es) ≡ e.tracks + tracks_in es = tracks_in-cons e es in
+    ⊎_elim
+    (λ (z : n ≡ 0). rw (past_none n (e ∷ es) z) (omega arith))
+    (λ (z : n ≢ 0).
+    ⊎_elim
+    (λ (l : e.tracks ≤ n). rw (back_whole es e n z l)
+    (let i : tracks_in (past_front (n - e.tracks) es) + min (n - e.tracks) (tracks_in es) ≡ tracks_in es = tracks_in_parts (n - e.tracks) es in omega arith))
+    (λ (l : n < e.tracks). rw (back_part es e n z l)
+    (let u : tracks_in (extent (e.start + n) (e.tracks - n) ∷ es) ≡ e.tracks - n + tracks_in es = tracks_in-cons (extent (e.start + n) (e.tracks - n)) es in
+    omega arith))
+    (⊎_elim (λ (l : n < e.tracks). inr l) (λ (l : e.tracks ≤ n). inl l) (cases_lt n e.tracks)))
+    (cases_eq n 0)
+
+pub tracks_in_past : (n : ℕ) (es : List Extent) → tracks_in (past_front n es) ≡ tracks_past n es
+tracks_in_past n es = omega (arith, tracks_in_parts n es)

@@ -1,9 +1,9 @@
 -- The free extents of a volume: they stand in order, and hold each free track once and no other.
-use Rattle.std.proofs.Common.{◌≡◌, ◌≢◌, ℕ, suc, zero, ◌+◌, ◌-◌, ◌<◌, ◌≤◌, true, false, cond, List, [], ◌∷◌, length, get_or, drop, Some, refl, ap, sym, ◌∙◌, subst, arith, ⊎_elim, zero-add}
+use Rattle.std.proofs.Common.{◌≡◌, ◌≢◌, ℕ, suc, zero, ◌+◌, ◌-◌, ◌<◌, ◌≤◌, true, false, cond, List, [], ◌∷◌, ◌++◌, length, get_or, drop, Some, refl, ap, sym, ◌∙◌, subst, arith, ⊎_elim, zero-add}
 use Rattle.std.specs.List.{slice_get}
 use Rattle.std.proofs.lemmas.Bool.{cases_Bool, cases_eq, cases_lt, cond_both, eq-eqb, ne_eqb}
 use Rattle.std.proofs.lemmas.List.{drop_more, drop_all}
-use Rattle.std.proofs.lemmas.List.Sums.{sum_by-cons}
+use Rattle.std.proofs.lemmas.List.Sums.{sum_by-append, sum_by-cons}
 use Rattle.std.proofs.lemmas.Option.{slice_get-get_or, get_or_from_slice_get, slice_get_within}
 use Rattle.vtoc_core.specs.declared.entry.Extent.{Extent}
 use Rattle.vtoc_core.specs.declared.volume.Track.{Track}
@@ -97,6 +97,9 @@ times_in-cons k e es = sum_by-cons (λ f. cond (is_in k f) 1 0) e es
 
 pub times_in-cons_not : (k : ℕ) (e : Extent) (es : List Extent) → is_in k e ≡ false → times_in k (e ∷ es) ≡ times_in k es
 times_in-cons_not k e es h = times_in-cons k e es ∙ ap (λ b. cond b 1 0 + times_in k es) h ∙ zero-add (times_in k es)
+
+pub times_in-append : (k : ℕ) (es fs : List Extent) → times_in k (es ++ fs) ≡ times_in k es + times_in k fs
+times_in-append k es fs = sum_by-append (λ e. cond (is_in k e) 1 0) es fs
 
 -- the tracks in front of extents in order lie in none
 pub times_in_before : (k at : ℕ) (es : List Extent) → InOrder at es → k < at → times_in k es ≡ 0

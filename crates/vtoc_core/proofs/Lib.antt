@@ -1,8 +1,11 @@
 pub mod MarkLemmas
 pub mod PlaceLemmas
+pub mod MapLemmas
 pub mod FreeLemmas
 pub mod LargestLemmas
 pub mod PlanLemmas
+pub mod KindLemmas
+pub mod CountLemmas
 pub mod TableLemmas
-pub mod SoundLemmas
 pub mod CutLemmas
+pub mod SoundLemmas

@@ -1,7 +1,7 @@
 -- What tracks are once those of some extents are marked.
-use Rattle.std.proofs.Common.{◌≡◌, ◌≢◌, ℕ, suc, zero, ◌+◌, ◌-◌, ◌<◌, ◌≤◌, min, Bool, true, false, ◌||◌, cond, List, [], ◌∷◌, length, get_or, set, refl, ap, sym, ◌∙◌, arith, ⊎_elim, nat_lt, nat_le, get_or-set_same, get_or-set_other, length-set}
+use Rattle.std.proofs.Common.{◌≡◌, ◌≢◌, ℕ, suc, zero, ◌+◌, ◌-◌, ◌<◌, ◌≤◌, min, Bool, true, false, ◌||◌, cond, List, [], ◌∷◌, ◌++◌, length, get_or, set, take, drop, refl, ap, sym, ◌∙◌, arith, ⊎_elim, nat_lt, nat_le, get_or-set_same, get_or-set_other, length-set}
 use Rattle.std.proofs.lemmas.Bool.{cases_Bool, cases_eq, cases_lt, ltb-true, lt-ltb, le-leb, lt-leb, le-ltb, leb-true, and_parts, and_right, or_from, false_from_ne_true, both_ways}
-use Rattle.std.proofs.lemmas.List.{same_lists}
+use Rattle.std.proofs.lemmas.List.{same_lists, take_at}
 use Rattle.vtoc_core.specs.declared.entry.Extent.{Extent}
 use Rattle.vtoc_core.specs.declared.volume.Track.{Track}
 use Rattle.vtoc_core.specs.Extents.{extent}
@@ -100,3 +100,7 @@ one_more kind s i ts l m =
 pub one_all : (kind : Track) (e : Extent) (s i : ℕ) (ts : List Track) → s ≡ e.start → s ≤ i → i ≤ s + e.tracks → min (s + e.tracks) (length ts) ≤ i → marked kind (extent s (i - s) ∷ []) ts ≡ marked kind (e ∷ []) ts
 one_all kind e s i ts q l r past = marked_as kind (extent s (i - s) ∷ []) (e ∷ []) ts
     (λ k h. ap (λ b. b || false) (is_in_as k (extent s (i - s)) e (λ p. (omega arith, omega arith)) (λ p. (omega arith, omega arith))))
+
+-- tracks that were written in place
+pub written : (ws ts xs : List Track) (n : ℕ) → ws ≡ ts → length ts ≡ n → take n (ws ++ drop (length ws) xs) ≡ ts
+written ws ts xs n e l = take_at ws (drop (length ws) xs) n (ap length e ∙ l) ∙ e

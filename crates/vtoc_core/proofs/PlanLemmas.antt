@@ -1,6 +1,7 @@
 -- What is planned: free tracks, as many as are wanted, of five extents at most, exactly where the five largest have as many.
 use Rattle.std.proofs.Common.{◌≡◌, ◌≢◌, ℕ, suc, zero, ◌+◌, ◌-◌, ◌<◌, ◌≤◌, true, false, cond, List, [], ◌∷◌, ◌++◌, length, Option, Some, None, refl, ap, sym, ◌∙◌, subst, arith, ⊎_elim, nat_le, nat_eq, inl, inr, IsSome}
-use Rattle.std.specs.Option.{is_some}
+use Rattle.std.specs.Option.{MatchOption, is_some}
+use Rattle.arrayvec.specs.ArrayVec.{ArrayVec}
 use Rattle.std.proofs.lemmas.Bool.{true≢false, cases_Bool, cases_eq, cases_lt, cond_both, eq-eqb, ne_eqb, le-leb, lt-leb, leb-true, leb-false}
 use Rattle.std.proofs.lemmas.Option.{same_Some, none-some}
 use Rattle.std.proofs.lemmas.List.Sums.{sum_by-cons, sum-map}
@@ -314,3 +315,13 @@ planned_some es n list h =
 pub planned_refused : (es : List Extent) (n : ℕ) → planned es n ≡ None → five_largest es < n
 planned_refused es n h =
     ⊎_elim (λ (l : five_largest es < n). l) (λ (l : n ≤ five_largest es). absurd (true≢false (sym (planned_where es n l) ∙ ap is_some h))) (cases_lt (five_largest es) n)
+
+-- what the search answers
+pub plan_tells : (ts : List Track) (n : ℕ) (o : Option (ArrayVec Extent)) →
+    MatchOption o (planned (free_extents ts) n ≡ None) (λ t. planned (free_extents ts) n ≡ Some t.items) →
+    MatchOption o ((planned (free_extents ts) n ≡ None) × (five_largest (free_extents ts) < n))
+    (λ t. (planned (free_extents ts) n ≡ Some t.items) × (n ≤ five_largest (free_extents ts)) × AreOf Free ts t.items × (tracks_in t.items ≡ n))
+plan_tells ts n None h = (h, planned_refused (free_extents ts) n h)
+plan_tells ts n (Some t) h =
+    let p : IsPlan ts n t.items = planned_is ts n t.items h in
+    (h, planned_some (free_extents ts) n t.items h, p.free, p.tracks)

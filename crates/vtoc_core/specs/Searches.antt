@@ -1,9 +1,6 @@
--- What searches keep and find: the largest extents in order, what is taken of them, and the place of a set.
-use Rattle.std.specs.Prelude.{◌≡◌, ℕ, ◌-◌, ◌<◌, nat_le, List, [], ◌∷◌, length, take, slice_get, slice_set, remove, Option, Some, None, if◌then◌else◌}
+-- What searches keep and find: the largest extents in order, and what is taken of them.
+use Rattle.std.specs.Prelude.{ℕ, ◌-◌, nat_le, List, [], ◌∷◌, take, Option, Some, None, if◌then◌else◌}
 use Rattle.vtoc_core.specs.declared.entry.Extent.{Extent}
-use Rattle.vtoc_core.specs.declared.entry.SetEntry.{SetEntry}
-use Rattle.vtoc_core.specs.declared.entry.SetKey.{SetKey}
-use Rattle.vtoc_core.specs.Entries.{entry_of, with_extents_of, without_key}
 use Rattle.vtoc_core.specs.Extents.{extent, behind}
 
 -- an extent among others that go from the largest down: behind those that are as large
@@ -20,10 +17,3 @@ taken_from (e ∷ es) n = if nat_le n e.tracks then Some (extent e.start n ∷ [
 abbrev pub searched : List Extent → ℕ → List Extent → Option (List Extent)
 searched kept n [] = taken_from kept n
 searched kept n (e ∷ es) = if nat_le n e.tracks then Some (extent e.start n ∷ []) else searched (take 5 (entered e kept)) n es
-
--- the set of the key stands at i
-pub record StandsAt (sets : List SetEntry) (key : SetKey) (i : ℕ) : Type 0 where
-  pub within : i < length sets
-  pub entry : entry_of sets key ≡ slice_get sets i
-  pub without : without_key sets key ≡ remove sets i
-  pub with : (es : List Extent) (e : SetEntry) → slice_get sets i ≡ Some e → with_extents_of sets key es ≡ slice_set sets i (record e { extents = record { items = es } })

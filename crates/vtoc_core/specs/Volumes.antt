@@ -1,19 +1,48 @@
 -- A volume: what each of its tracks is, and its sets.
-use Rattle.std.specs.Prelude.{◌≡◌, ◌≤◌, ◌<◌, ℕ, ◌+◌, Bool, true, false, ◌&&◌, nat_lt, nat_le, List, [], ◌∷◌, ◌++◌, length, count_by, slice_get, Some, None, Result, Ok, Err, if◌then◌else◌, IsSome, replicate}
+use Rattle.std.specs.Prelude.{◌≡◌, ◌≢◌, ◌≤◌, ◌<◌, ℕ, ◌+◌, ◌-◌, Bool, true, false, ◌&&◌, nat_lt, nat_le, min, List, [], ◌∷◌, ◌++◌, length, count_by, slice_get, Option, Some, None, Result, Ok, Err, if◌then◌else◌, IsSome, replicate, refl}
+use Rattle.std.specs.Coded.{Coded, code_by, coded×, coded_bool, coded_list}
+use Rattle.std.specs.FinMap.{entries, get}
 use Rattle.std.specs.List.{list_any, flat_map}
 use Rattle.vtoc_core.specs.declared.entry.Extent.{Extent}
 use Rattle.vtoc_core.specs.declared.entry.SetEntry.{SetEntry}
 use Rattle.vtoc_core.specs.declared.entry.SetKey.{SetKey}
 use Rattle.vtoc_core.specs.declared.volume.Track.{Track}
 use Rattle.vtoc_core.specs.declared.volume.Track.TheVariants.{Free, Aside, InSet, Unusable}
+use Rattle.vtoc_core.specs.declared.volume.TrackCounts.{TrackCounts}
 use Rattle.vtoc_core.specs.declared.fault.VolumeFault.{VolumeFault}
 use Rattle.vtoc_core.specs.declared.fault.VolumeFault.TheVariants as fault
-use Rattle.vtoc_core.specs.Entries.{entry_of, with_extents_of}
-use Rattle.vtoc_core.specs.Extents.{free_extents, five_largest, planned}
+use Rattle.vtoc_core.specs.Entries.{Sets, changed, coded_sets, with_extents}
+use Rattle.vtoc_core.specs.Extents.{free_extents, five_largest, planned, tracks_in}
 
 pub record VolumeState : Type 0 where
   pub tracks : List Track
-  pub sets : List SetEntry
+  pub sets : Sets
+
+-- the code by which volumes are told apart
+abbrev pub bits_of : Track → Bool × Bool
+bits_of Free = (false, false)
+bits_of Aside = (false, true)
+bits_of InSet = (true, false)
+bits_of Unusable = (true, true)
+
+abbrev pub track_of : Bool × Bool → Track
+track_of (false, false) = Free
+track_of (false, true) = Aside
+track_of (true, false) = InSet
+track_of (true, true) = Unusable
+
+abbrev pub track_of-bits_of : (t : Track) → track_of (bits_of t) ≡ t
+track_of-bits_of Free = refl
+track_of-bits_of Aside = refl
+track_of-bits_of InSet = refl
+track_of-bits_of Unusable = refl
+
+abbrev pub coded_track : Coded Track
+coded_track = code_by (Bool × Bool) (coded× coded_bool coded_bool) bits_of track_of track_of-bits_of
+
+abbrev pub coded_volume : Coded VolumeState
+coded_volume =
+    code_by (List Track × Sets) (coded× (coded_list coded_track) coded_sets) (λ v. (v.tracks, v.sets)) (λ p. record { tracks = p.0; sets = p.1 }) (λ _. refl)
 
 -- a track lies in an extent
 abbrev pub is_in : ℕ → Extent → Bool
@@ -62,42 +91,78 @@ count_of kind tracks = count_by (λ t. is_kind kind t) tracks
 abbrev pub IsAside : VolumeState → List Extent → Type 0
 IsAside v list = AreOf Aside v.tracks list
 
-abbrev pub extents_of_all : List SetEntry → List Extent
-extents_of_all sets = flat_map (λ s. s.extents.items) sets
+-- the counts of a volume's tracks
+abbrev pub count_in : TrackCounts → Track → ℕ
+count_in c Free = c.free
+count_in c Aside = c.aside
+count_in c InSet = c.in_sets
+count_in c Unusable = c.unusable
 
--- no two sets have one key
-abbrev pub HaveOwnKeys : List SetEntry → Type 0
-HaveOwnKeys [] = Unit {0}
-HaveOwnKeys (e ∷ es) = (entry_of es e.key ≡ None) × HaveOwnKeys es
+abbrev pub Counted : TrackCounts → List Track → Type 0
+Counted counts tracks = (kind : Track) → count_in counts kind ≡ count_of kind tracks
 
--- the tracks of sets are of no other set, all tracks marked so are of a set, and each set has a key of its own
+-- so many tracks that were of one kind are of another now, and of each other kind there are as many as before
+pub record Moves (from to : Track) (n : ℕ) (old new : List Track) : Type 0 where
+  pub fewer : count_of from new + n ≡ count_of from old
+  pub more : count_of to new ≡ count_of to old + n
+  pub others : (kind : Track) → kind ≢ from → kind ≢ to → count_of kind new ≡ count_of kind old
+
+-- how many tracks a set loses that is cut to so many
+abbrev pub tracks_past : ℕ → List Extent → ℕ
+tracks_past n extents = tracks_in extents - min n (tracks_in extents)
+
+-- the extents of all sets, in the order of the keys
+abbrev pub extents_of_all : Sets → List Extent
+extents_of_all sets = flat_map (λ s. s.1.extents.items) (entries sets)
+
+-- the tracks of sets are marked so, none of them is in two extents, and all tracks marked so are of a set
 pub record IsSound (v : VolumeState) : Type 0 where
   pub in_sets : AreOf InSet v.tracks (extents_of_all v.sets)
   pub no_others : (track : ℕ) → slice_get v.tracks track ≡ Some InSet → 0 < times_in track (extents_of_all v.sets)
   pub size : length v.tracks ≤ 4000
-  pub keys : HaveOwnKeys v.sets
+
+-- no track lies in an extent of both lists
+abbrev pub LieApart : List Extent → List Extent → Type 0
+LieApart list extents = (track : ℕ) → 0 < times_in track list → times_in track extents ≡ 0
+
+-- tracks that are aside stay so where others become of any kind, which are apart or were of another kind
+abbrev pub OthersStayAside : Type 0
+OthersStayAside = (kind : Track) (tracks : List Track) (list extents : List Extent) → AreOf Aside tracks list → LieApart list extents →
+    AreOf Aside (marked kind extents tracks) list
+
+abbrev pub OtherKindsLieApart : Type 0
+OtherKindsLieApart = (kind : Track) (tracks : List Track) (list extents : List Extent) → kind ≢ Aside → AreOf Aside tracks list →
+    AreOf kind tracks extents → LieApart list extents
 
 -- making a set of tracks set aside: the name there first, else it is done but for want of memory; a refusal hands the list back
 abbrev pub AnswersMake : {A : Type 0} → Result A (List Extent × VolumeFault) → VolumeState → List Extent → SetKey → Type 0
-AnswersMake (Ok _) v list key = entry_of v.sets key ≡ None
-AnswersMake (Err (back, fault.NameThere)) v list key = (back ≡ list) × IsSome (entry_of v.sets key)
-AnswersMake (Err (back, fault.Memory)) v list key = (back ≡ list) × (entry_of v.sets key ≡ None)
+AnswersMake (Ok _) v list key = get v.sets key ≡ None
+AnswersMake (Err (back, fault.NameThere)) v list key = (back ≡ list) × IsSome (get v.sets key)
+AnswersMake (Err (back, fault.Memory)) v list key = (back ≡ list) × (get v.sets key ≡ None)
 AnswersMake (Err (back, _)) v list key = ⊥
 
 -- growing a set: it takes what is planned, unless it is not there, there is no space, or it would have over sixteen extents
 abbrev pub AnswersGrow : {A : Type 0} → Result A VolumeFault → VolumeState → SetKey → ℕ → VolumeState → Type 0
 AnswersGrow (Ok _) old key n new = (entry : SetEntry) × (more : List Extent)
-    × (entry_of old.sets key ≡ Some entry) × (planned (free_extents old.tracks) n ≡ Some more)
+    × (get old.sets key ≡ Some entry) × (planned (free_extents old.tracks) n ≡ Some more)
     × (length entry.extents.items + length more ≤ 16)
     × (new ≡ record {
       tracks = marked InSet more old.tracks;
-      sets = with_extents_of old.sets key (entry.extents.items ++ more);
+      sets = changed old.sets key (with_extents (λ all. all ++ more));
     })
-AnswersGrow (Err fault.NameMissing) old key n new = (entry_of old.sets key ≡ None) × (new ≡ old)
+    × Moves Free InSet n old.tracks new.tracks
+AnswersGrow (Err fault.NameMissing) old key n new = (get old.sets key ≡ None) × (new ≡ old)
 AnswersGrow (Err fault.NoSpace) old key n new =
-    IsSome (entry_of old.sets key) × (five_largest (free_extents old.tracks) < n) × (new ≡ old)
+    IsSome (get old.sets key) × (five_largest (free_extents old.tracks) < n) × (new ≡ old)
 AnswersGrow (Err fault.TooManyExtents) old key n new = (entry : SetEntry) × (more : List Extent)
-    × (entry_of old.sets key ≡ Some entry) × (planned (free_extents old.tracks) n ≡ Some more)
+    × (get old.sets key ≡ Some entry) × (planned (free_extents old.tracks) n ≡ Some more)
     × (16 < length entry.extents.items + length more)
     × (new ≡ old)
 AnswersGrow (Err _) old key n new = ⊥
+
+-- writing records of a set: it is not there, or all is done but for want of memory
+abbrev pub AnswersWrite : {A : Type 0} → Result A VolumeFault → Option SetEntry → Type 0
+AnswersWrite (Ok _) set = IsSome set
+AnswersWrite (Err fault.NameMissing) set = set ≡ None
+AnswersWrite (Err fault.Memory) set = IsSome set
+AnswersWrite (Err _) set = ⊥

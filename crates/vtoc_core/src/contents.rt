@@ -1,47 +1,115 @@
-//! The table of contents as a list: where the set of a key stands, and what is done to it.
-ghost use Rattle.std.specs.Prelude.{◌≡◌, ◌<◌, ◌≤◌, ◌+◌, ◌++◌, ◌∷◌, [], None, OnOk, OnErr, IfErr, is_some, if◌then◌else◌, length, position, MatchOption};
-ghost use Rattle.vtoc_core.specs.Entries.{entry_of, same_key};
+//! The table of contents as a map: the set of a key, and what is done to it.
+ghost use Rattle.std.specs.Prelude.{◌≡◌, ◌<◌, ◌≤◌, ◌+◌, ◌++◌, ◌∷◌, [], None, OnOk, OnErr, IfErr, IfNone, is_some, if◌then◌else◌, length, MatchOption};
+ghost use Rattle.std.specs.FinMap as map;
+ghost use Rattle.std.specs.Option.{option_copied};
+ghost use Rattle.vtoc_core.specs.Entries.{LacksRecords, changed, sets_of, with_extents, with_records};
 ghost use Rattle.vtoc_core.specs.Extents.{kept_front, past_front};
-ghost use Rattle.vtoc_core.specs.Searches.{StandsAt};
-ghost use Rattle.vtoc_core.specs.Volumes.{LieBelow};
+ghost use Rattle.vtoc_core.specs.Volumes.{AnswersWrite, LieBelow};
 
 use crate::entry::{Extent, SetEntry, SetKey};
 use crate::fault::VolumeFault;
 use arrayvec::ArrayVec;
+use set_core::records::DataRecord;
+use std::collections::BTreeMap;
 
-fn first_place_of(sets: &[SetEntry], key: &SetKey) -> Option<usize>
-    ensures { result ≡ position (λ s. same_key s.key key.now) sets.now }
-{
-    sets.iter().position(|s| s.key.is_same(key))
-}
+pub(crate) type Sets = BTreeMap<SetKey, SetEntry>;
 
-/// The place of the set of this key.
-pub(crate) fn place_of(sets: &[SetEntry], key: &SetKey) -> Option<usize>
-    ensures { MatchOption result (entry_of sets.now key.now ≡ None) (StandsAt sets.now key.now) }
+/// The set of this key.
+pub(crate) fn find<'a>(sets: &'a Sets, key: &SetKey) -> Option<&'a SetEntry>
+    ensures { option_copied result ≡ map.get (sets_of sets.now.entries) key.now }
 {
-    first_place_of(sets, key)
+    sets.get(key)
 }
 
 /// Whether there is a set of this key.
-pub(crate) fn is_there(sets: &[SetEntry], key: &SetKey) -> bool
-    ensures { result ≡ is_some (entry_of sets.now key.now) }
+pub(crate) fn is_there(sets: &Sets, key: &SetKey) -> bool
+    ensures { result ≡ is_some (map.get (sets_of sets.now.entries) key.now) }
 {
-    place_of(sets, key).is_some()
+    sets.contains_key(key)
 }
 
-/// Enters a set behind the others. A refusal changes nothing.
-pub(crate) fn enter(sets: &mut Vec<SetEntry>, entry: SetEntry) -> Result<(), VolumeFault>
-    ensures ok { OnOk result (sets.new.items ≡ sets.old.items ++ entry ∷ []) }
-    ensures absent { OnOk result (entry_of sets.old.items entry.key ≡ None) }
-    ensures err { OnErr result (sets.new.items ≡ sets.old.items) }
-    ensures fault { IfErr result (λ fault. fault ≡ (if is_some (entry_of sets.old.items entry.key) then VolumeFault.NameThere else VolumeFault.Memory)) }
+/// Enters a set of a new key. A refusal changes nothing.
+pub(crate) fn enter(sets: &mut Sets, key: SetKey, entry: SetEntry) -> Result<(), VolumeFault>
+    ensures ok { OnOk result (sets_of sets.new.entries ≡ map.insert (sets_of sets.old.entries) key entry) }
+    ensures absent { OnOk result (map.get (sets_of sets.old.entries) key ≡ None) }
+    ensures err { OnErr result (sets_of sets.new.entries ≡ sets_of sets.old.entries) }
+    ensures fault { IfErr result (λ fault. fault ≡ (if is_some (map.get (sets_of sets.old.entries) key) then VolumeFault.NameThere else VolumeFault.Memory)) }
 {
-    if is_there(sets.as_slice(), &entry.key) {
+    if is_there(sets, &key) {
         return Err(VolumeFault::NameThere);
     }
-    match sets.push(entry) {
-        Ok(()) => Ok(()),
+    match sets.insert(key, entry) {
+        Ok(_) => Ok(()),
         Err(_) => Err(VolumeFault::Memory),
+    }
+}
+
+/// Takes the set of a key out.
+pub(crate) fn take_out(sets: &mut Sets, key: &SetKey) -> Option<SetEntry>
+    ensures set { result ≡ map.get (sets_of sets.old.entries) key.now }
+    ensures others { sets_of sets.new.entries ≡ map.remove (sets_of sets.old.entries) key.now }
+    ensures gone { map.get (sets_of sets.new.entries) key.now ≡ None }
+    ensures missing { IfNone result (sets_of sets.new.entries ≡ sets_of sets.old.entries) }
+{
+    sets.remove(key)
+}
+
+/// Gives the set of a key these extents in place of its own.
+pub(crate) fn set_extents(sets: &mut Sets, key: &SetKey, extents: ArrayVec<Extent, 16>)
+    ensures { sets_of sets.new.entries ≡ changed (sets_of sets.old.entries) key.now (with_extents (λ _. extents.items)) }
+{
+    match sets.get_mut(key) {
+        Some(entry) => entry.extents = extents,
+        None => {}
+    }
+}
+
+/// Puts a record behind those of a set. A refusal changes nothing.
+pub(crate) fn append(sets: &mut Sets, key: &SetKey, columns: DataRecord) -> Result<(), VolumeFault>
+    ensures ok { OnOk result (sets_of sets.new.entries ≡ changed (sets_of sets.old.entries) key.now (with_records (λ all. all ++ columns ∷ []))) }
+    ensures err { OnErr result (sets_of sets.new.entries ≡ sets_of sets.old.entries) }
+    ensures answer { AnswersWrite result (map.get (sets_of sets.old.entries) key.now) }
+{
+    match sets.get_mut(key) {
+        Some(entry) => match entry.records.append(columns) {
+            Ok(()) => Ok(()),
+            Err(_) => Err(VolumeFault::Memory),
+        },
+        None => Err(VolumeFault::NameMissing),
+    }
+}
+
+/// Puts a record in place of all of a set's. A refusal changes nothing.
+pub(crate) fn write_first(
+    sets: &mut Sets,
+    key: &SetKey,
+    columns: DataRecord,
+) -> Result<(), VolumeFault>
+    ensures ok { OnOk result (sets_of sets.new.entries ≡ changed (sets_of sets.old.entries) key.now (with_records (λ _. columns ∷ []))) }
+    ensures err { OnErr result (sets_of sets.new.entries ≡ sets_of sets.old.entries) }
+    ensures memory { OnErr result (LacksRecords (map.get (sets_of sets.old.entries) key.now)) }
+    ensures answer { AnswersWrite result (map.get (sets_of sets.old.entries) key.now) }
+{
+    match sets.get_mut(key) {
+        Some(entry) => match entry.records.write_first(columns) {
+            Ok(()) => Ok(()),
+            Err(_) => Err(VolumeFault::Memory),
+        },
+        None => Err(VolumeFault::NameMissing),
+    }
+}
+
+/// Takes all records of a set away, and tells whether there is such a set.
+pub(crate) fn clear(sets: &mut Sets, key: &SetKey) -> bool
+    ensures there { result ≡ is_some (map.get (sets_of sets.old.entries) key.now) }
+    ensures cleared { sets_of sets.new.entries ≡ changed (sets_of sets.old.entries) key.now (with_records (λ _. [])) }
+{
+    match sets.get_mut(key) {
+        Some(entry) => {
+            entry.records.clear();
+            true
+        }
+        None => false,
     }
 }
 

@@ -5,10 +5,12 @@ ghost use Rattle.vtoc_core.specs.Entries.{same_key};
 use arrayvec::ArrayVec;
 use jname_core::ds_name::DsName;
 use jname_core::name8::Name8;
+use set_core::records::Records;
 use std::marker::Model;
 
-/// Which set it is among all that stand on volumes. A temporary set is its job's.
-#[derive(Clone, Copy, Debug)]
+/// Which set it is among all that stand on volumes. A temporary set is its job's. In order the named sets come first, by their names,
+/// then the temporary ones, by job and name, then those without a name, by job, step and DD.
+#[derive(Clone, Copy, Debug, PartialEq, Eq, PartialOrd, Ord)]
 pub enum SetKey {
     Named(DsName),
     Temporary { job: u16, name: Name8 },
@@ -45,12 +47,13 @@ pub struct Extent {
     pub tracks: u16,
 }
 
-/// A set on a volume: its extents in order, sixteen at most, and the day, counted from 1900/001 as 0, before which it is not to be deleted.
+/// A set on a volume: its extents in order, sixteen at most, the day, counted from 1900/001 as 0, before which it is not to be deleted,
+/// and its records.
 #[derive(Debug, Drop)]
 pub struct SetEntry {
-    pub key: SetKey,
     pub extents: ArrayVec<Extent, 16>,
     pub expires: Option<u32>,
+    pub records: Records,
 }
 
 /// Tracks set aside: five extents at most. It must be given back, or made a set.

@@ -1,5 +1,6 @@
 //! Marking tracks, and counting them.
-ghost use Rattle.std.specs.Prelude.{◌≡◌, ◌∷◌, []};
+ghost use Rattle.std.specs.Prelude.{◌≡◌, ◌≤◌, ◌∷◌, [], length};
+ghost use Rattle.vtoc_core.specs.Extents.{tracks_in};
 ghost use Rattle.vtoc_core.specs.Volumes.{count_of, is_kind, marked};
 
 use crate::entry::Extent;
@@ -36,4 +37,12 @@ pub(crate) fn count_of(tracks: &[Track], kind: Track) -> usize
     ensures { result ≡ count_of kind tracks.now }
 {
     tracks.iter().filter(|t| is_kind(kind, **t)).count()
+}
+
+/// How many tracks these extents have.
+pub(crate) fn tracks_in(extents: &[Extent]) -> usize
+    requires { length extents.now ≤ 16 }
+    ensures { result ≡ tracks_in extents.now }
+{
+    extents.iter().map(|e| usize::from(e.tracks)).sum()
 }

@@ -112,7 +112,7 @@ fn joins_what_is_given_back(rt: HostRuntime) {
 fn keeps_sixteen_extents_at_most(rt: HostRuntime) {
     let mut volume = combed(&rt, rt.alloc());
     let key = temporary(&rt, 1, b"SORTWK01");
-    assert_eq!(rt; volume.make_set(key, 1, None), Ok(()));
+    assert_eq!(rt; volume.make_set(rt.alloc(), key, 1, None), Ok(()));
     for _ in 0..14 {
         assert_eq!(rt; volume.grow(&key, 1), Ok(()));
     }
@@ -137,23 +137,25 @@ fn makes_scratches_and_trims(rt: HostRuntime) {
     assert_eq!(rt; volume.scratch(&key), Err(VolumeFault::NameMissing));
     assert_eq!(rt; volume.grow(&key, 0), Err(VolumeFault::NameMissing));
     assert_eq!(rt; volume.trim(&key, 0), Err(VolumeFault::NameMissing));
-    assert_eq!(rt; volume.make_set(link_library(&rt), 7, Some(26_300)), Ok(()));
     assert_eq!(rt;
-        volume.make_set(link_library(&rt), 1, None),
+        volume.make_set(rt.alloc(), link_library(&rt), 7, Some(26_300)),
+        Ok(())
+    );
+    assert_eq!(rt;
+        volume.make_set(rt.alloc(), link_library(&rt), 1, None),
         Err(VolumeFault::NameThere)
     );
     assert_eq!(rt;
-        volume.make_set(unnamed(), 11, None),
+        volume.make_set(rt.alloc(), unnamed(), 11, None),
         Err(VolumeFault::NoSpace)
     );
-    assert_eq!(rt; volume.make_set(unnamed(), 2, None), Ok(()));
+    assert_eq!(rt; volume.make_set(rt.alloc(), unnamed(), 2, None), Ok(()));
     let counts = volume.track_counts();
     assert_eq!(rt;
         (counts.free, counts.aside, counts.in_sets, counts.unusable),
         (7, 0, 9, 5)
     );
     assert_eq!(rt; volume.trim(&key, 3), Ok(()));
-    assert_eq!(rt; volume.sets().len(), 2);
     match volume.find(&key) {
         Some(set) => assert_eq!(rt;
             (set.expires, set.extents.as_slice()),
@@ -164,7 +166,10 @@ fn makes_scratches_and_trims(rt: HostRuntime) {
     assert_eq!(rt; volume.trim(&key, 0), Ok(()));
     assert_eq!(rt; volume.scratch(&key), Ok(()));
     assert!(rt; volume.find(&key).is_none());
-    assert_eq!(rt; volume.make_set(link_library(&rt), 5, None), Ok(()));
+    assert_eq!(rt;
+        volume.make_set(rt.alloc(), link_library(&rt), 5, None),
+        Ok(())
+    );
     assert_eq!(rt; volume.free_tracks(), 9);
 }
 
@@ -173,7 +178,7 @@ fn makes_a_set_of_tracks_set_aside(rt: HostRuntime) {
     let mut volume = holed(&rt, rt.alloc());
     let key = temporary(&rt, 7, b"LOADSET");
     let list = reserved(&rt, &mut volume, 5);
-    match volume.make_from(list, key, None) {
+    match volume.make_from(rt.alloc(), list, key, None) {
         Ok(()) => {}
         Err((list, fault)) => {
             volume.give_back(list);
@@ -181,7 +186,7 @@ fn makes_a_set_of_tracks_set_aside(rt: HostRuntime) {
         }
     }
     let list = reserved(&rt, &mut volume, 4);
-    match volume.make_from(list, key, None) {
+    match volume.make_from(rt.alloc(), list, key, None) {
         Ok(()) => panic!(rt; "two sets of one name"),
         Err((list, fault)) => {
             assert_eq!(rt;
@@ -191,7 +196,87 @@ fn makes_a_set_of_tracks_set_aside(rt: HostRuntime) {
             volume.give_back(list);
         }
     }
+    let counts = volume.track_counts();
+    assert_eq!(rt;
+        (counts.free, counts.aside, counts.in_sets, counts.unusable),
+        (11, 0, 5, 5)
+    );
     assert!(rt; !key.is_same(&temporary(&rt, 8, b"LOADSET")));
     assert!(rt; key.is_same(&temporary(&rt, 7, b"LOADSET")));
     assert!(rt; !key.is_same(&temporary(&rt, 7, b"LOADSETS")));
+}
+
+#[test]
+fn keys_are_in_order(rt: HostRuntime) {
+    let name = |text: &[u8]| -> SetKey { SetKey::Named(read_ds_name(text).expect(&rt, "a name")) };
+    let ascending = [
+        name(b"A"),
+        name(b"A.B"),
+        name(b"B"),
+        temporary(&rt, 1, b"Z"),
+        temporary(&rt, 2, b"A"),
+        temporary(&rt, 2, b"AA"),
+        SetKey::Unnamed {
+            job: 1,
+            step: 9,
+            dd: 9,
+        },
+        SetKey::Unnamed {
+            job: 2,
+            step: 1,
+            dd: 9,
+        },
+        SetKey::Unnamed {
+            job: 2,
+            step: 2,
+            dd: 1,
+        },
+        SetKey::Unnamed {
+            job: 2,
+            step: 2,
+            dd: 2,
+        },
+    ];
+    for pair in ascending.windows(2) {
+        assert!(rt; pair[0] < pair[1]);
+    }
+}
+
+#[test]
+fn keeps_records_with_their_set(rt: HostRuntime) {
+    let mut volume = holed(&rt, rt.alloc());
+    let key = link_library(&rt);
+    let missing = Err(VolumeFault::NameMissing);
+    assert_eq!(rt; volume.append(&key, [1; 80]), missing);
+    assert_eq!(rt; volume.write_first(&key, [1; 80]), missing);
+    assert_eq!(rt; volume.clear(&key), missing);
+    assert_eq!(rt; volume.make_set(rt.alloc(), key, 2, None), Ok(()));
+    assert_eq!(rt; volume.make_set(rt.alloc(), unnamed(), 1, None), Ok(()));
+    assert_eq!(rt; first_and_last(&volume, &key), (0, None, None));
+    for at in 1..=3u8 {
+        assert_eq!(rt; volume.append(&key, [at; 80]), Ok(()));
+    }
+    assert_eq!(rt; first_and_last(&volume, &key), (3, Some(1), Some(3)));
+    assert_eq!(rt; first_and_last(&volume, &unnamed()), (0, None, None));
+    assert_eq!(rt; volume.grow(&key, 1), Ok(()));
+    assert_eq!(rt; volume.trim(&key, 2), Ok(()));
+    assert_eq!(rt; first_and_last(&volume, &key), (3, Some(1), Some(3)));
+    assert_eq!(rt; volume.write_first(&key, [7; 80]), Ok(()));
+    assert_eq!(rt; first_and_last(&volume, &key), (1, Some(7), Some(7)));
+    assert_eq!(rt; volume.clear(&key), Ok(()));
+    assert_eq!(rt; first_and_last(&volume, &key), (0, None, None));
+    assert_eq!(rt; volume.write_first(&key, [9; 80]), Ok(()));
+    assert_eq!(rt; volume.scratch(&key), Ok(()));
+    assert_eq!(rt; volume.make_set(rt.alloc(), key, 2, None), Ok(()));
+    assert_eq!(rt; first_and_last(&volume, &key), (0, None, None));
+}
+
+/// How many records the set of a key has, and the first column of the first and of the last.
+fn first_and_last(volume: &Volume, key: &SetKey) -> (usize, Option<u8>, Option<u8>) {
+    let Some(set) = volume.find(key) else {
+        return (0, None, None);
+    };
+    let count = set.records.len();
+    let column = |place: usize| -> Option<u8> { Some(set.records.read_at(place)?[0]) };
+    (count, column(0), column(count.saturating_sub(1)))
 }

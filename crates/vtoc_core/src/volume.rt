@@ -1,19 +1,23 @@
 //! A volume.
-ghost use Rattle.std.specs.Prelude.{◌≡◌, ◌≢◌, ◌≤◌, ◌<◌, ◌↔◌, ◌++◌, ◌∷◌, [], List, Some, None, IsOk, IsErr, IsSome, IfOk, OnOk, OnErr, IfErr, count_by, length, ◌+◌};
+ghost use Rattle.std.specs.Prelude.{◌≡◌, ◌≢◌, ◌≤◌, ◌<◌, ◌↔◌, ◌++◌, ◌∷◌, [], List, Some, None, Err, IsOk, IsErr, IsSome, IfOk, OnOk, OnErr, IfErr, count_by, length, ◌+◌};
+ghost use Rattle.std.specs.FinMap as map;
 ghost use Rattle.std.specs.Option.{option_copied};
-ghost use Rattle.vtoc_core.specs.Entries.{entry_of, with_extents_of, without_key};
+ghost use Rattle.vtoc_core.specs.Entries.{LacksRecords, changed, with_extents, with_records};
 ghost use Rattle.vtoc_core.specs.Extents.{five_largest, free_extents, is_free_track, kept_front, past_front, planned, tracks_in};
-ghost use Rattle.vtoc_core.specs.Volumes.{AnswersGrow, AnswersMake, AreOf, IsAside, count_of, first_tracks, marked};
+ghost use Rattle.vtoc_core.specs.Volumes.{AnswersGrow, AnswersMake, AnswersWrite, AreOf, IsAside, IsSound, Moves, count_of, first_tracks, marked, tracks_past};
 ghost use Rattle.vtoc_core.specs.declared.entry.Extent.{Extent};
 ghost use Rattle.vtoc_core.specs.declared.entry.SetEntry.{SetEntry};
 ghost use Rattle.vtoc_core.specs.declared.volume.Track.TheVariants.{Free, Aside, InSet, Unusable};
 
-use crate::contents::{cut, enter, extents_of, is_there, joined, place_of};
+use crate::contents::{
+    self, Sets, cut, enter, extents_of, is_there, joined, set_extents, take_out,
+};
 use crate::entry::{Extent, ExtentList, SetEntry, SetKey};
 use crate::fault::VolumeFault;
-use crate::marks::{count_of, mark};
-use crate::space::plan;
+use crate::table::TrackTable;
+use set_core::records::{DataRecord, Records};
 use std::alloc::{AllocError, Global};
+use std::collections::BTreeMap;
 use std::marker::Model;
 
 /// What a track is.
@@ -38,59 +42,50 @@ pub struct TrackCounts {
     pub unusable: usize,
 }
 
-/// A volume: what each track is, and its sets in the order in which they were made.
+/// A volume: what each track is, and its sets by their keys.
 #[derive(Debug, Drop)]
 pub struct Volume {
-    tracks: Vec<Track>,
-    sets: Vec<SetEntry>,
+    tracks: TrackTable,
+    sets: Sets,
 }
 
 impl Model for Volume {
-    ghost use Rattle.vtoc_core.specs.Volumes.{VolumeState, IsSound};
+    ghost use Rattle.vtoc_core.specs.Entries.{sets_of};
+    ghost use Rattle.vtoc_core.specs.Volumes.{VolumeState, IsSound, coded_volume};
 
     ghost Value = { VolumeState };
 
-    ghost view = { λ v. record { tracks = v.tracks.items; sets = v.sets.items } };
+    ghost coded = { coded_volume };
 
-    ghost invariant = { λ v. IsSound (record { tracks = v.tracks.items; sets = v.sets.items }) };
+    ghost view = { λ v. record { tracks = v.tracks; sets = sets_of v.sets.entries } };
+
+    ghost invariant = { λ v. IsSound (record { tracks = v.tracks; sets = sets_of v.sets.entries }) };
 }
 
 impl Volume {
     /// A volume of 1 to 4,000 tracks without a set. The tracks of these extents are never free.
     pub fn new(alloc: Global, tracks: u16, unusable: &[Extent]) -> Result<Volume, AllocError>
         requires { tracks ≤ 4000 }
-        ensures { IfOk result (λ v. v ≡ record { tracks = first_tracks tracks unusable.now; sets = [] }) }
+        ensures { IfOk result (λ v. v ≡ record { tracks = first_tracks tracks unusable.now; sets = map.empty }) }
     {
-        let mut all = vec![in alloc; Track::Free; usize::from(tracks)]?;
-        mark(all.as_mut_slice(), Track::Unusable, unusable);
         Ok(Volume {
-            tracks: all,
-            sets: Vec::new(alloc),
+            tracks: TrackTable::new(alloc, tracks, unusable)?,
+            sets: BTreeMap::new(alloc),
         })
     }
 
     /// The set of this key.
     pub fn find(&self, key: &SetKey) -> Option<&SetEntry>
-        ensures { option_copied result ≡ entry_of self.now.sets key.now }
+        ensures { option_copied result ≡ map.get self.now.sets key.now }
     {
-        match place_of(&self.sets, key) {
-            Some(at) => Some(&self.sets[at]),
-            None => None,
-        }
-    }
-
-    /// The sets, in the order in which they were made.
-    pub fn sets(&self) -> &[SetEntry]
-        ensures { result.now ≡ self.now.sets }
-    {
-        self.sets.as_slice()
+        contents::find(&self.sets, key)
     }
 
     /// How many tracks are free.
     pub fn free_tracks(&self) -> usize
         ensures { result ≡ count_by is_free_track self.now.tracks }
     {
-        count_of(self.tracks.as_slice(), Track::Free)
+        self.tracks.counts().free
     }
 
     /// How many tracks are of each kind.
@@ -101,13 +96,7 @@ impl Volume {
         ensures unusable { result.unusable ≡ count_of Unusable self.now.tracks }
         ensures sum { result.free + result.aside + result.in_sets + result.unusable ≡ length self.now.tracks }
     {
-        let tracks = self.tracks.as_slice();
-        TrackCounts {
-            free: count_of(tracks, Track::Free),
-            aside: count_of(tracks, Track::Aside),
-            in_sets: count_of(tracks, Track::InSet),
-            unusable: count_of(tracks, Track::Unusable),
-        }
+        self.tracks.counts()
     }
 
     /// Sets tracks aside: the front of the first free extent that holds them all, else the largest free extents, five at most. It is
@@ -117,13 +106,15 @@ impl Volume {
         ensures free { IfOk result (λ list. AreOf Free self.old.tracks list) }
         ensures aside { IfOk result (λ list. self.new ≡ record self.old { tracks = marked Aside list self.old.tracks }) }
         ensures list { IfOk result (λ list. IsAside self.new list × (tracks_in list ≡ tracks)) }
+        ensures counts { OnOk result (Moves Free Aside tracks self.old.tracks self.new.tracks) }
         ensures exactly { IsOk result ↔ (tracks ≤ five_largest (free_extents self.old.tracks)) }
         ensures err { OnErr result (self.new ≡ self.old) }
         ensures fault { IfErr result (λ fault. fault ≡ VolumeFault.NoSpace) }
     {
-        match plan(self.tracks.as_slice(), tracks) {
+        match self.tracks.plan(tracks) {
             Some(extents) => {
-                mark(self.tracks.as_mut_slice(), Track::Aside, extents.as_slice());
+                self.tracks
+                    .mark(Track::Free, Track::Aside, extents.as_slice());
                 Ok(ExtentList { extents })
             }
             None => Err(VolumeFault::NoSpace),
@@ -133,15 +124,18 @@ impl Volume {
     /// Frees tracks that were set aside on this volume.
     pub fn give_back(&mut self, list: ExtentList)
         requires { IsAside self.old list }
-        ensures { self.new ≡ record self.old { tracks = marked Free list self.old.tracks } }
+        ensures state { self.new ≡ record self.old { tracks = marked Free list self.old.tracks } }
+        ensures counts { Moves Aside Free (tracks_in list) self.old.tracks self.new.tracks }
     {
         let ExtentList { extents } = list;
-        mark(self.tracks.as_mut_slice(), Track::Free, extents.as_slice());
+        self.tracks
+            .mark(Track::Aside, Track::Free, extents.as_slice());
     }
 
-    /// Makes a set of tracks that were set aside on this volume. A refusal gives the list back.
+    /// Makes a set of tracks that were set aside on this volume, without a record. A refusal gives the list back and changes nothing.
     pub fn make_from(
         &mut self,
+        alloc: Global,
         list: ExtentList,
         key: SetKey,
         expires: Option<u32>,
@@ -150,55 +144,60 @@ impl Volume {
         ensures answer { AnswersMake result self.old list key }
         ensures ok { OnOk result (self.new ≡ record {
           tracks = marked InSet list self.old.tracks;
-          sets = self.old.sets ++ record { key = key; extents = record { items = list }; expires = expires } ∷ [];
+          sets = map.insert self.old.sets key (record { extents = record { items = list }; expires = expires; records = [] });
         }) }
+        ensures counts { OnOk result (Moves Aside InSet (tracks_in list) self.old.tracks self.new.tracks) }
         ensures err { OnErr result (self.new ≡ self.old) }
     {
         let ExtentList { extents } = list;
         let entry = SetEntry {
-            key,
             extents: extents_of(extents.as_slice()),
             expires,
+            records: Records::new(alloc),
         };
-        match enter(&mut self.sets, entry) {
+        match enter(&mut self.sets, key, entry) {
             Ok(()) => {
-                mark(self.tracks.as_mut_slice(), Track::InSet, extents.as_slice());
+                self.tracks
+                    .mark(Track::Aside, Track::InSet, extents.as_slice());
                 Ok(())
             }
             Err(fault) => Err((ExtentList { extents }, fault)),
         }
     }
 
-    /// Makes a set of free tracks, as `reserve` takes them. A refusal changes nothing.
+    /// Makes a set of free tracks, as `reserve` takes them, without a record. A refusal changes nothing.
     pub fn make_set(
         &mut self,
+        alloc: Global,
         key: SetKey,
         tracks: u16,
         expires: Option<u32>,
     ) -> Result<(), VolumeFault>
         ensures ok { OnOk result ((list : List Extent) × (planned (free_extents self.old.tracks) tracks ≡ Some list) × (self.new ≡ record {
           tracks = marked InSet list self.old.tracks;
-          sets = self.old.sets ++ record { key = key; extents = record { items = list }; expires = expires } ∷ [];
+          sets = map.insert self.old.sets key (record { extents = record { items = list }; expires = expires; records = [] });
         })) }
-        ensures there { (result ≡ Err VolumeFault.NameThere) ↔ IsSome (entry_of self.old.sets key) }
-        ensures space { (result ≡ Err VolumeFault.NoSpace) ↔ ((entry_of self.old.sets key ≡ None) × (five_largest (free_extents self.old.tracks) < tracks)) }
+        ensures counts { OnOk result (Moves Free InSet tracks self.old.tracks self.new.tracks) }
+        ensures there { (result ≡ Err VolumeFault.NameThere) ↔ IsSome (map.get self.old.sets key) }
+        ensures space { (result ≡ Err VolumeFault.NoSpace) ↔ ((map.get self.old.sets key ≡ None) × (five_largest (free_extents self.old.tracks) < tracks)) }
         ensures others { IfErr result (λ fault. (fault ≢ VolumeFault.NameMissing) × (fault ≢ VolumeFault.TooManyExtents)) }
         ensures err { OnErr result (self.new ≡ self.old) }
     {
         if is_there(&self.sets, &key) {
             return Err(VolumeFault::NameThere);
         }
-        let Some(taken) = plan(self.tracks.as_slice(), tracks) else {
+        let Some(taken) = self.tracks.plan(tracks) else {
             return Err(VolumeFault::NoSpace);
         };
         let entry = SetEntry {
-            key,
             extents: extents_of(taken.as_slice()),
             expires,
+            records: Records::new(alloc),
         };
-        match enter(&mut self.sets, entry) {
+        match enter(&mut self.sets, key, entry) {
             Ok(()) => {
-                mark(self.tracks.as_mut_slice(), Track::InSet, taken.as_slice());
+                self.tracks
+                    .mark(Track::Free, Track::InSet, taken.as_slice());
                 Ok(())
             }
             Err(fault) => Err(fault),
@@ -207,23 +206,19 @@ impl Volume {
 
     /// Scratches a set: its tracks are free again. A refusal changes nothing.
     pub fn scratch(&mut self, key: &SetKey) -> Result<(), VolumeFault>
-        ensures ok { OnOk result ((entry : SetEntry) × (entry_of self.old.sets key.now ≡ Some entry) × (self.new ≡ record {
+        ensures ok { OnOk result ((entry : SetEntry) × (map.get self.old.sets key.now ≡ Some entry) × (self.new ≡ record {
           tracks = marked Free entry.extents.items self.old.tracks;
-          sets = without_key self.old.sets key.now;
-        })) }
-        ensures gone { OnOk result (entry_of self.new.sets key.now ≡ None) }
-        ensures missing { IsErr result ↔ (entry_of self.old.sets key.now ≡ None) }
+          sets = map.remove self.old.sets key.now;
+        }) × Moves InSet Free (tracks_in entry.extents.items) self.old.tracks self.new.tracks) }
+        ensures gone { OnOk result (map.get self.new.sets key.now ≡ None) }
+        ensures missing { IsErr result ↔ (map.get self.old.sets key.now ≡ None) }
         ensures fault { IfErr result (λ fault. fault ≡ VolumeFault.NameMissing) }
         ensures err { OnErr result (self.new ≡ self.old) }
     {
-        match place_of(&self.sets, key) {
-            Some(at) => {
-                let entry = self.sets.remove(at);
-                mark(
-                    self.tracks.as_mut_slice(),
-                    Track::Free,
-                    entry.extents.as_slice(),
-                );
+        match take_out(&mut self.sets, key) {
+            Some(entry) => {
+                self.tracks
+                    .mark(Track::InSet, Track::Free, entry.extents.as_slice());
                 Ok(())
             }
             None => Err(VolumeFault::NameMissing),
@@ -234,36 +229,76 @@ impl Volume {
     pub fn grow(&mut self, key: &SetKey, tracks: u16) -> Result<(), VolumeFault>
         ensures answer { AnswersGrow result self.old key.now tracks self.new }
     {
-        let Some(at) = place_of(&self.sets, key) else {
+        let Some(entry) = contents::find(&self.sets, key) else {
             return Err(VolumeFault::NameMissing);
         };
-        let Some(more) = plan(self.tracks.as_slice(), tracks) else {
+        let Some(more) = self.tracks.plan(tracks) else {
             return Err(VolumeFault::NoSpace);
         };
-        let Some(extents) = joined(self.sets[at].extents.as_slice(), more.as_slice()) else {
+        let Some(extents) = joined(entry.extents.as_slice(), more.as_slice()) else {
             return Err(VolumeFault::TooManyExtents);
         };
-        mark(self.tracks.as_mut_slice(), Track::InSet, more.as_slice());
-        self.sets[at].extents = extents;
+        set_extents(&mut self.sets, key, extents);
+        self.tracks.mark(Track::Free, Track::InSet, more.as_slice());
         Ok(())
     }
 
     /// Cuts a set to this many tracks, from the end of its extents. A refusal changes nothing.
     pub fn trim(&mut self, key: &SetKey, tracks: usize) -> Result<(), VolumeFault>
-        ensures ok { OnOk result ((entry : SetEntry) × (entry_of self.old.sets key.now ≡ Some entry) × (self.new ≡ record {
+        ensures ok { OnOk result ((entry : SetEntry) × (map.get self.old.sets key.now ≡ Some entry) × (self.new ≡ record {
           tracks = marked Free (past_front tracks entry.extents.items) self.old.tracks;
-          sets = with_extents_of self.old.sets key.now (kept_front tracks entry.extents.items);
-        })) }
-        ensures missing { IsErr result ↔ (entry_of self.old.sets key.now ≡ None) }
+          sets = changed self.old.sets key.now (with_extents (kept_front tracks));
+        }) × Moves InSet Free (tracks_past tracks entry.extents.items) self.old.tracks self.new.tracks) }
+        ensures missing { IsErr result ↔ (map.get self.old.sets key.now ≡ None) }
         ensures fault { IfErr result (λ fault. fault ≡ VolumeFault.NameMissing) }
         ensures err { OnErr result (self.new ≡ self.old) }
     {
-        let Some(at) = place_of(&self.sets, key) else {
+        let Some(entry) = contents::find(&self.sets, key) else {
             return Err(VolumeFault::NameMissing);
         };
-        let (kept, past) = cut(self.sets[at].extents.as_slice(), tracks);
-        mark(self.tracks.as_mut_slice(), Track::Free, past.as_slice());
-        self.sets[at].extents = kept;
+        let (kept, past) = cut(entry.extents.as_slice(), tracks);
+        set_extents(&mut self.sets, key, kept);
+        self.tracks.mark(Track::InSet, Track::Free, past.as_slice());
         Ok(())
     }
+
+    /// Puts a record behind those of a set. A refusal changes nothing.
+    pub fn append(&mut self, key: &SetKey, columns: DataRecord) -> Result<(), VolumeFault>
+        ensures ok { OnOk result (self.new ≡ record self.old { sets = changed self.old.sets key.now (with_records (λ all. all ++ columns ∷ [])) }) }
+        ensures answer { AnswersWrite result (map.get self.old.sets key.now) }
+        ensures err { OnErr result (self.new ≡ self.old) }
+    {
+        contents::append(&mut self.sets, key, columns)
+    }
+
+    /// Puts a record in place of all of a set's. A refusal changes nothing, and memory is wanting only where the set had no record.
+    pub fn write_first(&mut self, key: &SetKey, columns: DataRecord) -> Result<(), VolumeFault>
+        ensures ok { OnOk result (self.new ≡ record self.old { sets = changed self.old.sets key.now (with_records (λ _. columns ∷ [])) }) }
+        ensures answer { AnswersWrite result (map.get self.old.sets key.now) }
+        ensures memory { OnErr result (LacksRecords (map.get self.old.sets key.now)) }
+        ensures err { OnErr result (self.new ≡ self.old) }
+    {
+        contents::write_first(&mut self.sets, key, columns)
+    }
+
+    /// Takes all records of a set away. A refusal changes nothing.
+    pub fn clear(&mut self, key: &SetKey) -> Result<(), VolumeFault>
+        ensures ok { OnOk result (self.new ≡ record self.old { sets = changed self.old.sets key.now (with_records (λ _. [])) }) }
+        ensures missing { IsErr result ↔ (map.get self.old.sets key.now ≡ None) }
+        ensures fault { IfErr result (λ fault. fault ≡ VolumeFault.NameMissing) }
+        ensures err { OnErr result (self.new ≡ self.old) }
+    {
+        if contents::clear(&mut self.sets, key) {
+            Ok(())
+        } else {
+            Err(VolumeFault::NameMissing)
+        }
+    }
+}
+
+/// Each volume is sound: the tracks of sets are marked so, none of them is in two extents, and all tracks marked so are of a set.
+pub fn volumes_are_sound(volume: &Volume)
+    ensures { IsSound volume.now }
+{
+    let _ = &volume.tracks;
 }

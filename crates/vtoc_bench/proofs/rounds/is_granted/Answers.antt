@@ -8,6 +8,6 @@ pub returns-in-Ok-clause-same : goal.returns-in-Ok-clause-same
 returns-in-Ok-clause-same c =
     let v : VolumeState = c.args.volume.now in
     let list = c.in-Ok.list in
-    c.give_back.ensures
+    c.give_back.ensures.state
     ∙ ap (λ (s : VolumeState). record s { tracks = marked Free list s.tracks }) c.in-Ok.ensures.aside
     ∙ ap (λ ts. record v { tracks = ts }) (planned_back v.tracks c.args.tracks list c.in-Ok.ensures.ok)

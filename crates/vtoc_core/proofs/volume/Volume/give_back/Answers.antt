@@ -1,16 +1,16 @@
-use Rattle.std.proofs.Common.{◌≡◌, subst, sym, arith}
-use Rattle.vtoc_core.specs.Volumes.{VolumeState, IsAside, marked}
+use Rattle.std.proofs.Common.{◌≡◌, ap, sym, subst, refl, ◌∙◌}
 use Rattle.vtoc_core.specs.declared.volume.Track.TheVariants.{Free, Aside}
-use Rattle.vtoc_core.proofs.MarkLemmas.{length-marked}
-use Rattle.vtoc_core.proofs.SoundLemmas.{sound_written, sound_aside, aside≢in_set, free≢in_set}
+use Rattle.vtoc_core.specs.Entries.{sets_of}
+use Rattle.vtoc_core.specs.Volumes.{AreOf, VolumeState, marked}
+use Rattle.vtoc_core.proofs.KindLemmas.{aside≢in_set, free≢in_set}
+use Rattle.vtoc_core.proofs.SoundLemmas.{sound_as, sound_aside}
 use Rattle.vtoc_core.proofs.volume.Volume.give_back.Goals as goal
 
 pub invariant_of-self : goal.invariant_of-self
 invariant_of-self c =
-    let ts = c.self.inside.tracks.items in
-    let v : VolumeState = record { tracks = ts; sets = c.self.inside.sets.items } in
-    let aside : IsAside v c.args.list = subst (λ (w : VolumeState). IsAside w c.args.list) (sym c.self.view_is) c.requires in
-    let new : c.mark.new.tracks ≡ marked Free c.args.list ts = cc in
-    sound_written c.mark.new.tracks (marked Free c.args.list ts) ts c.self.inside.tracks.len c.self.inside.sets.items new
-    (omega (arith, length-marked Free c.args.list ts))
-    (sound_aside Aside Free v c.args.list aside≢in_set free≢in_set aside c.self.invariant)
+    let v : VolumeState = record { tracks = c.self.inside.tracks; sets = sets_of c.self.inside.sets.entries } in
+    let es = c.args.list in
+    let same : c.as_slice.result.now ≡ es = cc in
+    let new : c.mark.new.self ≡ marked Free es v.tracks = c.mark.ensures.tracks ∙ ap (λ fs. marked Free fs v.tracks) same in
+    let aside : AreOf Aside v.tracks es = subst (λ (w : VolumeState). AreOf Aside w.tracks es) (sym c.self.view_is) c.requires in
+    sound_as (marked Free es v.tracks) c.mark.new.self v.sets v.sets new refl (sound_aside Aside Free v es aside≢in_set free≢in_set aside c.self.invariant)
