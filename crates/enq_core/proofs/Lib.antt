@@ -1,1 +1,3 @@
 pub mod Holders
+pub mod Meeting
+pub mod Rising

@@ -1,1 +1,3 @@
 pub mod Holds
+pub mod Marks
+pub mod Order

@@ -1,8 +1,9 @@
 //! Want of memory: a call that answers it leaves the table as it was, and succeeds when it is made again.
 ghost use Rattle.enq_core.specs.Holds.{AreWants};
 
+use crate::order::are_wants;
 use crate::table::{EnqTable, Held, Hold, HoldFault, Want};
-use crate::tests::{are_wants, holds_none, want};
+use crate::tests::{are_held, holds_none, want};
 use std::process::Abort;
 use std::test::Fail;
 
@@ -20,7 +21,8 @@ fn hold(
     match table.hold_all(job, wants) {
         Ok(held) => (held, false),
         Err(fault) => {
-            assert_eq!(rt; (fault, table.holds()), (HoldFault::Memory, before));
+            assert_eq!(rt; fault, HoldFault::Memory);
+            assert!(rt; are_held(table, before));
             assert!(rt; holds_none(table, job));
             (table.hold_all(job, wants).expect(rt, "memory"), true)
         }
@@ -63,10 +65,9 @@ fn refused_memory_holds_nothing(rt: HostRuntime) -> Result<(), Fail> {
     let (second, second_refused) = hold(&rt, &mut table, &all[..2], 2, &alone);
     let (third, third_refused) = hold(&rt, &mut table, &all[..6], 3, &shared);
     let refused = first_refused || second_refused || third_refused;
-    assert_eq!(rt; table.holds(), all);
+    assert!(rt; are_held(&table, all));
     table.release(first);
-    let others = &all[2..];
-    assert_eq!(rt; table.holds(), others);
+    assert!(rt; are_held(&table, &all[2..]));
     table.release(second);
     table.release(third);
     assert_eq!(rt; table.holds().len(), 0);

@@ -1,8 +1,10 @@
 //! The table of held names.
 ghost use Rattle.std.specs.Prelude.{◌≡◌, ◌++◌, ◌+◌, ◌≤◌, [], Err, ◌<◌, IfOk, IfNone, IfSome, OnOk, OnErr, false, length, map, min, vec_capacity, vec_len};
 ghost use Rattle.std.specs.List.{All, filter, reduce};
-ghost use Rattle.enq_core.specs.Holds.{AnswersHold, AreWants, HoldsNone, IsFirstBlock, conflicts, holds_of, is_blocked, without_job};
+ghost use Rattle.enq_core.specs.Holds.{AnswersHold, AreWants, HoldsNone, holds_of, without_job};
 
+use crate::conflict::first_block;
+use crate::marked::MarkedHold;
 use jname_core::ds_name::DsName;
 use std::alloc::{AllocError, Global};
 use std::marker::Model;
@@ -65,54 +67,23 @@ impl Held {
 /// The held names, in the order in which they were held.
 #[derive(Debug, Drop)]
 pub struct EnqTable {
-    holds: Vec<Hold>,
+    holds: Vec<MarkedHold>,
 }
 
 impl Model for EnqTable {
     ghost use Rattle.std.specs.Prelude.{List};
     ghost use Rattle.enq_core.specs.declared.table.Hold.{Hold};
+    ghost use Rattle.enq_core.specs.Order.{AreInOrder};
 
     ghost Value = { List Hold };
 
     ghost view = { λ t. t.holds.items };
-}
 
-/// Whether a hold stands in the way of a want.
-fn conflicts(want: &Want, hold: &Hold) -> bool
-    ensures { result ≡ conflicts want.now hold.now }
-{
-    hold.name == want.name && (hold.exclusive || want.exclusive)
-}
-
-/// The lowest job whose hold conflicts with a want.
-fn lowest_holder(holds: &[Hold], want: &Want) -> Option<u16>
-    ensures { result ≡ reduce min (map (λ hold. hold.job) (filter (conflicts want.now) holds.now)) }
-{
-    holds
-        .iter()
-        .filter(|hold| conflicts(want, hold))
-        .map(|hold| hold.job)
-        .min()
-}
-
-/// The first want that a hold conflicts with.
-fn first_block(holds: &[Hold], wants: &[Want]) -> Option<Blocked>
-    ensures none { IfNone result (All (λ want. is_blocked holds.now want ≡ false) wants.now) }
-    ensures some { IfSome result (IsFirstBlock holds.now wants.now) }
-{
-    for want in wants {
-        if let Some(job) = lowest_holder(holds, want) {
-            return Some(Blocked {
-                job,
-                name: want.name,
-            });
-        }
-    }
-    None
+    ghost invariant = { λ t. AreInOrder t.holds.items };
 }
 
 /// Holds the names of all these wants for a job, in room that is reserved.
-fn append(holds: &mut Vec<Hold>, job: u16, wants: &[Want])
+fn append(holds: &mut Vec<MarkedHold>, job: u16, wants: &[Want])
     requires { vec_len holds.old + length wants.now ≤ vec_capacity holds.old }
     ensures { holds.new.items ≡ holds.old.items ++ holds_of job wants.now }
 {
@@ -122,17 +93,17 @@ fn append(holds: &mut Vec<Hold>, job: u16, wants: &[Want])
             name: want.name,
             exclusive: want.exclusive,
         };
-        if holds.push(hold).is_err() {
+        if holds.push(MarkedHold::new(hold)).is_err() {
             unreachable!();
         }
     }
 }
 
 /// Gives the names of a job free, which takes no memory.
-fn release_job(holds: &mut Vec<Hold>, job: u16)
+fn release_job(holds: &mut Vec<MarkedHold>, job: u16)
     ensures { holds.new.items ≡ without_job job holds.old.items }
 {
-    holds.retain(|hold| hold.job != job);
+    holds.retain(|hold| hold.job() != job);
 }
 
 impl EnqTable {
@@ -145,7 +116,7 @@ impl EnqTable {
     }
 
     /// The held names, in the order in which they were held.
-    pub fn holds(&self) -> &[Hold]
+    pub fn holds(&self) -> &[MarkedHold]
         ensures { result.now ≡ self.now }
     {
         self.holds.as_slice()

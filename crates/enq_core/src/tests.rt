@@ -1,16 +1,13 @@
 ghost use Rattle.std.specs.Prelude.{◌≡◌, true};
-ghost use Rattle.std.specs.List.{All};
-ghost use Rattle.std.specs.Ordering.{nat_cmp};
-ghost use Rattle.std.specs.Cmp.Lexicographic.{slice_cmp};
-ghost use Rattle.std.specs.declared.cmp.Ordering.TheVariants.{Less};
-ghost use Rattle.enq_core.specs.Holds.{AreWants, HoldsNone};
+ghost use Rattle.enq_core.specs.Holds.{HoldsNone};
 
+use crate::order::are_wants;
 use crate::table::{Blocked, EnqTable, Hold, HoldFault, Want};
 use jname_core::ds_name::{DsName, read_ds_name};
 use std::process::Abort;
 use std::test::Fail;
 
-fn name(text: &str) -> Result<DsName, Fail> {
+pub(crate) fn name(text: &str) -> Result<DsName, Fail> {
     Ok(read_ds_name(text.as_bytes())?)
 }
 
@@ -21,28 +18,20 @@ pub(crate) fn want(text: &str, exclusive: bool) -> Result<Want, Fail> {
     })
 }
 
-fn comes_before_all(want: &Want, others: &[Want]) -> bool
-    ensures { result ≡ true → All (λ other. slice_cmp nat_cmp want.now.name other.name ≡ Less) others.now }
-{
-    others.iter().all(|other| want.name < other.name)
-}
-
-/// Whether the wants stand in byte order of their names, each name once.
-pub(crate) fn are_wants(wants: &[Want]) -> bool
-    ensures { result ≡ true → AreWants wants.now }
-{
-    for i in 0..wants.len() {
-        if !comes_before_all(&wants[i], &wants[i + 1..]) {
-            return false;
-        }
-    }
-    true
-}
-
 pub(crate) fn holds_none(table: &EnqTable, job: u16) -> bool
     ensures { result ≡ true → HoldsNone table.now job }
 {
-    table.holds().iter().all(|hold| hold.job != job)
+    table.holds().iter().all(|hold| hold.job() != job)
+}
+
+/// Whether these are the holds of a table, in this order.
+pub(crate) fn are_held(table: &EnqTable, holds: &[Hold]) -> bool {
+    let held = table.holds();
+    held.len() == holds.len()
+        && held
+            .iter()
+            .zip(holds)
+            .all(|(held, hold)| held.hold() == hold)
 }
 
 /// Tries to hold, gives what was held free again, and tells the fault.
@@ -85,7 +74,7 @@ fn the_lowest_holder_of_the_first_name_is_told(rt: HostRuntime) -> Result<(), Fa
         name,
         exclusive: true,
     });
-    assert_eq!(rt; table.holds(), held.as_slice());
+    assert!(rt; are_held(&table, &held));
     table.release(every);
     assert_eq!(rt; table.holds().len(), 0);
     Ok(())
