@@ -2,7 +2,7 @@
 ghost use Rattle.std.specs.Prelude.{◌≡◌, ◌<◌, ◌≤◌, ◌==◌, [], None, OnOk, OnErr, IsSome, IfOk, IfSome, Ok, Err, MatchResult, nat_lt, length, take, vec_len, slice_get, ◌↔◌, List, Some};
 ghost use Rattle.std.specs.List.{position, insert, remove};
 ghost use Rattle.group_core.specs.declared.group.Generation.{Generation};
-ghost use Rattle.group_core.specs.Groups.{GroupState, IsFalling, entered, entered_again, inserted, lowest_of, newest_of, number_or_fault, serial_of, resolved, RollsInRange, with_entered, without, GivesUnlessMemory};
+ghost use Rattle.group_core.specs.Groups.{GroupState, IsFalling, entered, entered_again, inserted, lowest_of, newest_of, number_or_fault, rolled_off, serial_of, resolved, RollsInRange, with_entered, without, GivesUnlessMemory};
 
 use jname_core::key::Sign;
 use jname_core::serial::Serial;
@@ -107,6 +107,19 @@ fn roll(generations: &mut Vec<Generation>, new: Generation)
     }
 }
 
+/// What entering a new number answers in a full group, of which this is the lowest generation.
+fn rolled_off(lowest: Option<Generation>, number: u16) -> Rolled
+    ensures { result ≡ rolled_off lowest number }
+{
+    match lowest {
+        Some(low) if low.number <= number => Rolled::Removed {
+            number: low.number,
+            serial: low.serial,
+        },
+        _ => Rolled::Lowest,
+    }
+}
+
 /// What entering a number answers that is there already, on this volume.
 fn entered_again(there: &Serial, serial: &Serial) -> Result<Rolled, GroupFault>
     ensures { result ≡ entered_again there.now serial.now }
@@ -205,6 +218,19 @@ impl Group {
             }
             _ => self.number_at(amount),
         }
+    }
+
+    /// What entering a generation would answer.
+    pub fn would_enter(&self, number: u16, serial: Serial) -> Result<Rolled, GroupFault>
+        ensures { result ≡ entered self.now number serial }
+    {
+        if let Some(there) = self.find(number) {
+            return entered_again(&there, &serial);
+        }
+        if usize::from(self.limit) <= self.generations.len() {
+            return Ok(rolled_off(self.lowest(), number));
+        }
+        Ok(Rolled::Entered)
     }
 
     /// Enters a generation: in a full group in place of the lowest. An `Err` changes nothing.

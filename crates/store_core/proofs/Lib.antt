@@ -1,3 +1,4 @@
 mod Groups
 mod Keys
+mod Placed
 mod StoreLists

@@ -23,7 +23,7 @@ same_there true y rest = refl
 same_there false y rest = refl
 
 -- a place that is another's and not the one that is taken out
-apart : (k : Key) (v : List ℕ) (key : Key) (serial : List ℕ) (x : SoloSet) → is_at key serial x ≡ false →
+pub apart : (k : Key) (v : List ℕ) (key : Key) (serial : List ℕ) (x : SoloSet) → is_at key serial x ≡ false →
     same_place k v x.key x.serial ≡ true → same_place k v key serial ≡ true → ⊥
 apart k v key serial x other here at =
     let p : (k ≡ key) × (v ≡ serial) = same_place-true k v key serial at in
@@ -65,6 +65,24 @@ module _ (key : Key) (serial : List ℕ) where
       ap (cond (same_place k v x.key x.serial) (Some x.set)) (set_in-append xs y k v)
       ∙ found_first (same_place k v x.key x.serial) x.set (set_in xs k v) (cond (same_place k v key serial) (Some y) None)
 
+  last_step : (b : Bool) (y : DataSet) (r : Option DataSet) → (b ≡ true → r ≡ None) → or_else r (cond b (Some y) None) ≡ cond b (Some y) r
+  last_step true y r h = ap (λ o. or_else o (Some y)) (h refl)
+  last_step false y None h = refl
+  last_step false y (Some z) h = refl
+
+  set_in-last : (xs : List SoloSet) (y : DataSet) → set_in xs key serial ≡ None → (k : Key) (v : List ℕ) →
+      set_in (xs ++ record { serial = serial; key = key; set = y } ∷ []) k v ≡ cond (same_place k v key serial) (Some y) (set_in xs k v)
+  set_in-last xs y h k v =
+      set_in-append xs y k v ∙ last_step (same_place k v key serial) y (set_in xs k v) (λ e. moved (same_place-true k v key serial e))
+    where
+      moved : (k ≡ key) × (v ≡ serial) → set_in xs k v ≡ None
+      moved p = (λ i. set_in xs (p.0 i) (p.1 i)) ∙ h
+
+  -- the store with a set where there was none
+  pub store-made : (s : SoloStore) (y : DataSet) → set_in s.sets key serial ≡ None →
+      store_of (record s { sets = s.sets ++ record { serial = serial; key = key; set = y } ∷ [] }) ≡ with_set (store_of s) key serial (Some y)
+  store-made s y h = λ i. record { set = λ k v. set_in-last s.sets y h k v i; catalog = λ name. entry_in s.catalog name }
+
   put_step : (b : Bool) (y : DataSet) (r : Option DataSet) → or_else (cond b None r) (cond b (Some y) None) ≡ cond b (Some y) r
   put_step true y r = refl
   put_step false y None = refl
@@ -86,7 +104,7 @@ module _ (key : Key) (serial : List ℕ) where
   store-put_set s y = λ i. record { set = λ k v. set_in-put s.sets y k v i; catalog = λ name. entry_in s.catalog name }
 
 -- the same for entries
-apart_names : (n name : List ℕ) (x : SoloEntry) → is_of name x ≡ false → bytes_eq n x.name ≡ true → bytes_eq n name ≡ true → ⊥
+pub apart_names : (n name : List ℕ) (x : SoloEntry) → is_of name x ≡ false → bytes_eq n x.name ≡ true → bytes_eq n name ≡ true → ⊥
 apart_names n name x other here at =
     let p : n ≡ name = bytes_eq-true n name at in
     true≢false (sym here ∙ ap (λ m. bytes_eq m x.name) p ∙ other)

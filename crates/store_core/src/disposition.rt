@@ -26,7 +26,8 @@ use jname_core::key::Key;
 use jname_core::serial::Serial;
 use std::alloc::{AllocError, Global};
 
-fn does(word: DispWord, change: Change) -> Disposed
+/// A word that passes nothing, and what it changes.
+pub fn does(word: DispWord, change: Change) -> Disposed
     ensures { result ≡ does word change }
 {
     Disposed {
@@ -36,7 +37,8 @@ fn does(word: DispWord, change: Change) -> Disposed
     }
 }
 
-fn catalogs_name(there: Option<Serial>, serial: Serial) -> Disposed
+/// What CATLG does to a name that is no generation, by the volume that is entered for it.
+pub fn catalogs_name(there: Option<Serial>, serial: Serial) -> Disposed
     ensures { result ≡ catalogs_name there serial }
 {
     match there {
@@ -73,7 +75,8 @@ fn uncatalogs(here: bool) -> Disposed
     }
 }
 
-fn word_does(word: Word, stays: bool, by_catalog: bool, here: bool, catlg: Disposed) -> Disposed
+/// What a word does to a set that is there: whether it stays, was found by the catalog, is entered here, and what CATLG does.
+pub fn word_does(word: Word, stays: bool, by_catalog: bool, here: bool, catlg: Disposed) -> Disposed
     ensures { result ≡ word_does word stays by_catalog here catlg }
 {
     match word {
@@ -89,7 +92,8 @@ fn word_does(word: Word, stays: bool, by_catalog: bool, here: bool, catlg: Dispo
     }
 }
 
-fn is_entered_on(there: Option<Serial>, serial: Serial) -> bool
+/// Whether this volume is the one that is entered.
+pub fn is_entered_on(there: Option<Serial>, serial: Serial) -> bool
     ensures { result ≡ is_entered_on there serial }
 {
     match there {

@@ -2,7 +2,9 @@
 //! the order of faults is this profile's)
 #![tactic(auto)]
 
+pub mod alone;
 pub mod disposition;
+pub mod job_store;
 pub mod meanings;
 pub mod source;
 pub mod store;

@@ -1,5 +1,5 @@
 //! What a store has: its sets, by volume and key, and its catalog.
-ghost use Rattle.std.specs.Prelude.{◌≡◌, ◌<◌, ◌≤◌, Some, None, IfSome, OnOk, OnSome, length};
+ghost use Rattle.std.specs.Prelude.{◌≡◌, ◌<◌, ◌≤◌, ◌++◌, ◌∷◌, [], Some, None, IfSome, OnErr, OnOk, OnSome, length, vec_capacity, vec_len};
 ghost use Rattle.std.specs.Option.{option_copied};
 ghost use Rattle.group_core.specs.Entries.{volume_in};
 ghost use Rattle.group_core.specs.Groups.{without};
@@ -23,22 +23,23 @@ use plain::listed::Listed;
 use std::alloc::{AllocError, Global};
 use std::mem;
 
-fn is_at(key: &Key, serial: Serial, x: &SoloSet) -> bool
+pub(crate) fn is_at(key: &Key, serial: Serial, x: &SoloSet) -> bool
     ensures { result ≡ is_at key.now serial x.now }
 {
     same_key(key, &x.key) && serial.as_slice() == x.serial.as_slice()
 }
 
-fn is_of(name: &DsName, x: &SoloEntry) -> bool
+pub(crate) fn is_of(name: &DsName, x: &SoloEntry) -> bool
     ensures { result ≡ is_of name.now x.now }
 {
     name.as_slice() == x.name.as_slice()
 }
 
-fn is_later(set: &DataSet, date: Day) -> bool
-    ensures { result ≡ is_later set.now.expires date }
+/// Whether a set's day, if it has one, is later than today.
+pub fn is_later(expires: Option<u32>, date: Day) -> bool
+    ensures { result ≡ is_later expires date }
 {
-    match set.expires {
+    match expires {
         None => false,
         Some(day) => date.number() < day,
     }
@@ -72,7 +73,7 @@ pub(crate) fn is_unexpired(store: &SoloStore, key: &Key, serial: Serial, date: D
 {
     match set_in(store, key, serial) {
         None => false,
-        Some(set) => is_later(set, date),
+        Some(set) => is_later(set.expires, date),
     }
 }
 
@@ -188,9 +189,36 @@ fn drop_sets(sets: &mut Vec<SoloSet>, key: &Key, serial: Serial)
 }
 
 fn drop_entries(entries: &mut Vec<SoloEntry>, name: &DsName)
-    ensures { entries.new.items ≡ without_entries entries.old.items name.now }
+    ensures value { entries.new.items ≡ without_entries entries.old.items name.now }
+    ensures capacity { vec_capacity entries.new ≡ vec_capacity entries.old }
+    ensures count { vec_len entries.new ≤ vec_len entries.old }
 {
     entries.retain(|x| !is_of(name, x));
+}
+
+/// Puts an entry behind the others, in room that there is.
+fn add_entry(entries: &mut Vec<SoloEntry>, entry: SoloEntry)
+    requires { vec_len entries.old < vec_capacity entries.old }
+    ensures { entries.new.items ≡ entries.old.items ++ entry ∷ [] }
+{
+    if entries.push(entry).is_err() {
+        unreachable!();
+    }
+}
+
+/// Puts an entry in place of any of its name. An `Err` changes nothing.
+fn replace_entry(
+    entries: &mut Vec<SoloEntry>,
+    name: &DsName,
+    entry: CatEntry,
+) -> Result<(), AllocError>
+    ensures ok { OnOk result (entries.new.items ≡ without_entries entries.old.items name.now ++ record { name = name.now; entry = entry } ∷ []) }
+    ensures err { OnErr result (entries.new.items ≡ entries.old.items) }
+{
+    entries.reserve(1)?;
+    drop_entries(entries, name);
+    add_entry(entries, SoloEntry { name: *name, entry });
+    Ok(())
 }
 
 /// A group without a number.
@@ -253,7 +281,8 @@ pub fn change_set(
     }
 }
 
-fn remove_entry(alloc: Global, store: &mut SoloStore, name: &DsName)
+/// Takes the entry of a name out of the catalog.
+pub(crate) fn remove_entry(alloc: Global, store: &mut SoloStore, name: &DsName)
     ensures entry { store_of store.new ≡ with_entry (store_of store.old) name.now None }
     ensures others { store.new ≡ record store.old { catalog = without_entries store.old.catalog name.now } }
 {
@@ -269,10 +298,13 @@ pub(crate) fn put_entry(
     entry: CatEntry,
 ) -> Result<(), AllocError>
     ensures entry { OnOk result (store_of store.new ≡ with_entry (store_of store.old) name.now (Some entry)) }
-    ensures others { OnOk result (store.new.volumes ≡ store.old.volumes) }
+    ensures err { OnErr result (store_of store.new ≡ store_of store.old) }
+    ensures others { store.new.volumes ≡ store.old.volumes }
 {
-    remove_entry(alloc, store, name);
-    store.catalog.push(SoloEntry { name: *name, entry })?;
+    let mut entries = mem::replace(&mut store.catalog, Listed::empty(alloc)).into_vec();
+    let put = replace_entry(&mut entries, name, entry);
+    store.catalog = Listed::new(entries);
+    put?;
     Ok(())
 }
 

@@ -17,7 +17,8 @@ use jcl_plan::plan::{Expiry, Status, VolumePlan};
 use jname_core::key::Key;
 use jname_core::serial::Serial;
 
-fn at_or_lost(serial: Option<Serial>) -> Where
+/// A place on a volume, if there is one.
+pub fn at_or_lost(serial: Option<Serial>) -> Where
     ensures { result ≡ at_or_lost serial }
 {
     match serial {
@@ -39,7 +40,7 @@ pub fn first_passed(passed: &[Passed], key: &Key) -> Option<Passed>
 }
 
 /// The volume on which a DD's set was taken.
-fn dd_volume(volumes: &[DdVolume], step: usize, dd: usize) -> Option<Serial>
+pub fn dd_volume(volumes: &[DdVolume], step: usize, dd: usize) -> Option<Serial>
     ensures { result ≡ dd_volume volumes.now step dd }
 {
     for x in volumes {

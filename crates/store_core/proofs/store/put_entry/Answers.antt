@@ -3,4 +3,5 @@ use Rattle.store_core.proofs.store.put_entry.Goals as goal
 
 pub returns-clause-entry : goal.returns-clause-entry
 returns-clause-entry c =
-    rw (c.in_ok-push.ensures.ok, c.remove_entry.ensures.others) (store-put_entry c.args.name.now c.args.store.now c.args.entry)
+    rw (c.new.ensures, c.in_ok-put.ensures.ok, c.into_vec-entries.ensures, c.replace.ensures.value)
+    (store-put_entry c.args.name.now c.args.store.now c.args.entry)

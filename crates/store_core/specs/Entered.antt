@@ -1,0 +1,13 @@
+-- An entry of the catalog that is a group, changed.
+use Rattle.std.specs.Prelude.{ℕ, List}
+use Rattle.group_core.specs.declared.entry.CatEntry.{CatEntry}
+use Rattle.group_core.specs.declared.entry.CatEntry.TheVariants.{Volume, Group}
+use Rattle.group_core.specs.Groups.{with_entered, without}
+
+abbrev pub entry_without : CatEntry → ℕ → CatEntry
+entry_without (Volume there) number = Volume there
+entry_without (Group g) number = Group (record g { generations = without g.generations number })
+
+abbrev pub entry_with : CatEntry → ℕ → List ℕ → CatEntry
+entry_with (Volume there) number serial = Volume there
+entry_with (Group g) number serial = Group (with_entered g number serial)
