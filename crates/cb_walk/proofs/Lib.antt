@@ -1,3 +1,4 @@
+mod Passing
 mod Several
 mod Trims
 mod Earlier

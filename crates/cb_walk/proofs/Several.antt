@@ -1,11 +1,8 @@
 -- Bytes in parts, and the bytes of a record one by one.
-use Rattle.std.proofs.Common.{◌≡◌, ℕ, zero, suc, ◌+◌, ◌-◌, ◌<◌, ◌==◌, Bool, ◌&&◌, ◌||◌, List, length, take, drop, get_or, refl, ap, arith}
+use Rattle.std.proofs.Common.{◌≡◌, ℕ, zero, suc, ◌-◌, ◌<◌, ◌==◌, Bool, ◌&&◌, ◌||◌, List, take, drop, refl, arith}
 use Rattle.std.proofs.lemmas.Bool.{lt-ltb}
-use Rattle.std.proofs.lemmas.List.{drop_more}
 use Rattle.std.specs.Prelude.{nat_lt}
 use Rattle.std.specs.List.{list_all, list_any}
-use Rattle.cb_meaning.specs.declared.layout.Field.{Field}
-use Rattle.cb_meaning.specs.Fields.{is_in, zero_from}
 use Rattle.cb_meaning.specs.Walks.{are_zero, in_parts}
 
 one_less : (n : ℕ) → suc n - 1 ≡ n
@@ -26,8 +23,3 @@ pub zero_more : (count parts width : ℕ) (bytes : List ℕ) → 0 < parts →
 zero_more count zero width bytes k = absurd (omega arith)
 zero_more zero (suc parts) width bytes k = rw (one_less parts) refl
 zero_more (suc count) (suc parts) width bytes k = rw (one_less count) (rw (one_less parts) (rw (lt-ltb 0 (suc count) (omega arith)) refl))
-
--- one byte more
-pub zero_step : (named : List Field) (bytes : List ℕ) (k : ℕ) → k < length bytes →
-    zero_from named k (drop k bytes) ≡ ((list_any (λ f. is_in f k) named || get_or bytes k 0 == 0) && zero_from named (k + 1) (drop (k + 1) bytes))
-zero_step named bytes k h = ap (zero_from named k) (drop_more bytes k 0 h)

@@ -22,7 +22,7 @@ fn without(r: &Rec, f: Field) -> Rec
 }
 
 /// A record as it is seen, with a link of zeros; none where it is free.
-pub(crate) fn record_at<S: RecordStore>(store: &S, n: u32) -> Option<Rec>
+pub fn record_at<S: RecordStore>(store: &S, n: u32) -> Option<Rec>
     ensures { result ≡ record_at (S.queue store.now) n }
 {
     let layout = store.layout();
@@ -50,7 +50,8 @@ fn owner_in(r: &Option<Rec>) -> u16
     }
 }
 
-fn bytes_or_zeros(r: Option<Rec>) -> Rec
+/// The bytes of a record, zeros where there is none.
+pub fn bytes_or_zeros(r: Option<Rec>) -> Rec
     ensures { result ≡ bytes_or_zeros r }
 {
     match r {

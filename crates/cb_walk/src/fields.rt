@@ -1,7 +1,7 @@
 //! The fields of a record, outside of which it is zero.
-ghost use Rattle.std.specs.Prelude.{◌≡◌, ◌||◌, ◌==◌};
-ghost use Rattle.std.specs.List.{list_any};
+ghost use Rattle.std.specs.Prelude.{◌≡◌};
 ghost use Rattle.cb_meaning.specs.Fields.{field, is_in, is_zero_but};
+ghost use Rattle.cb_walk.specs.Ends.{end_in};
 
 use cb_meaning::layout::Field;
 
@@ -19,27 +19,32 @@ fn is_in(f: &Field, k: usize) -> bool
     at <= k && k < at + usize::from(f.width)
 }
 
-fn is_in_any(named: &[Field], k: usize) -> bool
-    ensures { result ≡ list_any (λ f. is_in f k) named.now }
+/// Where the first of these fields ends that has a byte, if one has it.
+fn end_in(named: &[Field], k: usize) -> Option<usize>
+    ensures { result ≡ end_in named.now k }
 {
-    named.iter().any(|f| is_in(f, k))
+    for f in named {
+        if is_in(f, k) {
+            return Some(usize::from(f.at) + usize::from(f.width));
+        }
+    }
+    None
 }
 
-/// Whether a byte is in one of these fields, or zero.
-fn is_fine(named: &[Field], k: usize, b: u8) -> bool
-    ensures { result ≡ (list_any (λ f. is_in f k) named.now || b == 0) }
-{
-    is_in_any(named, k) || b == 0
-}
-
-/// Whether every byte outside of these fields is zero.
-#[tactic(auto, using(crate::proofs::Several::zero_step))]
+/// Whether every byte outside of these fields is zero. Where a byte is not zero, the field that has it is passed over.
+#[tactic(auto, using(crate::proofs::Passing::zero_step))]
 pub(crate) fn is_zero_but(named: &[Field], bytes: &[u8]) -> bool
     ensures { result ≡ is_zero_but named.now bytes.now }
 {
-    for (k, b) in bytes.iter().enumerate() {
-        if !is_fine(named, k, *b) {
-            return false;
+    let mut k = 0;
+    while k < bytes.len() {
+        if bytes[k] == 0 {
+            k += 1;
+        } else {
+            match end_in(named, k) {
+                Some(end) => k = end,
+                None => return false,
+            }
         }
     }
     true

@@ -1,7 +1,7 @@
 //! Strict reading of a job's records: the number of the first fault that the walk meets, or none. (This profile)
 #![tactic(auto)]
 
-mod arrival;
+pub mod arrival;
 mod cards;
 mod dd;
 mod fields;
@@ -13,7 +13,7 @@ mod sets;
 mod step;
 #[cfg(test)]
 mod tests;
-mod texts;
+pub mod texts;
 mod walk_below;
 mod walk_cards;
 mod walk_dds;

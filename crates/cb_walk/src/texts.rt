@@ -22,14 +22,14 @@ fn trimmed_len(text: &[u8]) -> usize
 }
 
 /// A text without the blanks at its end.
-pub(crate) fn trimmed(text: &[u8]) -> &[u8]
+pub fn trimmed(text: &[u8]) -> &[u8]
     ensures { result.now ≡ trimmed text.now }
 {
     &text[..trimmed_len(text)]
 }
 
 /// Whether there are blanks alone.
-pub(crate) fn is_blank(text: &[u8]) -> bool
+pub fn is_blank(text: &[u8]) -> bool
     ensures { result ≡ is_blank text.now }
 {
     text.iter().all(|c| *c == b' ')

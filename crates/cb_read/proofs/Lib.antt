@@ -1,0 +1,4 @@
+pub mod Chained
+pub mod InRange
+pub mod Parts
+pub mod Sound

@@ -1,0 +1,46 @@
+use Rattle.std.proofs.Common.{◌++◌, ◌∙◌, ap, [], ◌∷◌, sym, subst, ℕ}
+use Rattle.cb_meaning.specs.Fields.{number_at}
+use Rattle.cb_meaning.specs.Readings.{dds_read}
+use Rattle.jcl_plan.specs.declared.plan.DdPlan.{DdPlan}
+use Rattle.cb_queue.specs.RecordQueues.{RecordQueue, shown}
+use Rattle.cb_read.specs.Chains.{dd_of, dds_from}
+use Rattle.cb_read.specs.Ranges.{IsDdInRange}
+use Rattle.cb_read.proofs.Chained.{all_read, dds_chain, item_in_range, more_read, none_follows, rest_in_range}
+use Rattle.cb_read.proofs.dds.dds_read.Goals as goal
+
+abbrev item : RecordQueue → ℕ → DdPlan
+item q n = dd_of q ((shown q).at n)
+
+abbrev next : RecordQueue → ℕ → ℕ
+next q n = number_at ((shown q).at n) q.layout.next_dd
+
+pub returns-then-n-eq0 : goal.returns-then-n-eq0
+returns-then-n-eq0 g c =
+    let q = g.S.RecordStore.queue c.args.store.now in
+    none_follows (dds_read q.layout (shown q)) (λ n. item q n ∷ []) (next q) (dds_chain q.layout (shown q)) (dds_from q c.args.first) c.loop-left.dds
+    c.loop-left.left c.loop-left.n c.loop-left.invariant.whole c.loop-left-test.true c.if-n-eq0.true
+
+pub dd_read-requires : goal.dd_read-requires
+dd_read-requires g c =
+    let q = g.S.RecordStore.queue c.args.store.now in
+    subst (λ r. IsDdInRange (dd_of q r)) (sym c.record-r.ensures)
+    (item_in_range (dds_read q.layout (shown q)) (item q) (next q) (dds_chain q.layout (shown q)) c.loop-left.left c.loop-left.n c.loop-left-test.true
+    c.if-n-eq0.false IsDdInRange c.loop-left.invariant.range)
+
+pub loop-left-preserved : goal.loop-left-preserved
+loop-left-preserved g c =
+    let q = g.S.RecordStore.queue c.args.store.now in
+    let on = c.number-n.ensures.value ∙ (λ i. number_at (c.record-r.ensures i) ((c.layout-layout.ensures.value i).next_dd)) in
+    record {
+      range = rest_in_range (dds_read q.layout (shown q)) (item q) (next q) (dds_chain q.layout (shown q)) c.loop-left.left c.loop-left.n c.loop-left-test.true
+          c.if-n-eq0.false IsDdInRange c.loop-left.invariant.range c.number-n.result on;
+      whole = more_read (dds_read q.layout (shown q)) (λ n. item q n ∷ []) (next q) (dds_chain q.layout (shown q)) (dds_from q c.args.first) c.loop-left.dds
+          c.loop-left.left c.loop-left.n c.loop-left.invariant.whole c.push.new.self c.number-n.result c.loop-left-test.true c.if-n-eq0.false
+          (c.in_ok-push.ensures.ok ∙ ap (λ x. c.loop-left.dds ++ x ∷ []) (c.in_ok-dd_read.ensures ∙ ap (dd_of q) c.record-r.ensures)) on;
+    }
+
+pub returns : goal.returns
+returns g c =
+    let q = g.S.RecordStore.queue c.args.store.now in
+    all_read (dds_read q.layout (shown q)) (λ n. item q n ∷ []) (next q) (dds_chain q.layout (shown q)) (dds_from q c.args.first) c.loop-left.dds
+    c.loop-left.left c.loop-left.n c.loop-left.invariant.whole c.loop-left-test.false

@@ -1,0 +1,16 @@
+//! A job's plan, read from its records. (This profile)
+#![tactic(auto)]
+
+mod cards;
+mod codes;
+mod dds;
+mod head;
+pub mod laws;
+mod names;
+pub mod read;
+mod records;
+mod set;
+mod steps;
+#[cfg(test)]
+mod tests;
+mod tests_read;

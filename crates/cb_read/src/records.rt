@@ -1,0 +1,22 @@
+//! The records of a store.
+ghost use Rattle.std.specs.Prelude.{◌≡◌};
+ghost use Rattle.cb_queue.specs.RecordQueues.{shown};
+ghost use Rattle.walk_laws.specs.WalkLaws.{AreRecords};
+
+use cb_queue::store::RecordStore;
+use cb_records::rec::Rec;
+use cb_walk::arrival::{bytes_or_zeros, record_at};
+
+/// A record by its number, zeros where it is free.
+pub(crate) fn record<S: RecordStore>(store: &S, n: u32) -> Rec
+    ensures { result ≡ (shown (S.queue store.now)).at n }
+{
+    bytes_or_zeros(record_at(store, n))
+}
+
+/// Each record of a store is whole and of bytes.
+pub(crate) fn are_records<S: RecordStore>(store: &S)
+    ensures { AreRecords (shown (S.queue store.now)) }
+{
+    let _layout = store.layout();
+}
