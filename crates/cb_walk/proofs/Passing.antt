@@ -5,7 +5,7 @@ use Rattle.std.proofs.lemmas.List.{drop_all, drop_more}
 use Rattle.std.specs.List.{list_any}
 use Rattle.cb_meaning.specs.declared.layout.Field.{Field}
 use Rattle.cb_meaning.specs.Fields.{is_in, zero_from}
-use Rattle.cb_walk.specs.Ends.{end_in}
+use Rattle.cb_walk.specs.Ends.{AreZero, end_in}
 
 abbrev pub has : List Field → ℕ → Bool
 has named k = list_any (λ f. is_in f k) named
@@ -95,3 +95,34 @@ broken_at named bytes k h n e =
     zero_step named bytes k h
     ∙ ap (λ b. (b || get_or bytes k 0 == 0) && zero_from named (k + 1) (drop (k + 1) bytes)) (has_none named k e)
     ∙ ap (λ b. b && zero_from named (k + 1) (drop (k + 1) bytes)) (ne_eqb (get_or bytes k 0) 0 n)
+
+-- what is left behind a run of zeros
+zeros_passed : (named : List Field) (bytes : List ℕ) (d k : ℕ) → k + d ≤ length bytes → ((j : ℕ) → j < d → get_or bytes (k + j) 0 ≡ 0) →
+    zero_from named k (drop k bytes) ≡ zero_from named (k + d) (drop (k + d) bytes)
+zeros_passed named bytes zero k within h = ap (λ n. zero_from named n (drop n bytes)) (same k)
+  where
+    same : (k : ℕ) → k ≡ k + 0
+    same k = omega (arith)
+zeros_passed named bytes (suc d) k within h =
+    zero_step named bytes k (omega (arith, within))
+    ∙ ap (λ b. (has named k || b == 0) && zero_from named (k + 1) (drop (k + 1) bytes)) (subst (λ n. get_or bytes n 0 ≡ 0) (first k) (h 0 (omega (arith))))
+    ∙ one_true (has named k) (zero_from named (k + 1) (drop (k + 1) bytes))
+    ∙ zeros_passed named bytes d (k + 1) (omega (arith, within)) (λ j to. subst (λ n. get_or bytes n 0 ≡ 0) (shift k j) (h (suc j) (omega (arith, to))))
+    ∙ ap (λ n. zero_from named n (drop n bytes)) (next k d)
+  where
+    first : (k : ℕ) → k + 0 ≡ k
+    first k = omega (arith)
+
+    shift : (k j : ℕ) → k + suc j ≡ k + 1 + j
+    shift k j = omega (arith)
+
+    next : (k d : ℕ) → k + 1 + d ≡ k + suc d
+    next k d = omega (arith)
+
+    one_true : (a b : Bool) → ((a || true) && b) ≡ b
+    one_true true b = refl
+    one_true false b = refl
+
+pub behind_zeros : (named : List Field) (bytes : List ℕ) (k n : ℕ) → AreZero bytes k n →
+    zero_from named k (drop k bytes) ≡ zero_from named (k + n) (drop (k + n) bytes)
+behind_zeros named bytes k n z = zeros_passed named bytes n k z.within z.zero

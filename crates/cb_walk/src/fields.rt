@@ -1,7 +1,7 @@
 //! The fields of a record, outside of which it is zero.
-ghost use Rattle.std.specs.Prelude.{◌≡◌};
+ghost use Rattle.std.specs.Prelude.{◌≡◌, ◌<◌, length, true};
 ghost use Rattle.cb_meaning.specs.Fields.{field, is_in, is_zero_but};
-ghost use Rattle.cb_walk.specs.Ends.{end_in};
+ghost use Rattle.cb_walk.specs.Ends.{AreZero, end_in};
 
 use cb_meaning::layout::Field;
 
@@ -31,6 +31,27 @@ fn end_in(named: &[Field], k: usize) -> Option<usize>
     None
 }
 
+/// Whether eight bytes are there from one on, and are zero.
+fn are_eight_zero(bytes: &[u8], k: usize) -> bool
+    requires { k < length bytes.now }
+    ensures { result ≡ true → AreZero bytes.now k 8 }
+{
+    if bytes.len() - k < 8 {
+        return false;
+    }
+    let eight = [
+        bytes[k],
+        bytes[k + 1],
+        bytes[k + 2],
+        bytes[k + 3],
+        bytes[k + 4],
+        bytes[k + 5],
+        bytes[k + 6],
+        bytes[k + 7],
+    ];
+    u64::from_le_bytes(eight) == 0
+}
+
 /// Whether every byte outside of these fields is zero. Where a byte is not zero, the field that has it is passed over.
 #[tactic(auto, using(crate::proofs::Passing::zero_step))]
 pub(crate) fn is_zero_but(named: &[Field], bytes: &[u8]) -> bool
@@ -38,7 +59,9 @@ pub(crate) fn is_zero_but(named: &[Field], bytes: &[u8]) -> bool
 {
     let mut k = 0;
     while k < bytes.len() {
-        if bytes[k] == 0 {
+        if are_eight_zero(bytes, k) {
+            k += 8;
+        } else if bytes[k] == 0 {
             k += 1;
         } else {
             match end_in(named, k) {

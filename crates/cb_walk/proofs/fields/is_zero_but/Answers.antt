@@ -1,5 +1,5 @@
 use Rattle.std.proofs.Common.{sym, ◌∙◌, arith}
-use Rattle.cb_walk.proofs.Passing.{Covers, behind_field, broken_at, covers}
+use Rattle.cb_walk.proofs.Passing.{Covers, behind_field, behind_zeros, broken_at, covers}
 use Rattle.cb_walk.proofs.fields.is_zero_but.Goals as goal
 
 pub loop-k-smaller : goal.loop-k-smaller
@@ -14,3 +14,7 @@ loop-k-preserved c =
 pub returns-in-None : goal.returns-in-None
 returns-in-None c =
     sym (c.loop-k.invariant ∙ broken_at c.args.named.now c.args.bytes.now c.loop-k.k c.loop-k-test.true c.if-bytes-k-eq0.false (sym c.in-None.ensures))
+
+pub loop-k-preserved-then-are_eight_zero : goal.loop-k-preserved-then-are_eight_zero
+loop-k-preserved-then-are_eight_zero c =
+    c.loop-k.invariant ∙ behind_zeros c.args.named.now c.args.bytes.now c.loop-k.k 8 (c.are_eight_zero.ensures c.if-are_eight_zero.true)
