@@ -1,1 +1,6 @@
 mod Entering
+mod Passes
+mod Silent
+mod Backs
+mod Granted
+mod Taking

@@ -1,0 +1,144 @@
+//! The start of a step, its end, and the job's end. (GC28-6704, COND parameter)
+ghost use Rattle.std.specs.Prelude.{◌≡◌, ◌++◌, ◌∷◌, [], None, OnErr, OnOk, Some, IfOk};
+ghost use Rattle.jcl_plan.specs.declared.entry.JobLine.TheVariants as line;
+ghost use Rattle.jcl_meaning.specs.EndActs.{end_line, finished, passed_after};
+ghost use Rattle.jcl_meaning.specs.States.{at_step, goes};
+ghost use Rattle.jcl_meaning.specs.TakeActs.{started};
+ghost use Rattle.disp_core.specs.Courses.{CarriedAside, CarriedEnd, fixed_by};
+
+use crate::course::{Course, Given};
+use jcl_meaning::ending::{as_ending, end_line, marked_later};
+use jcl_meaning::history::{abended, fate, is_abend, is_run, some_satisfied};
+use jcl_meaning::state::{Ended, Own};
+use jcl_plan::entry::JobLine;
+use jcl_plan::outcome::{Abend, Outcome};
+use jcl_plan::plan::StepPlan;
+use std::alloc::{AllocError, Global};
+
+/// A step begins, or is passed over.
+fn enter_step(own: &mut Own, runs: bool)
+    ensures { own.new ≡ at_step own.old runs }
+{
+    own.runs = runs;
+    own.over = None;
+    own.dds.clear();
+    own.due = None;
+    own.lines = 0;
+}
+
+/// The start of a step. An `Err` changes nothing.
+pub fn begin(
+    given: &Given,
+    course: &mut Course,
+    n: usize,
+    step: &StepPlan,
+) -> Result<(), AllocError>
+    ensures ok { OnOk result (CarriedAside (λ s. started (fixed_by given.now) n step.now s) course.old course.new) }
+    ensures err { OnErr result (course.new ≡ course.old) }
+{
+    let ended = course.own.ended.as_slice();
+    let fate = fate(
+        course.own.faulted,
+        some_satisfied(ended, given.job_tests),
+        step.after_abend,
+        abended(ended),
+        some_satisfied(ended, step.tests.as_slice()),
+    );
+    course.say(JobLine::Step {
+        step: n,
+        name: step.name,
+        procedure_step: step.procedure_step,
+        fate,
+    })?;
+    enter_step(&mut course.own, is_run(fate));
+    Ok(())
+}
+
+/// Enters how a step ended. An `Err` changes nothing.
+fn end_with(alloc: Global, own: &mut Own, n: usize, outcome: &Outcome) -> Result<(), AllocError>
+    ensures ok { OnOk result (own.new ≡ record own.old {
+      passed = passed_after outcome.now n own.old.passed;
+      ended = record { step = n; outcome = outcome.now } ∷ own.old.ended;
+      over = Some outcome.now;
+      due = None;
+      lines = 0;
+    }) }
+    ensures err { OnErr result (own.new ≡ own.old) }
+{
+    if is_abend(*outcome) {
+        let marked = marked_later(alloc, n, own.passed.as_slice())?;
+        own.ended.push_front(Ended {
+            step: n,
+            outcome: *outcome,
+        })?;
+        own.passed = marked;
+    } else {
+        own.ended.push_front(Ended {
+            step: n,
+            outcome: *outcome,
+        })?;
+    }
+    own.over = Some(*outcome);
+    own.due = None;
+    own.lines = 0;
+    Ok(())
+}
+
+/// Enters how a program ended, with its line. An `Err` changes nothing.
+fn end_by(alloc: Global, course: &mut Course, n: usize, outcome: &Outcome) -> Result<(), AllocError>
+    ensures ok { OnOk result (course.new ≡ record {
+      own = record course.old.own {
+        passed = passed_after outcome.now n course.old.own.passed;
+        ended = record { step = n; outcome = outcome.now } ∷ course.old.own.ended;
+        over = Some outcome.now;
+        due = None;
+        lines = 0;
+      };
+      lines = course.old.lines ++ end_line outcome.now ∷ [];
+    }) }
+    ensures err { OnErr result (course.new ≡ course.old) }
+{
+    course.say(end_line(outcome))?;
+    match end_with(alloc, &mut course.own, n, outcome) {
+        Ok(()) => Ok(()),
+        Err(error) => {
+            course.unsay();
+            Err(error)
+        }
+    }
+}
+
+/// The end of a step: of its program, if that has not ended, by this outcome, or by a cancel in its place. An `Err` changes nothing.
+pub fn finish(
+    alloc: Global,
+    course: &mut Course,
+    n: usize,
+    outcome: &Outcome,
+    cancelled: bool,
+) -> Result<(), AllocError>
+    ensures ok { OnOk result (CarriedEnd (λ s. finished n s) outcome.now cancelled course.old course.new) }
+    ensures err { OnErr result (course.new ≡ course.old) }
+{
+    if !course.own.runs {
+        return Ok(());
+    }
+    let over = course.own.over;
+    match &over {
+        Some(over) => end_with(alloc, &mut course.own, n, over),
+        None => {
+            if cancelled {
+                end_by(alloc, course, n, &Outcome::Abend(Abend::S222))
+            } else {
+                end_by(alloc, course, n, &as_ending(outcome))
+            }
+        }
+    }
+}
+
+/// The job's end. An `Err` changes nothing.
+pub fn end(course: &mut Course) -> Result<(), AllocError>
+    ensures ok { OnOk result (CarriedAside (λ s. goes (line.End ∷ []) s) course.old course.new) }
+    ensures err { OnErr result (course.new ≡ course.old) }
+{
+    course.say(JobLine::End)
+}
