@@ -50,7 +50,8 @@ fn program_of<'a>(programs: &'a [SoloProgram], name: &Name8) -> Option<&'a SoloP
     None
 }
 
-fn is_iefbr14(name: &Name8) -> bool
+/// Whether this is the program that does nothing and ends with code 0.
+pub fn is_iefbr14(name: &Name8) -> bool
     ensures { result ≡ is_iefbr14 name.now }
 {
     name.as_slice() == b"IEFBR14".as_slice()
@@ -74,7 +75,8 @@ fn moves_in(alloc: Global, requests: &[Request]) -> Result<Vec<Move>, AllocError
     Ok(moves)
 }
 
-fn ending_in(requests: &[Request]) -> Outcome
+/// How a program of these requests ends.
+pub fn ending_in(requests: &[Request]) -> Outcome
     ensures { result ≡ ending_in requests.now }
 {
     for request in requests {

@@ -1,0 +1,3 @@
+pub mod MoveLemmas
+pub mod OperationLemmas
+pub mod PlaceLemmas

@@ -1,0 +1,4 @@
+pub mod Moves
+pub mod Numbers
+pub mod Operations
+pub mod Places

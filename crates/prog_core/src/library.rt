@@ -1,0 +1,116 @@
+//! The programs of a session, each by its name.
+ghost use Rattle.std.specs.Prelude.{◌≡◌, ◌++◌, ◌∷◌, [], None, OnOk, OnErr, is_some, length, slice_get};
+ghost use Rattle.std.specs.Option.{option_map};
+ghost use Rattle.jcl_meaning.specs.Programs.{ending_of, moves_of, program_of};
+
+use crate::counted::CountedProgram;
+use jcl_meaning::program::{Move, SoloProgram, is_iefbr14};
+use jcl_plan::outcome::{Abend, Code, Outcome};
+use jname_core::name8::Name8;
+use std::alloc::{AllocError, Global};
+use std::collections::BTreeMap;
+use std::marker::Model;
+
+/// The programs in the order in which they were added; one is found by its name without going through them all, and so is each record
+/// that it moves.
+#[derive(Debug, Drop)]
+pub struct ProgramLibrary {
+    list: Vec<CountedProgram>,
+    places: BTreeMap<Name8, usize>,
+}
+
+impl Model for ProgramLibrary {
+    ghost use Rattle.std.specs.Prelude.{List};
+    ghost use Rattle.jcl_meaning.specs.declared.program.SoloProgram.{SoloProgram};
+    ghost use Rattle.prog_core.specs.Places.{ArePlacesOf};
+
+    ghost Value = { List SoloProgram };
+
+    ghost view = { λ l. l.list.items };
+
+    ghost invariant = { λ l. ArePlacesOf l.places l.list.items };
+}
+
+impl ProgramLibrary {
+    /// A library without programs.
+    pub fn new(alloc: Global) -> ProgramLibrary
+        ensures { result ≡ [] }
+    {
+        ProgramLibrary {
+            list: Vec::new(alloc),
+            places: BTreeMap::new(alloc),
+        }
+    }
+
+    pub fn has(&self, name: &Name8) -> bool
+        ensures { result ≡ is_some (program_of self.now name.now) }
+    {
+        self.places.contains_key(name)
+    }
+
+    /// Adds a program of a new name. An `Err` changes nothing.
+    pub fn add(&mut self, program: SoloProgram) -> Result<(), AllocError>
+        requires { program_of self.old program.name ≡ None }
+        ensures ok { OnOk result (self.new ≡ self.old ++ program ∷ []) }
+        ensures err { OnErr result (self.new ≡ self.old) }
+    {
+        let name = program.name;
+        let counted = CountedProgram::new(program);
+        self.list.reserve(1)?;
+        let Ok(_) = self.places.insert(name, self.list.len()) else {
+            return Err(AllocError);
+        };
+        let Ok(()) = self.list.push(counted) else {
+            unreachable!();
+        };
+        Ok(())
+    }
+
+    fn find(&self, name: &Name8) -> Option<&CountedProgram>
+        ensures { option_map (λ p. p.now.requests) result ≡ program_of self.now name.now }
+    {
+        match self.places.get(name) {
+            Some(place) => self.list.get(*place),
+            None => None,
+        }
+    }
+
+    /// How many records a step's program moves.
+    pub fn move_count(&self, name: &Name8) -> usize
+        ensures { result ≡ length (moves_of self.now name.now) }
+    {
+        if is_iefbr14(name) {
+            return 0;
+        }
+        match self.find(name) {
+            None => 0,
+            Some(program) => program.move_count(),
+        }
+    }
+
+    /// The move at a place of a step's program, from 0.
+    pub fn move_at(&self, name: &Name8, place: usize) -> Option<Move>
+        ensures { result ≡ slice_get (moves_of self.now name.now) place }
+    {
+        if is_iefbr14(name) {
+            return None;
+        }
+        match self.find(name) {
+            None => None,
+            Some(program) => program.move_at(place),
+        }
+    }
+
+    /// How a step's program ends by itself: IEFBR14 with code 0, and one that is not there with S806.
+    pub fn ending_of(&self, name: &Name8) -> Outcome
+        ensures { result ≡ ending_of self.now name.now }
+    {
+        if is_iefbr14(name) {
+            return Outcome::Code(Code::zero());
+        }
+        match self.find(name) {
+            None => Outcome::Abend(Abend::S806),
+            Some(program) => program.ending(),
+        }
+    }
+}
