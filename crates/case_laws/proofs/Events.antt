@@ -11,11 +11,11 @@ use Rattle.cb_meaning.specs.Needs.{records_needed}
 use Rattle.cb_meaning.specs.Walks.{owner_of}
 use Rattle.machine_meaning.specs.declared.machine.TheConstants.{MOST_JOBS}
 use Rattle.machine_meaning.specs.Spools.{HasNoSet}
+use Rattle.prog_core.specs.Operations.{is_busy}
 use Rattle.world_meaning.specs.Cancels.{CancelsJob, admitted, is_admitted, no_job, selected, waiting}
 use Rattle.world_meaning.specs.Devices.{EndsDevice, Writes, ended, idle, no_volume, nothing_written, wrote}
 use Rattle.world_meaning.specs.Displays.{SetsDate, set}
 use Rattle.world_meaning.specs.Readings.{Denoting, Reads, full, no_number, read, rejected}
-use Rattle.world_meaning.specs.Turns.{is_busy}
 use Rattle.world_meaning.specs.Worlds.{World}
 use Rattle.world_meaning.specs.Zaps.{ZapsRecord, has_initiator, may_be_zapped, not_owned, selected as zaps_selected, zapped}
 use Rattle.world_meaning.specs.Cancels.{RunsNot}

@@ -10,6 +10,7 @@ use Rattle.jcl_plan.specs.declared.entry.JobLine.TheVariants as line
 use Rattle.jcl_plan.specs.declared.plan.JobPlan.{JobPlan}
 use Rattle.cb_meaning.specs.Needs.{records_needed}
 use Rattle.cb_meaning.specs.Spelled.{Records}
+use Rattle.prog_core.specs.Operations.{is_busy}
 use Rattle.world_meaning.specs.declared.event.Event.{Event}
 use Rattle.world_meaning.specs.declared.event.Event.TheVariants as event
 use Rattle.world_meaning.specs.Cancels.{CancelsJob, RunsNot, admitted as cancels_admitted, is_admitted, no_job, selected as cancels_selected, waiting as cancels_waiting}
@@ -18,7 +19,6 @@ use Rattle.world_meaning.specs.Displays.{SetsDate, days_before, set as dated}
 use Rattle.world_meaning.specs.Readings.{Denoting, IsWritten, Reads, full, no_number, read, read_line, rejected}
 use Rattle.world_meaning.specs.Selections.{Selects, nothing, selected}
 use Rattle.world_meaning.specs.Transitions.{Acts, Does, Transition, Turns, acts, past, shown, taken, unknown}
-use Rattle.world_meaning.specs.Turns.{is_busy}
 use Rattle.world_meaning.specs.Worlds.{Initiator, IsAt, Running, Waiting, World, counted, of_job}
 use Rattle.world_meaning.specs.Zaps.{ZapsRecord, not_owned, selected as zaps_selected, zapped}
 use Rattle.world_laws.proofs.Beside.{one_there}

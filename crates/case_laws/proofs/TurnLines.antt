@@ -8,11 +8,12 @@ use Rattle.jcl_plan.specs.declared.plan.JobPlan.{JobPlan}
 use Rattle.jcl_meaning.specs.declared.state.Own.{Own}
 use Rattle.cb_meaning.specs.Spelled.{Denotes}
 use Rattle.cb_meaning.specs.Walks.{first_fault}
+use Rattle.prog_core.specs.Operations.{has_operation, is_busy}
 use Rattle.record_laws.proofs.Chains.{one_job}
 use Rattle.walk_laws.proofs.Denoted.Jobs.{denoted_has_no_fault}
 use Rattle.world_meaning.specs.Holdings.{Holds, ReadsRecords, blocked, broken, held, read as reads_plan, wants_of}
 use Rattle.world_meaning.specs.Transitions.{GoesOn}
-use Rattle.world_meaning.specs.Turns.{Advanced, Advances, acts as does_act, ends, is_busy, is_cancelled, is_result, has_operation, must_wait, volume_needed, waits}
+use Rattle.world_meaning.specs.Turns.{Advanced, Advances, acts as does_act, ends, is_cancelled, is_result, must_wait, volume_needed, waits}
 use Rattle.world_meaning.specs.Worlds.{Admission, Admitted, Config, Named, Running, Selected, Shared, Stage, Wanting}
 use Rattle.case_laws.specs.Lines.{IsDecided}
 use Rattle.case_laws.proofs.Blocks.{not_both as not_both_held, same_block}

@@ -1,7 +1,6 @@
 -- The devices, and the writers: a device's end writes nothing; WRITER.
-use Rattle.std.specs.Prelude.{◌≡◌, ◌≢◌, ℕ, not, List, [], ◌∷◌, filter, All}
+use Rattle.std.specs.Prelude.{◌≡◌, ◌≢◌, ℕ, List, [], ◌∷◌, All}
 use Rattle.std.specs.List.{Contains}
-use Rattle.std.specs.Str.{bytes_eq}
 use Rattle.jcl_plan.specs.declared.entry.Entry.{Entry}
 use Rattle.jcl_plan.specs.declared.entry.Entry.TheVariants as entry
 use Rattle.jcl_plan.specs.declared.entry.Written.{Written}
@@ -9,13 +8,9 @@ use Rattle.jcl_plan.specs.declared.fault.Cause.TheVariants.{A}
 use Rattle.jcl_plan.specs.declared.fault.EventFault.TheVariants.{NoSuchVolume, NothingUnderWay}
 use Rattle.machine_meaning.specs.declared.machine.SpoolSet.{SpoolSet}
 use Rattle.machine_meaning.specs.Spools.{HasNoSet, Takes}
-use Rattle.world_meaning.specs.Turns.{is_busy}
-use Rattle.world_meaning.specs.Worlds.{Operation, World}
+use Rattle.prog_core.specs.Operations.{is_busy, without_operation}
+use Rattle.world_meaning.specs.Worlds.{World}
 use Rattle.std.specs.Prelude.{true, false, Some}
-
--- the operation on the volume is over
-abbrev pub without_operation : List Operation → List ℕ → List Operation
-without_operation operations serial = filter (λ o. not (bytes_eq o.serial serial)) operations
 
 pub data EndsDevice (old : World) (serial : List ℕ) (lines : List Entry) (new : World) : Type 0 where
   no_volume : All (λ v. v ≢ serial) old.config.volumes → lines ≡ entry.Refused (A NoSuchVolume) ∷ [] → new ≡ old → EndsDevice old serial lines new

@@ -1,7 +1,6 @@
 -- A turn of an admitted job: its actions up to the first that writes, by the very `act` of its solo meaning, on the store as it now sees it.
 use Rattle.std.specs.Prelude.{◌≡◌, ℕ, ◌-◌, Bool, true, false, not, ◌&&◌, ◌||◌, ◌==◌, nat_le, List, [], ◌∷◌, ◌++◌, drop, length, map, Option, Some, None, slice_get, if◌then◌else◌, suc}
 use Rattle.std.specs.List.{list_any}
-use Rattle.std.specs.Str.{bytes_eq}
 use Rattle.jcl_plan.specs.declared.entry.JobLine.{JobLine}
 use Rattle.jcl_plan.specs.declared.entry.JobLine.TheVariants as line
 use Rattle.jcl_plan.specs.declared.outcome.Abend.TheVariants as abend
@@ -19,10 +18,12 @@ use Rattle.jcl_meaning.specs.RequestActs.{dd_name}
 use Rattle.jcl_meaning.specs.States.{Answers, Done, Fixed, State}
 use Rattle.jcl_meaning.specs.Stores.{Store}
 use Rattle.machine_meaning.specs.Spools.{sets_of, with_sets}
+use Rattle.prog_core.specs.declared.units.Operation.{Operation}
+use Rattle.prog_core.specs.Operations.{has_operation, is_busy, without_owner}
 use Rattle.world_meaning.specs.Holdings.{cancels_without, released}
 use Rattle.world_meaning.specs.Lenses.{put_back, seen}
 use Rattle.world_meaning.specs.Tracks.{Conserves, kept_unless_made}
-use Rattle.world_meaning.specs.Worlds.{Admission, Admitted, Config, Operation, Running, Shared, going_on}
+use Rattle.world_meaning.specs.Worlds.{Admission, Admitted, Config, Running, Shared, going_on}
 
 -- What a job does not decide itself, for the action at hand: how its program ends by itself; a cancel, at the next program line; and whether a
 -- growth, or a primary, is granted.
@@ -105,17 +106,6 @@ volume_needed (line.Abend abend.SB37 ∷ lines) a own = volume_asked a own
 volume_needed (line.Abend abend.SD37 ∷ lines) a own = volume_asked a own
 volume_needed other a own = None
 
-abbrev pub is_busy : List Operation → Option (List ℕ) → Bool
-is_busy operations None = false
-is_busy operations (Some serial) = list_any (λ o. bytes_eq o.serial serial) operations
-
-abbrev pub is_owner : ℕ → Option ℕ → Bool
-is_owner job None = false
-is_owner job (Some owner) = owner == job
-
-abbrev pub has_operation : List Operation → ℕ → Bool
-has_operation operations job = list_any (λ o. is_owner job o.owner) operations
-
 -- a cancel acts: S222 stands in the place of the line
 abbrev pub is_cancelled : List JobLine → Bool
 is_cancelled (line.Abend abend.S222 ∷ lines) = true
@@ -132,9 +122,6 @@ must_wait operations job x = is_busy operations (volume_needed x.done.lines x.ac
     || (is_result x.action && not (is_cancelled x.done.lines) && has_operation operations job)
 
 -- a START begins an operation; where a cancel acts one under way ends without an owner
-abbrev pub without_owner : ℕ → Operation → Operation
-without_owner job o = if is_owner job o.owner then record o { owner = None } else o
-
 abbrev pub operations_after : List Operation → ℕ → List JobLine → List Operation
 operations_after operations job (line.GetStart name serial ∷ lines) = operations ++ record { serial = serial; owner = Some job } ∷ []
 operations_after operations job (line.PutStart name serial grown ∷ lines) = operations ++ record { serial = serial; owner = Some job } ∷ []

@@ -11,6 +11,7 @@ use Rattle.jcl_meaning.specs.States.{Fixed}
 use Rattle.cb_meaning.specs.declared.layout.Layout.{Layout}
 use Rattle.cb_meaning.specs.Spelled.{Records}
 use Rattle.machine_meaning.specs.declared.machine.SpoolSet.{SpoolSet}
+use Rattle.prog_core.specs.declared.units.Operation.{Operation}
 use Rattle.world_meaning.specs.Lenses.{WorldStore}
 
 -- What the session's configuration fixes: the serials of the volumes, the volumes of each unit name, by its number from 1, the programs, the
@@ -30,11 +31,6 @@ pub record Kept : Type 0 where
   pub dd : ℕ
   pub serial : List ℕ
   pub tracks : ℕ
-
--- an operation under way on a volume, from its start to the device's end, and the job that waits for it, if one still does
-pub record Operation : Type 0 where
-  pub serial : List ℕ
-  pub owner : Option ℕ
 
 -- what all jobs change: sets and catalog, each volume's free tracks, tracks that are kept, the records of the queue, the names that are held,
 -- operations under way, jobs whose cancel has not acted yet, what the writers have to write, and the date
