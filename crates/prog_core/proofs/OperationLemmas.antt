@@ -1,10 +1,9 @@
 -- On each volume one operation at most, through each change.
-use Rattle.std.proofs.Common.{◌≡◌, ℕ, ◌+◌, ◌<◌, Bool, true, false, not, ◌||◌, cond, List, [], ◌∷◌, ◌++◌, length, filter, map, Option, Some, None, arith, refl, ap, rules, zero, suc, slice_index_or, slice_set, ◌∙◌}
-use Rattle.std.specs.List.{list_any}
+use Rattle.std.proofs.Common.{◌≡◌, ℕ, ◌+◌, ◌<◌, Bool, true, false, ◌||◌, cond, List, [], ◌∷◌, ◌++◌, length, filter, map, Some, None, arith, refl, ap, rules, zero, suc, slice_index_or, slice_set, ◌∙◌}
 use Rattle.std.specs.Str.{bytes_eq}
 use Rattle.std.proofs.lemmas.Slice.Eq.{bytes_eq-Decides}
 use Rattle.prog_core.specs.declared.units.Operation.{Operation}
-use Rattle.prog_core.specs.Operations.{is_busy, is_owner, without_operation, without_owner, OneEach}
+use Rattle.prog_core.specs.Operations.{is_busy, is_owner, without_owner, OneEach}
 
 -- neither of two
 neither : (a b : Bool) → (a || b) ≡ false → (a ≡ false) × (b ≡ false)

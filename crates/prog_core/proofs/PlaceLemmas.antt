@@ -1,5 +1,5 @@
 -- The places of programs, and the programs that they find.
-use Rattle.std.proofs.Common.{◌≡◌, ℕ, zero, suc, ◌<◌, Bool, true, false, cond, List, [], ◌∷◌, ◌++◌}
+use Rattle.std.proofs.Common.{◌≡◌, ℕ, zero, Bool, true, false, cond, List, [], ◌∷◌, ◌++◌}
 use Rattle.std.proofs.Common.{length, Option, Some, None, is_some, slice_get, Bor, refl, sym, ap, ◌∙◌, subst}
 use Rattle.std.specs.BTreeMap.{BTreeMap, Updates}
 use Rattle.std.specs.Cmp.Lexicographic.{slice_cmp}
@@ -87,3 +87,11 @@ requests_behind (Some p) = refl
 pub got_requests : (programs : List SoloProgram) (n : ℕ) (r : Option (Bor SoloProgram)) → IsItemAt programs n r →
     option_map (λ p. p.now.requests) r ≡ requests_at programs (Some n)
 got_requests programs n r is = requests_behind r ∙ ap (option_map (λ p. p.requests)) (got programs n r is)
+
+-- where `has` answers no there is none
+pub not_there : (programs : List SoloProgram) (name : List ℕ) → is_some (program_of programs name) ≡ false → program_of programs name ≡ None
+not_there programs name none = empty (program_of programs name) none
+  where
+    empty : (found : Option (List Request)) → is_some found ≡ false → found ≡ None
+    empty None none = refl
+    empty (Some requests) none = absurd (cc)

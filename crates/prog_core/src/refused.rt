@@ -1,5 +1,6 @@
 //! Want of memory: a call that answers it leaves the library as it was, and succeeds when it is made again.
 use crate::library::ProgramLibrary;
+use crate::tests;
 use crate::tests::{name, program};
 use jcl_meaning::program::{Request, SoloProgram};
 use jname_core::name8::Name8;
@@ -45,12 +46,11 @@ fn add(
     let own = name_of(letter)?;
     let first = one_move(alloc, own)?;
     let second = one_move(alloc, own)?;
-    assert!(rt; !library.has(&own));
-    if library.add(first).is_ok() {
+    if tests::add(rt, library, first).is_ok() {
         return Ok(false);
     }
     assert!(rt; are_there(library, at)?, "before {at}");
-    assert!(rt; library.add(second).is_ok());
+    assert!(rt; tests::add(rt, library, second).is_ok());
     Ok(true)
 }
 

@@ -8,6 +8,7 @@ use jname_core::name8::Name8;
 use jname_core::serial::Serial;
 use plain::listed::Listed;
 use std::alloc::{AllocError, Global};
+use std::process::Abort;
 use std::test::Fail;
 
 pub(crate) fn name(text: &str) -> Result<Name8, Fail> {
@@ -35,17 +36,41 @@ pub(crate) fn program(
 
 const BLANK: Record = [b' '; 80];
 
-fn is_get(found: Option<Move>, dd: Name8) -> bool {
+/// Adds a program whose name is new.
+#[tactic(auto, using(crate::proofs::PlaceLemmas::not_there))]
+pub(crate) fn add(
+    rt: &impl Abort,
+    library: &mut ProgramLibrary,
+    program: SoloProgram,
+) -> Result<(), AllocError> {
+    assert!(rt; !library.has(&program.name));
+    library.add(program)
+}
+
+/// Whether a step's program moves so many records and ends so.
+fn runs(library: &ProgramLibrary, name: &Name8, moves: usize, ending: Outcome) -> bool {
+    library.move_count(name) == moves
+        && library.move_at(name, moves).is_none()
+        && library.ending_of(name) == ending
+}
+
+/// Whether a record is read from the DD.
+fn is_get(found: &Option<Move>, dd: &Name8) -> bool {
     match found {
-        Some(Move::From(name)) => name == dd,
-        _ => false,
+        Some(Move::From(name)) => name.as_slice() == dd.as_slice(),
+        Some(Move::To { .. }) => false,
+        None => false,
     }
 }
 
-fn is_put(found: Option<Move>, dd: Name8) -> bool {
+/// Whether a record of blanks goes to the DD.
+fn is_put(found: &Option<Move>, dd: &Name8) -> bool {
     match found {
-        Some(Move::To { dd: name, text }) => name == dd && text == BLANK,
-        _ => false,
+        Some(Move::From(_)) => false,
+        Some(Move::To { dd: name, text }) => {
+            name.as_slice() == dd.as_slice() && text.as_slice() == BLANK.as_slice()
+        }
+        None => false,
     }
 }
 
@@ -63,49 +88,34 @@ fn requests_behind_the_end_do_not_count(rt: HostRuntime) -> Result<(), Fail> {
         Request::Get(input),
         Request::Abend(code(100)?),
     ];
-    assert!(rt; !library.has(&copies));
-    library.add(program(rt.alloc(), copies, &requests)?)?;
-    assert!(rt; library.has(&copies));
-    assert_eq!(rt; library.move_count(&copies), 2);
-    assert!(rt; is_get(library.move_at(&copies, 0), input));
-    assert!(rt; is_put(library.move_at(&copies, 1), output));
-    assert!(rt; library.move_at(&copies, 2).is_none());
+    add(&rt, &mut library, program(rt.alloc(), copies, &requests)?)?;
+    assert!(rt; runs(&library, &copies, 2, Outcome::Code(code(4)?)));
+    assert!(rt; is_get(&library.move_at(&copies, 0), &input));
+    assert!(rt; is_put(&library.move_at(&copies, 1), &output));
     assert!(rt; library.move_at(&copies, 3).is_none());
-    assert_eq!(rt; library.ending_of(&copies), Outcome::Code(code(4)?));
     Ok(())
 }
 
 #[test]
 fn programs_are_found_by_name(rt: HostRuntime) -> Result<(), Fail> {
     let mut library = ProgramLibrary::new(rt.alloc());
-    let (reads, breaks, input) = (name("READS")?, name("BREAKS")?, name("IN")?);
-    library.add(program(rt.alloc(), reads, &[Request::Get(input)])?)?;
-    library.add(program(rt.alloc(), breaks, &[Request::Abend(code(100)?)])?)?;
-    assert_eq!(rt; library.move_count(&reads), 1);
-    assert_eq!(rt; library.ending_of(&reads), Outcome::Code(Code::zero()));
-    assert_eq!(rt; library.move_count(&breaks), 0);
-    assert!(rt; library.move_at(&breaks, 0).is_none());
-    assert_eq!(rt;
-        library.ending_of(&breaks),
-        Outcome::Abend(Abend::User(code(100)?))
-    );
-    Ok(())
-}
-
-#[test]
-fn iefbr14_ends_at_once_and_no_program_is_s806(rt: HostRuntime) -> Result<(), Fail> {
-    let mut library = ProgramLibrary::new(rt.alloc());
-    let (nothing, missing, input) = (name("IEFBR14")?, name("MISSING")?, name("IN")?);
-    assert_eq!(rt; library.ending_of(&nothing), Outcome::Code(Code::zero()));
-    library.add(program(rt.alloc(), nothing, &[Request::Get(input)])?)?;
-    assert!(rt; library.has(&nothing));
-    assert_eq!(rt; library.move_count(&nothing), 0);
-    assert!(rt; library.move_at(&nothing, 0).is_none());
-    assert_eq!(rt; library.ending_of(&nothing), Outcome::Code(Code::zero()));
+    let (reads, breaks) = (name("READS")?, name("BREAKS")?);
+    let (nothing, missing) = (name("IEFBR14")?, name("MISSING")?);
+    let read = Request::Get(name("IN")?);
+    let broken = Outcome::Abend(Abend::User(code(100)?));
+    add(&rt, &mut library, program(rt.alloc(), reads, &[read])?)?;
+    add(&rt, &mut library, program(rt.alloc(), nothing, &[read])?)?;
+    add(
+        &rt,
+        &mut library,
+        program(rt.alloc(), breaks, &[Request::Abend(code(100)?)])?,
+    )?;
+    assert!(rt; library.has(&reads) && library.has(&breaks) && library.has(&nothing));
     assert!(rt; !library.has(&missing));
-    assert_eq!(rt; library.move_count(&missing), 0);
-    assert!(rt; library.move_at(&missing, 0).is_none());
-    assert_eq!(rt; library.ending_of(&missing), Outcome::Abend(Abend::S806));
+    assert!(rt; runs(&library, &reads, 1, Outcome::Code(Code::zero())));
+    assert!(rt; runs(&library, &breaks, 0, broken));
+    assert!(rt; runs(&library, &nothing, 0, Outcome::Code(Code::zero())));
+    assert!(rt; runs(&library, &missing, 0, Outcome::Abend(Abend::S806)));
     Ok(())
 }
 
