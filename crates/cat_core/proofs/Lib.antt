@@ -1,3 +1,4 @@
 pub mod Maps
 pub mod Members
+pub mod Numbers
 pub mod Outcomes

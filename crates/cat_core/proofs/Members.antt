@@ -6,8 +6,7 @@ use Rattle.jname_core.specs.Generations.{base_of, generation_of}
 use Rattle.group_core.specs.Entries.{Member, member_by}
 use Rattle.group_core.specs.Groups.{GroupState}
 use Rattle.cat_core.specs.declared.fault.CatFault.TheVariants as fault
-use Rattle.cat_core.specs.Catalogs.{Contents, entered_name, entered_name_by, generation_entered, generation_entered_by, group_of, is_entered, member_of, name_removed, name_removed_by, number_removed, with_generation, with_generation_by, with_name, with_name_by}
-use Rattle.std.specs.FinMap.{get}
+use Rattle.cat_core.specs.Catalogs.{Contents, entered_name, entered_name_by, generation_entered, generation_entered_by, group_of, is_entered, member_of, with_generation, with_generation_by, with_name, with_name_by, without_name, without_name_by, without_number, without_number_by}
 
 pub member_some : (n : ℕ) (g : GroupState) → 0 < n → Some (n, g) ≡ member_by (Some n) (Some g)
 member_some zero g h = absurd (omega arith)
@@ -41,8 +40,9 @@ with_member c name base serial number g m b =
     ∙ ap (λ (d : List ℕ). with_generation_by (Some g) c d number serial) b
     ∙ ap (λ (o : Option Member). with_name_by o c name serial) m
 
-pub removed_member : (c : Contents) (name base : List ℕ) (number : ℕ) (g : GroupState) → Some (number, g) ≡ member_of c name → base ≡ base_of name →
-    number_removed (group_of c base) number ≡ name_removed c name
-removed_member c name base number g m b =
-    ap (λ (o : Option GroupState). number_removed o number) (group_of_member c name base number g m b)
-    ∙ ap (λ (o : Option Member). name_removed_by o (get c name)) m
+pub without_member : (c : Contents) (name base : List ℕ) (number : ℕ) (g : GroupState) → Some (number, g) ≡ member_of c name → base ≡ base_of name →
+    without_number c base number ≡ without_name c name
+without_member c name base number g m b =
+    ap (λ (o : Option GroupState). without_number_by o c base number) (group_of_member c name base number g m b)
+    ∙ ap (λ (d : List ℕ). without_number_by (Some g) c d number) b
+    ∙ ap (λ (o : Option Member). without_name_by o c name) m

@@ -103,15 +103,12 @@ with_name_by None c name serial = insert c name (Volume serial)
 abbrev pub with_name : Contents → List ℕ → List ℕ → Contents
 with_name c name serial = with_name_by (member_of c name) c name serial
 
--- removing a number from a group
+-- what is not there is not removed
 abbrev pub unless_found : Option (List ℕ) → CatFault → Result (Unit {0}) CatFault
 unless_found (Some serial) f = Ok tt
 unless_found None f = Err f
 
-abbrev pub number_removed : Option GroupState → ℕ → Result (Unit {0}) CatFault
-number_removed None number = Err fault.NoGroup
-number_removed (Some g) number = unless_found (serial_of g.generations number) fault.NoGeneration
-
+-- the number of a generation taken out of its group
 abbrev pub without_number_by : Option GroupState → Contents → List ℕ → ℕ → Contents
 without_number_by None c base number = c
 without_number_by (Some g) c base number = insert c base (Group (record g { generations = without g.generations number }))
@@ -125,7 +122,6 @@ entry_without (Volume there) number = Volume there
 entry_without (Group g) number = Group (record g { generations = without g.generations number })
 
 -- removing a name
-
 abbrev pub name_removed_by : Option Member → Option CatEntry → Result (Unit {0}) CatFault
 name_removed_by (Some m) entry = unless_found (serial_of m.1.generations m.0) fault.NoGeneration
 name_removed_by None entry = unless_found (volume_in entry) fault.NotThere

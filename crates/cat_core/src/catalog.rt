@@ -1,9 +1,10 @@
 //! The catalog.
-ghost use Rattle.std.specs.Prelude.{◌≡◌, ◌≢◌, ◌≤◌, ◌<◌, Some, Err, IfErr, IfSome, OnOk, OnErr};
+ghost use Rattle.std.specs.Prelude.{◌≡◌, ◌≢◌, ◌≤◌, ◌<◌, None, Some, Err, IfSome, OnOk, OnErr};
 ghost use Rattle.std.specs.Option.{option_copied, option_map};
 ghost use Rattle.std.specs.FinMap as map;
+ghost use Rattle.group_core.specs.declared.entry.CatEntry.TheVariants.{Volume};
 ghost use Rattle.group_core.specs.Entries.{group_in, volume_in};
-ghost use Rattle.cat_core.specs.Catalogs.{Gives, catalog_fault, contents_of, entered_name, entry_with, entry_without, found, generation_entered, generation_entered_by, group_made, group_of, has_generation_entered, is_entered, is_generation_of, is_volume, member_of, name_removed, number_removed, relative, with_generation, with_group, with_name, without_name, without_number};
+ghost use Rattle.cat_core.specs.Catalogs.{Gives, catalog_fault, contents_of, entered_name, entry_with, entry_without, found, generation_entered, generation_entered_by, group_made, group_of, has_generation_entered, is_entered, is_generation_of, is_volume, member_of, name_removed, relative, with_generation, with_group, with_name, without_name, without_number};
 
 use crate::fault::CatFault;
 use group_core::entry::CatEntry;
@@ -78,15 +79,15 @@ fn has_generation_entered(entries: &Entries, base: &DsName) -> bool
     entries.iter().any(|(name, entry)| is_volume(entry) && is_generation_of(base, name))
 }
 
-/// Puts an entry at a name.
-fn set_at(entries: &mut Entries, name: DsName, entry: CatEntry) -> Result<(), CatFault>
+/// Puts an entry at a name. The error is want of memory, and changes nothing.
+fn set_at(entries: &mut Entries, name: DsName, entry: CatEntry) -> Result<(), AllocError>
     ensures ok { OnOk result (contents_of entries.new.entries ≡ map.insert (contents_of entries.old.entries) name entry) }
     ensures err { OnErr result (contents_of entries.new.entries ≡ contents_of entries.old.entries) }
-    ensures memory { IfErr result (λ fault. fault ≡ CatFault.Memory) }
+    ensures memory { OnErr result (map.get (contents_of entries.old.entries) name ≡ None) }
 {
     match entries.insert(name, entry) {
         Ok(_) => Ok(()),
-        Err(_) => Err(CatFault::Memory),
+        Err(_) => Err(AllocError),
     }
 }
 
@@ -113,19 +114,16 @@ fn enter_in(entry: &mut CatEntry, number: u16, serial: Serial) -> Result<Rolled,
     }
 }
 
-/// Removes a generation's number from a group.
-fn remove_in(entry: &mut CatEntry, number: u16) -> Result<(), CatFault>
-    ensures answer { Gives result (number_removed (group_in (Some entry.old)) number) }
-    ensures ok { OnOk result (entry.new ≡ entry_without entry.old number) }
-    ensures err { OnErr result (entry.new ≡ entry.old) }
-    ensures memory { result ≢ Err CatFault.Memory }
+/// Takes a generation's number out of a group. Where there is none nothing changes.
+fn clear_in(entry: &mut CatEntry, number: u16)
+    ensures { entry.new ≡ entry_without entry.old number }
 {
     match entry {
         CatEntry::Group(group) => match group.remove(number) {
-            Ok(()) => Ok(()),
-            Err(fault) => Err(catalog_fault(fault)),
+            Ok(()) => {}
+            Err(_) => {}
         },
-        CatEntry::Volume(_) => Err(CatFault::NoGroup),
+        CatEntry::Volume(_) => {}
     }
 }
 
@@ -147,16 +145,13 @@ fn enter_at(
     }
 }
 
-/// Removes a generation's number from the group of a base.
-fn remove_at(entries: &mut Entries, base: &DsName, number: u16) -> Result<(), CatFault>
-    ensures answer { Gives result (number_removed (group_of (contents_of entries.old.entries) base.now) number) }
-    ensures ok { OnOk result (contents_of entries.new.entries ≡ without_number (contents_of entries.old.entries) base.now number) }
-    ensures err { OnErr result (contents_of entries.new.entries ≡ contents_of entries.old.entries) }
-    ensures memory { result ≢ Err CatFault.Memory }
+/// Takes a generation's number out of the group of a base. Where there is none nothing changes.
+fn clear_number_at(entries: &mut Entries, base: &DsName, number: u16)
+    ensures { contents_of entries.new.entries ≡ without_number (contents_of entries.old.entries) base.now number }
 {
     match entries.get_mut(base) {
-        Some(entry) => remove_in(entry, number),
-        None => Err(CatFault::NoGroup),
+        Some(entry) => clear_in(entry, number),
+        None => {}
     }
 }
 
@@ -197,6 +192,25 @@ impl Catalog {
         group_at(&self.entries, base)
     }
 
+    /// The number of a name in the group of its base, where that is one.
+    pub fn member(&self, name: &DsName) -> Option<(u16, &Group)>
+        ensures value { option_map (λ m. (m.0, m.1.now)) result ≡ member_of self.now name.now }
+        ensures range { IfSome result (λ m. (0 < m.0) × (m.0 ≤ 9999)) }
+    {
+        match name.generation_of() {
+            Some(number) => {
+                if number == 0 {
+                    return None;
+                }
+                match self.group(&name.base_of()) {
+                    Some(group) => Some((number, group)),
+                    None => None,
+                }
+            }
+            None => None,
+        }
+    }
+
     /// Enters a name for a volume; of a group's generation the number, as `enter_generation` does. A name that is entered is refused.
     pub fn enter(&mut self, name: DsName, serial: Serial) -> Result<Rolled, CatFault>
         ensures answer { Gives result (entered_name self.old name serial) }
@@ -208,11 +222,20 @@ impl Catalog {
         }
         match self.member(&name) {
             Some((number, _)) => enter_at(&mut self.entries, &name.base_of(), number, serial),
-            None => {
-                set_at(&mut self.entries, name, CatEntry::Volume(serial))?;
-                Ok(Rolled::Entered)
-            }
+            None => match self.put(name, serial) {
+                Ok(()) => Ok(Rolled::Entered),
+                Err(_) => Err(CatFault::Memory),
+            },
         }
+    }
+
+    /// Enters a name for a volume in place of what is there. Memory is wanted only where nothing is, and its want changes nothing.
+    pub fn put(&mut self, name: DsName, serial: Serial) -> Result<(), AllocError>
+        ensures ok { OnOk result (self.new ≡ map.insert self.old name (Volume serial)) }
+        ensures err { OnErr result (self.new ≡ self.old) }
+        ensures memory { OnErr result (map.get self.old name ≡ None) }
+    {
+        set_at(&mut self.entries, name, CatEntry::Volume(serial))
     }
 
     /// Removes a name, or of a group's generation the number. A group's base is no entry to remove.
@@ -223,14 +246,28 @@ impl Catalog {
         ensures memory { result ≢ Err CatFault.Memory }
     {
         match self.member(name) {
-            Some((number, _)) => remove_at(&mut self.entries, &name.base_of(), number),
+            Some((number, group)) => {
+                if group.find(number).is_none() {
+                    return Err(CatFault::NoGeneration);
+                }
+            }
             None => {
                 if volume_at(&self.entries, name).is_none() {
                     return Err(CatFault::NotThere);
                 }
-                clear_at(&mut self.entries, name);
-                Ok(())
             }
+        }
+        self.clear(name);
+        Ok(())
+    }
+
+    /// Takes a name out, whatever stands there; of a group's generation the number. Where there is none nothing changes.
+    pub fn clear(&mut self, name: &DsName)
+        ensures { self.new ≡ without_name self.old name.now }
+    {
+        match self.member(name) {
+            Some((number, _)) => clear_number_at(&mut self.entries, &name.base_of(), number),
+            None => clear_at(&mut self.entries, name),
         }
     }
 
@@ -250,7 +287,10 @@ impl Catalog {
             return Err(CatFault::There);
         }
         let group = Group::new(alloc, limit, scratch);
-        set_at(&mut self.entries, base, CatEntry::Group(group))
+        match set_at(&mut self.entries, base, CatEntry::Group(group)) {
+            Ok(()) => Ok(()),
+            Err(_) => Err(CatFault::Memory),
+        }
     }
 
     /// The number that a relative number means in the group of a base.
@@ -279,25 +319,6 @@ impl Catalog {
         ensures err { OnErr result (self.new ≡ self.old) }
     {
         enter_at(&mut self.entries, base, number, serial)
-    }
-
-    /// The number of a name in the group of its base, where that is one.
-    fn member(&self, name: &DsName) -> Option<(u16, &Group)>
-        ensures value { option_map (λ m. (m.0, m.1.now)) result ≡ member_of self.now name.now }
-        ensures range { IfSome result (λ m. (0 < m.0) × (m.0 ≤ 9999)) }
-    {
-        match name.generation_of() {
-            Some(number) => {
-                if number == 0 {
-                    return None;
-                }
-                match self.group(&name.base_of()) {
-                    Some(group) => Some((number, group)),
-                    None => None,
-                }
-            }
-            None => None,
-        }
     }
 
     fn is_entered(&self, name: &DsName) -> bool

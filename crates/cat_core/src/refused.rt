@@ -57,6 +57,45 @@ fn refused_memory_keeps_names(rt: HostRuntime) -> Result<(), Fail> {
     Ok(())
 }
 
+/// Puts a name, a second time where memory was wanting, and tells whether it was. What is there takes another volume without memory.
+fn put(
+    rt: &impl Abort,
+    catalog: &mut Catalog,
+    at: usize,
+    letter: u8,
+    serials: (Serial, Serial),
+) -> Result<bool, Fail> {
+    let name = name_of(letter)?;
+    let refused = catalog.put(name, serials.0).is_err();
+    if refused {
+        assert!(rt; are_entered(catalog, at, serials.1)?, "before {at}");
+        catalog.put(name, serials.0)?;
+    }
+    assert_eq!(rt; catalog.find(&name), Some(serials.0));
+    assert!(rt; catalog.put(name, serials.1).is_ok());
+    Ok(refused)
+}
+
+#[test]
+fn refused_memory_keeps_what_was_put(rt: HostRuntime) -> Result<(), Fail> {
+    let serials = (
+        Serial::read(b"V1").ok_or("a serial")?,
+        Serial::read(b"V2").ok_or("a serial")?,
+    );
+    let mut catalog = Catalog::new(rt.alloc());
+    let mut refused = false;
+    for (at, letter) in LETTERS.iter().enumerate() {
+        refused = put(&rt, &mut catalog, at, *letter, serials)? || refused;
+    }
+    assert!(rt; are_entered(&catalog, 26, serials.1)?);
+    for letter in LETTERS {
+        catalog.clear(&name_of(*letter)?);
+    }
+    assert!(rt; are_entered(&catalog, 0, serials.1)?);
+    println!(rt; "refused: {refused}")?;
+    Ok(())
+}
+
 /// Whether the base has a group of the numbers from 1 to this one.
 fn are_numbers(catalog: &Catalog, base: &DsName, count: u16, serial: Serial) -> bool {
     match catalog.group(base) {

@@ -128,6 +128,34 @@ fn a_generation_without_a_group_is_a_plain_name(rt: HostRuntime) -> Result<(), F
 }
 
 #[test]
+fn names_are_put_and_cleared_whatever_is_there(rt: HostRuntime) -> Result<(), Fail> {
+    let mut catalog = Catalog::new(rt.alloc());
+    let (first, second) = (volume("V1")?, volume("V2")?);
+    let (plain, base, one) = (name("A.B")?, name("A")?, name("A.G0001V00")?);
+    catalog.clear(&plain);
+    catalog.put(plain, first)?;
+    catalog.put(plain, second)?;
+    assert_eq!(rt; catalog.find(&plain), Some(second));
+    assert!(rt; catalog.member(&one).is_none());
+    assert_eq!(rt; catalog.make_group(rt.alloc(), base, 2, true), Ok(()));
+    assert_eq!(rt; catalog.enter(one, first), Ok(Rolled::Entered));
+    let (number, group) = catalog.member(&one).ok_or("a member")?;
+    assert_eq!(rt; number, 1);
+    assert_eq!(rt; group.find(1), Some(first));
+    catalog.clear(&one);
+    catalog.clear(&one);
+    assert_eq!(rt; catalog.find(&one), None);
+    assert!(rt; catalog.group(&base).is_some());
+    catalog.put(base, second)?;
+    assert!(rt; catalog.group(&base).is_none());
+    assert_eq!(rt; catalog.find(&base), Some(second));
+    catalog.clear(&base);
+    assert_eq!(rt; catalog.find(&base), None);
+    assert_eq!(rt; catalog.find(&plain), Some(second));
+    Ok(())
+}
+
+#[test]
 fn a_name_of_number_0_is_a_plain_name(rt: HostRuntime) -> Result<(), Fail> {
     let mut catalog = Catalog::new(rt.alloc());
     let first = volume("V1")?;
