@@ -1,3 +1,4 @@
+pub mod Bounds
 pub mod Maps
 pub mod Members
 pub mod Numbers

@@ -1,3 +1,4 @@
+pub mod Bounds
 pub mod Catalogs
 pub mod Codes
 pub mod Numbers

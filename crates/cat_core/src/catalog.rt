@@ -1,15 +1,16 @@
 //! The catalog.
-ghost use Rattle.std.specs.Prelude.{◌≡◌, ◌≢◌, ◌≤◌, ◌<◌, None, Some, Err, IfSome, OnOk, OnErr};
+ghost use Rattle.std.specs.Prelude.{◌≡◌, ◌≢◌, ◌≤◌, ◌<◌, ◌+◌, ◌++◌, length, take, None, Some, Err, IfSome, OnOk, OnErr};
 ghost use Rattle.std.specs.Option.{option_copied, option_map};
 ghost use Rattle.std.specs.FinMap as map;
 ghost use Rattle.group_core.specs.declared.entry.CatEntry.TheVariants.{Volume};
 ghost use Rattle.group_core.specs.Entries.{group_in, volume_in};
-ghost use Rattle.cat_core.specs.Catalogs.{Gives, catalog_fault, contents_of, entered_name, entry_with, entry_without, found, generation_entered, generation_entered_by, group_made, group_of, has_generation_entered, is_entered, is_generation_of, is_volume, member_of, name_removed, relative, with_generation, with_group, with_name, without_name, without_number};
+ghost use Rattle.cat_core.specs.Bounds.{above_generations, below_generations};
+ghost use Rattle.cat_core.specs.Catalogs.{Gives, catalog_fault, contents_of, entered_name, enters_generation_of, entry_with, entry_without, found, generation_entered, generation_entered_by, group_made, group_of, has_generation_entered, is_entered, is_generation_of, is_volume, member_of, name_removed, relative, with_generation, with_group, with_name, without_name, without_number};
 
 use crate::fault::CatFault;
 use group_core::entry::CatEntry;
 use group_core::group::{Group, GroupFault, Rolled};
-use jname_core::ds_name::DsName;
+use jname_core::ds_name::{DsName, MOST_CHARACTERS, read_ds_name};
 use jname_core::key::Sign;
 use jname_core::serial::Serial;
 use std::alloc::{AllocError, Global};
@@ -72,11 +73,68 @@ fn is_volume(entry: &CatEntry) -> bool
     }
 }
 
-/// Whether a generation of the base is entered as a plain name.
+/// Whether an entry is that of a generation of the base as a plain name.
+fn enters_generation_of(base: &DsName, name: &DsName, entry: &CatEntry) -> bool
+    ensures { result ≡ enters_generation_of base.now (name.now, entry.now) }
+{
+    is_volume(entry) && is_generation_of(base, name)
+}
+
+/// Nine characters behind a base, and what is left of the room.
+fn joined(base: &[u8], end: &[u8; 9]) -> [u8; MOST_CHARACTERS + 9]
+    requires { length base.now ≤ 44 }
+    ensures { take (length base.now + 9) result ≡ base.now ++ end.now }
+{
+    let mut text = [0u8; MOST_CHARACTERS + 9];
+    let len = base.len();
+    text[..len].copy_from_slice(base);
+    text[len..len + 9].copy_from_slice(end);
+    text
+}
+
+/// The name that nine characters make behind a base, where it is one.
+fn name_behind(base: &DsName, end: &[u8; 9]) -> Option<DsName>
+    ensures { IfSome result (λ name. name ≡ base.now ++ end.now) }
+{
+    let base = base.as_slice();
+    let text = joined(base, end);
+    match read_ds_name(&text[..base.len() + 9]) {
+        Ok(name) => Some(name),
+        Err(_) => None,
+    }
+}
+
+/// Whether a generation of the base is entered as a plain name, by the names between two that stand around them all.
+fn has_generation_between(entries: &Entries, base: &DsName, below: DsName, above: DsName) -> bool
+    requires below { below ≡ below_generations base.now }
+    requires above { above ≡ above_generations base.now }
+    ensures { result ≡ has_generation_entered (contents_of entries.now.entries) base.now }
+{
+    entries
+        .range(below..above)
+        .any(|(name, entry)| enters_generation_of(base, name, entry))
+}
+
+/// Whether a generation of the base is entered as a plain name, by all names.
+fn has_generation_among_all(entries: &Entries, base: &DsName) -> bool
+    ensures { result ≡ has_generation_entered (contents_of entries.now.entries) base.now }
+{
+    entries
+        .iter()
+        .any(|(name, entry)| enters_generation_of(base, name, entry))
+}
+
+/// Whether a generation of the base is entered as a plain name. Behind a base of over 35 characters nothing makes a name.
 fn has_generation_entered(entries: &Entries, base: &DsName) -> bool
     ensures { result ≡ has_generation_entered (contents_of entries.now.entries) base.now }
 {
-    entries.iter().any(|(name, entry)| is_volume(entry) && is_generation_of(base, name))
+    match (
+        name_behind(base, b".G0000V0#"),
+        name_behind(base, b".G9999V9A"),
+    ) {
+        (Some(below), Some(above)) => has_generation_between(entries, base, below, above),
+        _ => has_generation_among_all(entries, base),
+    }
 }
 
 /// Puts an entry at a name. The error is want of memory, and changes nothing.

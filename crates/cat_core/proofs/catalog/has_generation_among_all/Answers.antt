@@ -4,7 +4,7 @@ use Rattle.std.proofs.lemmas.Iterator.Search.{any_from_yields_List}
 use Rattle.std.proofs.lemmas.Iterator.Consumers.{YieldsList-from_rest}
 use Rattle.cat_core.specs.Catalogs.{enters_generation_of}
 use Rattle.cat_core.proofs.Maps.{entries_of}
-use Rattle.cat_core.proofs.catalog.has_generation_entered.Goals as goal
+use Rattle.cat_core.proofs.catalog.has_generation_among_all.Goals as goal
 
 pub returns : goal.returns
 returns c =
