@@ -1,12 +1,14 @@
 -- A name in the group of its base: what each call means of it.
-use Rattle.std.proofs.Common.{◌≡◌, ◌<◌, ℕ, zero, suc, List, false, Option, Some, None, Err, refl, ap, ◌∙◌, sym, arith}
+use Rattle.std.proofs.Common.{◌≡◌, ◌≢◌, ◌<◌, ℕ, zero, suc, List, false, Option, Some, None, Result, Ok, Err, refl, ap, ◌∙◌, sym, arith}
 use Rattle.std.proofs.lemmas.Bool.{cond-false}
 use Rattle.std.proofs.lemmas.Option.{same_Some}
 use Rattle.jname_core.specs.Generations.{base_of, generation_of}
 use Rattle.group_core.specs.Entries.{Member, member_by}
 use Rattle.group_core.specs.Groups.{GroupState}
+use Rattle.group_core.specs.declared.group.Rolled.{Rolled}
+use Rattle.cat_core.specs.declared.fault.CatFault.{CatFault}
 use Rattle.cat_core.specs.declared.fault.CatFault.TheVariants as fault
-use Rattle.cat_core.specs.Catalogs.{Contents, entered_name, entered_name_by, generation_entered, generation_entered_by, group_of, is_entered, member_of, with_generation, with_generation_by, with_name, with_name_by, without_name, without_name_by, without_number, without_number_by}
+use Rattle.cat_core.specs.Catalogs.{Contents, Gives, entered_name, entered_name_by, generation_entered, generation_entered_by, group_of, is_entered, member_of, with_generation, with_generation_by, with_name, with_name_by, without_name, without_name_by, without_number, without_number_by}
 
 pub member_some : (n : ℕ) (g : GroupState) → 0 < n → Some (n, g) ≡ member_by (Some n) (Some g)
 member_some zero g h = absurd (omega arith)
@@ -21,6 +23,16 @@ member_parts (Some (suc n)) (Some h) number g e = ap (λ (m : Member). Some m.1)
 member_parts (Some (suc n)) None number g e = cc
 member_parts (Some zero) o number g e = cc
 member_parts None o number g e = cc
+
+-- an answer is given where it is the one denoted
+pub gives_itself : (r : Result Rolled CatFault) → (r ≢ Err fault.Memory) → Gives r r
+gives_itself (Ok x) h = refl
+gives_itself (Err fault.There) h = refl
+gives_itself (Err fault.NotThere) h = refl
+gives_itself (Err fault.NoGroup) h = refl
+gives_itself (Err fault.NoGeneration) h = refl
+gives_itself (Err fault.TooHigh) h = refl
+gives_itself (Err fault.Memory) h = absurd (h refl)
 
 -- the base of a member is a group
 pub group_of_member : (c : Contents) (name base : List ℕ) (number : ℕ) (g : GroupState) → Some (number, g) ≡ member_of c name → base ≡ base_of name → group_of c base ≡ Some g

@@ -55,7 +55,6 @@ abbrev pub catalog_fault : GroupFault → CatFault
 catalog_fault refused.Elsewhere = fault.There
 catalog_fault refused.NoGeneration = fault.NoGeneration
 catalog_fault refused.TooHigh = fault.TooHigh
-catalog_fault refused.Memory = fault.Memory
 
 abbrev pub in_catalog : {X : Type 0} → Result X GroupFault → Result X CatFault
 in_catalog (Ok x) = Ok x

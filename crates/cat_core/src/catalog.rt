@@ -1,9 +1,10 @@
 //! The catalog.
-ghost use Rattle.std.specs.Prelude.{◌≡◌, ◌≢◌, ◌≤◌, ◌<◌, ◌+◌, ◌++◌, length, take, None, Some, Err, IfSome, OnOk, OnErr};
+ghost use Rattle.std.specs.Prelude.{◌≡◌, ◌≢◌, ◌≤◌, ◌<◌, ◌+◌, ◌++◌, length, take, None, Some, Err, IfOk, IfSome, OnOk, OnErr};
 ghost use Rattle.std.specs.Option.{option_copied, option_map};
 ghost use Rattle.std.specs.FinMap as map;
 ghost use Rattle.group_core.specs.declared.entry.CatEntry.TheVariants.{Volume};
 ghost use Rattle.group_core.specs.Entries.{group_in, volume_in};
+ghost use Rattle.group_core.specs.Groups.{RollsInRange};
 ghost use Rattle.cat_core.specs.Bounds.{above_generations, below_generations};
 ghost use Rattle.cat_core.specs.Catalogs.{Gives, catalog_fault, contents_of, entered_name, enters_generation_of, entry_with, entry_without, found, generation_entered, generation_entered_by, group_made, group_of, has_generation_entered, is_entered, is_generation_of, is_volume, member_of, name_removed, relative, with_generation, with_group, with_name, without_name, without_number};
 
@@ -149,6 +150,21 @@ fn set_at(entries: &mut Entries, name: DsName, entry: CatEntry) -> Result<(), Al
     }
 }
 
+/// Puts a group without a generation at a base. The error is want of memory, and changes nothing.
+fn put_group(
+    entries: &mut Entries,
+    alloc: Global,
+    base: DsName,
+    limit: u8,
+    scratch: bool,
+) -> Result<(), AllocError>
+    ensures ok { OnOk result (contents_of entries.new.entries ≡ with_group (contents_of entries.old.entries) base limit scratch) }
+    ensures err { OnErr result (contents_of entries.new.entries ≡ contents_of entries.old.entries) }
+{
+    let group = Group::new(alloc, limit, scratch)?;
+    set_at(entries, base, CatEntry::Group(group))
+}
+
 /// Takes the entry of a name away.
 fn clear_at(entries: &mut Entries, name: &DsName)
     ensures { contents_of entries.new.entries ≡ map.remove (contents_of entries.old.entries) name.now }
@@ -159,9 +175,11 @@ fn clear_at(entries: &mut Entries, name: &DsName)
 /// Enters a generation's number in a group.
 fn enter_in(entry: &mut CatEntry, number: u16, serial: Serial) -> Result<Rolled, CatFault>
     requires { (0 < number) × (number ≤ 9999) }
-    ensures answer { Gives result (generation_entered_by (group_in (Some entry.old)) number serial) }
+    ensures answer { result ≡ generation_entered_by (group_in (Some entry.old)) number serial }
     ensures ok { OnOk result (entry.new ≡ entry_with entry.old number serial) }
+    ensures range { IfOk result RollsInRange }
     ensures err { OnErr result (entry.new ≡ entry.old) }
+    ensures memory { result ≢ Err CatFault.Memory }
 {
     match entry {
         CatEntry::Group(group) => match group.enter(number, serial) {
@@ -193,9 +211,11 @@ fn enter_at(
     serial: Serial,
 ) -> Result<Rolled, CatFault>
     requires { (0 < number) × (number ≤ 9999) }
-    ensures answer { Gives result (generation_entered (contents_of entries.old.entries) base.now number serial) }
+    ensures answer { result ≡ generation_entered (contents_of entries.old.entries) base.now number serial }
     ensures ok { OnOk result (contents_of entries.new.entries ≡ with_generation (contents_of entries.old.entries) base.now number serial) }
+    ensures range { IfOk result RollsInRange }
     ensures err { OnErr result (contents_of entries.new.entries ≡ contents_of entries.old.entries) }
+    ensures memory { result ≢ Err CatFault.Memory }
 {
     match entries.get_mut(base) {
         Some(entry) => enter_in(entry, number, serial),
@@ -214,13 +234,13 @@ fn clear_number_at(entries: &mut Entries, base: &DsName, number: u16)
 }
 
 fn catalog_fault(fault: GroupFault) -> CatFault
-    ensures { result ≡ catalog_fault fault }
+    ensures value { result ≡ catalog_fault fault }
+    ensures memory { result ≢ CatFault.Memory }
 {
     match fault {
         GroupFault::Elsewhere => CatFault::There,
         GroupFault::NoGeneration => CatFault::NoGeneration,
         GroupFault::TooHigh => CatFault::TooHigh,
-        GroupFault::Memory => CatFault::Memory,
     }
 }
 
@@ -273,7 +293,9 @@ impl Catalog {
     pub fn enter(&mut self, name: DsName, serial: Serial) -> Result<Rolled, CatFault>
         ensures answer { Gives result (entered_name self.old name serial) }
         ensures ok { OnOk result (self.new ≡ with_name self.old name serial) }
+        ensures range { IfOk result RollsInRange }
         ensures err { OnErr result (self.new ≡ self.old) }
+        ensures memory { result ≡ Err CatFault.Memory → (member_of self.old name ≡ None) × (map.get self.old name ≡ None) }
     {
         if self.is_entered(&name) {
             return Err(CatFault::There);
@@ -344,8 +366,7 @@ impl Catalog {
         if self.is_entered(&base) || has_generation_entered(&self.entries, &base) {
             return Err(CatFault::There);
         }
-        let group = Group::new(alloc, limit, scratch);
-        match set_at(&mut self.entries, base, CatEntry::Group(group)) {
+        match put_group(&mut self.entries, alloc, base, limit, scratch) {
             Ok(()) => Ok(()),
             Err(_) => Err(CatFault::Memory),
         }
@@ -364,7 +385,8 @@ impl Catalog {
         }
     }
 
-    /// Enters a generation's number in the group of a base: in a full group in place of the lowest. The caller scratches what rolls off.
+    /// Enters a generation's number in the group of a base: in a full group in place of the lowest. It takes no memory. The caller scratches
+    /// what rolls off.
     pub fn enter_generation(
         &mut self,
         base: &DsName,
@@ -372,9 +394,11 @@ impl Catalog {
         serial: Serial,
     ) -> Result<Rolled, CatFault>
         requires { (0 < number) × (number ≤ 9999) }
-        ensures answer { Gives result (generation_entered self.old base.now number serial) }
+        ensures answer { result ≡ generation_entered self.old base.now number serial }
         ensures ok { OnOk result (self.new ≡ with_generation self.old base.now number serial) }
+        ensures range { IfOk result RollsInRange }
         ensures err { OnErr result (self.new ≡ self.old) }
+        ensures memory { result ≢ Err CatFault.Memory }
     {
         enter_at(&mut self.entries, base, number, serial)
     }

@@ -1,5 +1,5 @@
 -- What a generation data group means, over its generations, the newest first.
-use Rattle.std.specs.Prelude.{◌≡◌, ℕ, Bool, ◌+◌, ◌<◌, ◌≤◌, ◌==◌, nat_lt, nat_le, List, [], ◌∷◌, length, Option, Some, None, Result, Ok, Err, slice_get, if◌then◌else◌}
+use Rattle.std.specs.Prelude.{ℕ, Bool, ◌+◌, ◌<◌, ◌≤◌, ◌==◌, nat_lt, nat_le, List, [], ◌∷◌, length, Option, Some, None, Result, Ok, Err, slice_get, if◌then◌else◌}
 use Rattle.std.specs.Str.{bytes_eq}
 use Rattle.jname_core.specs.declared.key.Sign.{Sign}
 use Rattle.jname_core.specs.declared.key.Sign.TheVariants.{Plus, Minus}
@@ -82,14 +82,6 @@ left_by (Err f) g new = g
 
 abbrev pub with_entered : GroupState → ℕ → List ℕ → GroupState
 with_entered g number serial = left_by (entered g number serial) g (record { number = number; serial = serial })
-
--- the answer is the one denoted, memory apart
-abbrev pub GivesUnlessMemory : {X : Type 0} → Result X GroupFault → Result X GroupFault → Type 0
-GivesUnlessMemory (Ok x) denoted = denoted ≡ Ok x
-GivesUnlessMemory (Err fault.Memory) denoted = Unit {0}
-GivesUnlessMemory (Err fault.Elsewhere) denoted = denoted ≡ Err fault.Elsewhere
-GivesUnlessMemory (Err fault.NoGeneration) denoted = denoted ≡ Err fault.NoGeneration
-GivesUnlessMemory (Err fault.TooHigh) denoted = denoted ≡ Err fault.TooHigh
 
 -- a number that was removed is one of a generation
 abbrev pub RollsInRange : Rolled → Type 0

@@ -1,8 +1,8 @@
 //! A group and its generations.
-ghost use Rattle.std.specs.Prelude.{◌≡◌, ◌<◌, ◌≤◌, ◌==◌, [], None, OnOk, OnErr, IsSome, IfOk, IfSome, Ok, Err, MatchResult, nat_lt, length, take, vec_len, slice_get, ◌↔◌, List, Some};
+ghost use Rattle.std.specs.Prelude.{◌≡◌, ◌<◌, ◌≤◌, ◌==◌, [], None, OnOk, OnErr, IsSome, IfOk, IfSome, Ok, Err, MatchResult, nat_lt, length, take, vec_len, vec_capacity, slice_get, ◌↔◌, List, Some};
 ghost use Rattle.std.specs.List.{position, insert, remove};
 ghost use Rattle.group_core.specs.declared.group.Generation.{Generation};
-ghost use Rattle.group_core.specs.Groups.{GroupState, IsFalling, entered, entered_again, inserted, lowest_of, newest_of, number_or_fault, rolled_off, serial_of, resolved, RollsInRange, with_entered, without, GivesUnlessMemory};
+ghost use Rattle.group_core.specs.Groups.{GroupState, IsFalling, entered, entered_again, inserted, lowest_of, newest_of, number_or_fault, rolled_off, serial_of, resolved, RollsInRange, with_entered, without};
 
 use jname_core::key::Sign;
 use jname_core::serial::Serial;
@@ -18,7 +18,7 @@ pub struct Generation {
 }
 
 /// A generation data group: how many generations it holds at most, whether the set of one that rolls off is scratched, and its
-/// generations, the newest first.
+/// generations, the newest first. Room for all that it may hold is taken when it is made.
 #[derive(Debug, Drop)]
 pub struct Group {
     limit: u8,
@@ -28,13 +28,14 @@ pub struct Group {
 
 impl Model for Group {
     ghost use Rattle.std.specs.Prelude.{◌<◌, ◌≤◌};
+    ghost use Rattle.std.specs.Vec.{vec_capacity};
     ghost use Rattle.group_core.specs.Groups.{GroupState, IsFalling};
 
     ghost Value = { GroupState };
 
     ghost view = { λ g. record { limit = g.limit; scratch = g.scratch; generations = g.generations.items } };
 
-    ghost invariant = { λ g. IsFalling 10000 g.generations.items };
+    ghost invariant = { λ g. IsFalling 10000 g.generations.items × (g.limit ≤ vec_capacity g.generations) };
 }
 
 /// What entering a generation did.
@@ -74,23 +75,23 @@ fn place_for(generations: &[Generation], new: &Generation) -> usize
     }
 }
 
-/// Puts a new generation in its place.
-fn add(generations: &mut Vec<Generation>, new: Generation) -> Result<(), AllocError>
+/// Puts a new generation in its place, where there is room.
+fn add(generations: &mut Vec<Generation>, new: Generation)
     requires number { (0 < new.number) × (new.number ≤ 9999) }
     requires other { serial_of generations.old.items new.number ≡ None }
     requires falling { IsFalling 10000 generations.old.items }
-    ensures ok { OnOk result (generations.new.items ≡ inserted new generations.old.items) }
-    ensures err { OnErr result (generations.new.items ≡ generations.old.items) }
+    requires room { vec_len generations.old < vec_capacity generations.old }
+    ensures value { generations.new.items ≡ inserted new generations.old.items }
     ensures falling { IsFalling 10000 generations.new.items }
+    ensures room { vec_capacity generations.old ≤ vec_capacity generations.new }
 {
     let place = place_for(generations.as_slice(), &new);
-    match generations.insert(place, new) {
-        Ok(()) => Ok(()),
-        Err(_) => Err(AllocError),
+    if generations.insert(place, new).is_err() {
+        unreachable!();
     }
 }
 
-/// Takes the lowest generation away and puts a new one in its place, which takes no memory.
+/// Takes the lowest generation away and puts a new one in its place.
 fn roll(generations: &mut Vec<Generation>, new: Generation)
     requires number { (0 < new.number) × (new.number ≤ 9999) }
     requires other { serial_of generations.old.items new.number ≡ None }
@@ -99,12 +100,10 @@ fn roll(generations: &mut Vec<Generation>, new: Generation)
     ensures rolled { (low : Generation) → lowest_of generations.old.items ≡ Some low →
         generations.new.items ≡ inserted new (without generations.old.items low.number) }
     ensures falling { IsFalling 10000 generations.new.items }
+    ensures room { vec_capacity generations.old ≤ vec_capacity generations.new }
 {
     generations.pop();
-    let place = place_for(generations.as_slice(), &new);
-    if generations.insert(place, new).is_err() {
-        unreachable!();
-    }
+    add(generations, new);
 }
 
 /// What entering a new number answers in a full group, of which this is the lowest generation.
@@ -140,8 +139,6 @@ pub enum GroupFault {
     NoGeneration,
     #[error("a generation's number would be above 9999")]
     TooHigh,
-    #[error("memory is wanting")]
-    Memory,
 }
 
 impl Clone for Group {
@@ -151,24 +148,27 @@ impl Clone for Group {
 
     fn clone(&self) -> Result<Group, AllocError> {
         let alloc = *self.generations.allocator();
+        let mut generations = Vec::from_slice(alloc, self.generations.as_slice())?;
+        let more = usize::from(self.limit).saturating_sub(generations.len());
+        generations.reserve(more)?;
         Ok(Group {
             limit: self.limit,
             scratch: self.scratch,
-            generations: Vec::from_slice(alloc, self.generations.as_slice())?,
+            generations,
         })
     }
 }
 
 impl Group {
-    /// A group without a generation. A limit of 0 holds none.
-    pub fn new(alloc: Global, limit: u8, scratch: bool) -> Group
-        ensures { result ≡ record { limit = limit; scratch = scratch; generations = [] } }
+    /// A group without a generation, with room for all that it may hold. A limit of 0 holds none.
+    pub fn new(alloc: Global, limit: u8, scratch: bool) -> Result<Group, AllocError>
+        ensures { IfOk result (λ group. group ≡ record { limit = limit; scratch = scratch; generations = [] }) }
     {
-        Group {
+        Ok(Group {
             limit,
             scratch,
-            generations: Vec::new(alloc),
-        }
+            generations: Vec::with_capacity(alloc, usize::from(limit))?,
+        })
     }
 
     /// How many generations it holds at most.
@@ -233,24 +233,21 @@ impl Group {
         Ok(Rolled::Entered)
     }
 
-    /// Enters a generation: in a full group in place of the lowest. An `Err` changes nothing.
+    /// Enters a generation: in a full group in place of the lowest. It takes no memory. An `Err` changes nothing.
     pub fn enter(&mut self, number: u16, serial: Serial) -> Result<Rolled, GroupFault>
         requires { (0 < number) × (number ≤ 9999) }
-        ensures answer { GivesUnlessMemory result (entered self.old number serial) }
+        ensures answer { result ≡ entered self.old number serial }
         ensures ok { OnOk result (self.new ≡ with_entered self.old number serial) }
         ensures range { IfOk result RollsInRange }
         ensures err { OnErr result (self.new ≡ self.old) }
-        ensures memory { result ≡ Err GroupFault.Memory → entered self.old number serial ≡ Ok Rolled.Entered }
     {
         if let Some(there) = self.find(number) {
             return entered_again(&there, &serial);
         }
         let new = Generation { number, serial };
         if self.generations.len() < usize::from(self.limit) {
-            return match add(&mut self.generations, new) {
-                Ok(()) => Ok(Rolled::Entered),
-                Err(_) => Err(GroupFault::Memory),
-            };
+            add(&mut self.generations, new);
+            return Ok(Rolled::Entered);
         }
         match self.lowest() {
             Some(lowest) if lowest.number <= number => {

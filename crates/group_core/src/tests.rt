@@ -10,7 +10,7 @@ fn volume(text: &str) -> Result<Serial, Fail> {
 
 /// A group of limit 2 with generation 1 on V1 and generation 2 on V2.
 fn full_group(alloc: Global) -> Result<Group, Fail> {
-    let mut group = Group::new(alloc, 2, true);
+    let mut group = Group::new(alloc, 2, true)?;
     let _ = group.enter(1, volume("V1")?)?;
     let _ = group.enter(2, volume("V2")?)?;
     Ok(group)
@@ -47,7 +47,7 @@ fn generations_roll_off(rt: HostRuntime) -> Result<(), Fail> {
 
 #[test]
 fn a_late_number_goes_behind_the_newer(rt: HostRuntime) -> Result<(), Fail> {
-    let mut group = Group::new(rt.alloc(), 3, false);
+    let mut group = Group::new(rt.alloc(), 3, false)?;
     for (number, serial) in [(5, "V5"), (2, "V2"), (4, "V4"), (3, "V3")] {
         let _ = group.enter(number, volume(serial)?)?;
     }
@@ -60,7 +60,7 @@ fn a_late_number_goes_behind_the_newer(rt: HostRuntime) -> Result<(), Fail> {
 
 #[test]
 fn a_group_of_limit_0_holds_none(rt: HostRuntime) -> Result<(), Fail> {
-    let mut group = Group::new(rt.alloc(), 0, false);
+    let mut group = Group::new(rt.alloc(), 0, false)?;
     assert_eq!(rt; group.enter(1, volume("V1")?), Ok(Rolled::Lowest));
     assert_eq!(rt; group.generations().len(), 0);
     assert_eq!(rt; group.limit(), 0);
@@ -81,7 +81,7 @@ fn relative_numbers_are_resolved(rt: HostRuntime) -> Result<(), Fail> {
     ] {
         assert_eq!(rt; full.resolve(sign, amount), answer, "{sign:?} {amount}");
     }
-    let empty = Group::new(rt.alloc(), 2, false);
+    let empty = Group::new(rt.alloc(), 2, false)?;
     for (sign, amount, answer) in [
         (Sign::Plus, 1, Ok(1)),
         (Sign::Plus, 0, Err(GroupFault::NoGeneration)),
@@ -90,7 +90,7 @@ fn relative_numbers_are_resolved(rt: HostRuntime) -> Result<(), Fail> {
     ] {
         assert_eq!(rt; empty.resolve(sign, amount), answer, "{sign:?} {amount}");
     }
-    let mut last = Group::new(rt.alloc(), 2, false);
+    let mut last = Group::new(rt.alloc(), 2, false)?;
     let _ = last.enter(9998, volume("V1")?)?;
     assert_eq!(rt; last.resolve(Sign::Plus, 1), Ok(9999));
     assert_eq!(rt; last.resolve(Sign::Plus, 2), Err(GroupFault::TooHigh));

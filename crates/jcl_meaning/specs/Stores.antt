@@ -82,7 +82,6 @@ by_number base (Ok number) = Means (Named (generation_name base number))
 by_number base (Err refused.TooHigh) = Fails F9
 by_number base (Err refused.NoGeneration) = Fails F5
 by_number base (Err refused.Elsewhere) = Fails F5
-by_number base (Err refused.Memory) = Fails F5
 
 abbrev pub by_group : Option GroupState → List ℕ → Sign → ℕ → Resolution
 by_group None base sign amount = Fails F5

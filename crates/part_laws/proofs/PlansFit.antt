@@ -244,7 +244,6 @@ number_means base (Ok n) key within e = (n, within n refl, cc)
 number_means base (Err refused.TooHigh) key within e = absurd cc
 number_means base (Err refused.NoGeneration) key within e = absurd cc
 number_means base (Err refused.Elsewhere) key within e = absurd cc
-number_means base (Err refused.Memory) key within e = absurd cc
 
 group_means : (g : Option GroupState) (base : List ℕ) (sign : Sign) (amount : ℕ) (key : Key) → ((k : GroupState) → g ≡ Some k → IsFalling 10000 k.generations) →
     by_group g base sign amount ≡ Means key → IsGenerationOf base key

@@ -12,7 +12,7 @@ use crate::store::{
     scratch, set_in, uncatalog,
 };
 use group_core::entry::CatEntry;
-use group_core::group::{GroupFault, Rolled};
+use group_core::group::Rolled;
 use jcl_meaning::names::is_temporary;
 use jcl_meaning::state::{Change, Disposed, Passed, TakenSet};
 use jcl_meaning::store::SoloStore;
@@ -188,7 +188,6 @@ fn catalogs_in_group(
     match group.enter(number, serial) {
         Ok(Rolled::Lowest) => Ok(does(DispWord::Kept, Change::Nothing)),
         Ok(_) => Ok(does(DispWord::Cataloged, Change::EnterGeneration)),
-        Err(GroupFault::Memory) => Err(AllocError),
         Err(_) => Ok(does(DispWord::F3, Change::Nothing)),
     }
 }
@@ -260,7 +259,6 @@ fn enter_generation(
             after_rolling(alloc, store, &base, rolled, scratches, date);
             Ok(())
         }
-        Err(GroupFault::Memory) => Err(AllocError),
         Err(_) => put_entry(alloc, store, &base, CatEntry::Group(group)),
     }
 }

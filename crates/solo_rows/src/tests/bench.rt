@@ -154,7 +154,7 @@ impl Bench {
         limit: &str,
         rolled: &str,
     ) -> Result<(), Fail> {
-        let mut group = Group::new(alloc, limit.parse::<u8>()?, rolled == "SCRATCH");
+        let mut group = Group::new(alloc, limit.parse::<u8>()?, rolled == "SCRATCH")?;
         for (number, serial) in mem::replace(&mut self.members, Vec::new(alloc)) {
             if number == 0 || number > 9999 {
                 return Err(Fail::from("a generation"));

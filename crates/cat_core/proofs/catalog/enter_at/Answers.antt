@@ -1,16 +1,16 @@
-use Rattle.std.proofs.Common.{◌≡◌, List, ℕ, Option, Some, is_some, ap, sym, subst, ◌∙◌}
+use Rattle.std.proofs.Common.{◌≡◌, List, ℕ, Option, Some, is_some, ap, sym, ◌∙◌}
 use Rattle.std.specs.FinMap.{get, insert}
 use Rattle.group_core.specs.declared.entry.CatEntry.{CatEntry}
 use Rattle.group_core.specs.Entries.{group_in}
-use Rattle.cat_core.specs.Catalogs.{Gives, contents_of, entry_with, generation_entered_by, with_generation}
+use Rattle.cat_core.specs.Catalogs.{contents_of, entry_with, generation_entered_by, with_generation}
 use Rattle.cat_core.proofs.Maps.{get_name, insert_same, one_set, entry_with_is}
 use Rattle.cat_core.proofs.Outcomes.{at_ok, at_err}
 use Rattle.cat_core.proofs.catalog.enter_at.Goals as goal
 
 pub returns-in-Some-clause-answer : goal.returns-in-Some-clause-answer
 returns-in-Some-clause-answer c =
-    subst (λ (e : Option CatEntry). Gives c.enter_in.result (generation_entered_by (group_in e) c.args.number c.args.serial))
-    (sym (get_name c.args.entries.now.entries c.args.base.now ∙ sym c.in-Some.ensures.value)) c.enter_in.ensures.answer
+    c.enter_in.ensures.answer ∙ ap (λ (e : Option CatEntry). generation_entered_by (group_in e) c.args.number c.args.serial)
+    (c.in-Some.ensures.value ∙ sym (get_name c.args.entries.now.entries c.args.base.now))
 
 pub returns-in-Some-clause-ok : goal.returns-in-Some-clause-ok
 returns-in-Some-clause-ok c =
@@ -36,4 +36,4 @@ returns-in-Some-clause-err c =
 
 pub returns-in-None-clause-answer : goal.returns-in-None-clause-answer
 returns-in-None-clause-answer c =
-    ap (λ (e : Option CatEntry). generation_entered_by (group_in e) c.args.number c.args.serial) (get_name c.args.entries.now.entries c.args.base.now ∙ sym c.in-None.ensures.value)
+    ap (λ (e : Option CatEntry). generation_entered_by (group_in e) c.args.number c.args.serial) (c.in-None.ensures.value ∙ sym (get_name c.args.entries.now.entries c.args.base.now))

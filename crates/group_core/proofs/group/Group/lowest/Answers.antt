@@ -12,4 +12,4 @@ returns-clause-lowest c =
 
 pub returns-clause-range : goal.returns-clause-range
 returns-clause-range c = lowest_in_range _ c.self.inside.generations.items
-    (c.copied.ensures ∙ c.last.ensures.value ∙ last_lowest c.deref.result.now ∙ ap lowest_of c.deref.ensures.value) c.self.invariant
+    (c.copied.ensures ∙ c.last.ensures.value ∙ last_lowest c.deref.result.now ∙ ap lowest_of c.deref.ensures.value) c.self.invariant.0

@@ -12,7 +12,7 @@ returns-in-Some-clause-range c =
     let there : slice_get gs c.from.result ≡ Some c.in-Some.generation.now
     = slice_get_read gs (length gs) c.from.result c.in-Some.generation.now refl (ltb-true c.from.result (length gs) (sym h.0)) h.1 in
     let range : (0 < c.in-Some.generation.now.number) × (c.in-Some.generation.now.number < 10000)
-    = number_in_range 10000 gs c.from.result c.in-Some.generation.now (subst (IsFalling 10000) (sym c.deref.ensures.value) c.self.invariant) there in
+    = number_in_range 10000 gs c.from.result c.in-Some.generation.now (subst (IsFalling 10000) (sym c.deref.ensures.value) c.self.invariant.0) there in
     (range.0, omega (arith, range.1))
 
 pub returns-in-None-clause-value : goal.returns-in-None-clause-value

@@ -1,4 +1,4 @@
-use Rattle.std.proofs.Common.{◌≡◌, ◌==◌, ℕ, List, Option, Some, IsSome, refl, sym, ap, subst, ◌∙◌}
+use Rattle.std.proofs.Common.{◌≡◌, ◌==◌, ℕ, List, Option, Some, IsSome, refl, sym, ap, subst, arith, ◌∙◌}
 use Rattle.std.specs.List.{position}
 use Rattle.group_core.specs.declared.group.Generation.{Generation}
 use Rattle.group_core.specs.Groups.{GroupState, IsFalling, serial_of, without}
@@ -15,7 +15,10 @@ left : (c : goal.After-remove) → c.remove.new.self.items ≡ without c.self.in
 left c = c.remove.ensures.items ∙ removed_there c.self.inside.generations.items c.args.number c.in-Some.place (there c)
 
 pub invariant_of-self : goal.invariant_of-self
-invariant_of-self c = subst (IsFalling 10000) (sym (left c)) (falling_without 10000 c.self.inside.generations.items c.args.number c.self.invariant)
+invariant_of-self c = (
+  subst (IsFalling 10000) (sym (left c)) (falling_without 10000 c.self.inside.generations.items c.args.number c.self.invariant.0),
+  omega (arith, c.self.invariant.1, c.remove.ensures.capacity),
+)
 
 pub returns-in-Some-clause-ok : goal.returns-in-Some-clause-ok
 returns-in-Some-clause-ok c =
