@@ -1,4 +1,6 @@
 //! Names of a catalog.
+ghost use Rattle.std.specs.Prelude.{◌≡◌, IfOk, length};
+
 use anyhow::{Context, Result};
 use cat_core::catalog::Catalog;
 use jname_core::ds_name::{DsName, read_ds_name};
@@ -6,7 +8,9 @@ use jname_core::serial::Serial;
 use std::alloc::Global;
 
 /// So many names, in order.
-pub fn names_of(alloc: Global, count: u32) -> Result<Vec<DsName>> {
+pub fn names_of(alloc: Global, count: u32) -> Result<Vec<DsName>>
+    ensures { IfOk result (λ names. length names.items ≡ count) }
+{
     let mut names = Vec::new(alloc);
     for number in 0..count {
         let text = format!(in alloc; "PAYROLL.D{number:05}")?;

@@ -120,39 +120,18 @@ fn make_group(rt: &impl Abort, alloc: Global, catalog: &mut Catalog, base: DsNam
     true
 }
 
-/// Enters a generation, a second time where memory was wanting, and tells whether it was.
-fn enter_generation(
-    rt: &impl Abort,
-    catalog: &mut Catalog,
-    base: &DsName,
-    number: u16,
-    serial: Serial,
-) -> bool {
-    assert!(rt; 0 < number && number < 40);
-    let answer = catalog.enter_generation(base, number, serial);
-    if answer != Err(CatFault::Memory) {
-        assert_eq!(rt; answer, Ok(Rolled::Entered));
-        return false;
-    }
-    assert!(rt;
-        are_numbers(catalog, base, number - 1, serial),
-        "before {number}"
-    );
-    let again = catalog.enter_generation(base, number, serial);
-    assert_eq!(rt; again, Ok(Rolled::Entered));
-    true
-}
-
 #[test]
-fn refused_memory_keeps_generations(rt: HostRuntime) -> Result<(), Fail> {
+fn a_made_group_takes_its_generations_without_memory(rt: HostRuntime) -> Result<(), Fail> {
     let serial = Serial::read(b"V1").ok_or("a serial")?;
     let base = name_of(b'A')?;
     let mut catalog = Catalog::new(rt.alloc());
-    let mut refused = make_group(&rt, rt.alloc(), &mut catalog, base);
-    for number in 1..40u16 {
-        refused = enter_generation(&rt, &mut catalog, &base, number, serial) || refused;
+    let refused = make_group(&rt, rt.alloc(), &mut catalog, base);
+    for number in 1..41u16 {
+        assert!(rt; 0 < number && number <= 40);
+        let answer = catalog.enter_generation(&base, number, serial);
+        assert_eq!(rt; answer, Ok(Rolled::Entered));
     }
-    assert!(rt; are_numbers(&catalog, &base, 39, serial));
+    assert!(rt; are_numbers(&catalog, &base, 40, serial));
     println!(rt; "refused: {refused}")?;
     Ok(())
 }
