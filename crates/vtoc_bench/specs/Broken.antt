@@ -1,7 +1,7 @@
 -- Tracks that are never free, every second one.
 use Rattle.std.specs.Prelude.{ℕ, zero, suc, ◌+◌, ◌*◌, List, [], ◌∷◌, ◌++◌}
-use Rattle.vtoc_core.specs.declared.entry.Extent.{Extent}
-use Rattle.vtoc_core.specs.Extents.{extent}
+use Rattle.extent_core.specs.declared.extent.Extent.{Extent}
+use Rattle.extent_core.specs.Extents.{extent}
 
 -- extents of one track, at the first so many odd numbers
 unfoldable pub odd_extents : ℕ → List Extent

@@ -4,15 +4,17 @@ use Rattle.std.specs.List.{slice_get}
 use Rattle.std.proofs.lemmas.Bool.{cases_Bool, false_from_ne_true}
 use Rattle.std.proofs.lemmas.List.Sums.{count_by-le-length, sum_by-cons}
 use Rattle.std.proofs.lemmas.Option.{none-some, same_Some, slice_get_within}
-use Rattle.vtoc_core.specs.declared.entry.Extent.{Extent}
+use Rattle.extent_core.specs.declared.extent.Extent.{Extent}
+use Rattle.extent_core.specs.Extents.{extent, is_in}
+use Rattle.extent_core.proofs.Marking.{is_in_behind, is_in_within}
 use Rattle.vtoc_core.specs.declared.volume.Track.{Track}
 use Rattle.vtoc_core.specs.declared.volume.Track.TheVariants.{Free, Aside, InSet, Unusable}
 use Rattle.vtoc_core.specs.declared.volume.TrackCounts.{TrackCounts}
-use Rattle.vtoc_core.specs.Extents.{extent, tracks_in}
-use Rattle.vtoc_core.specs.Volumes.{AreOf, Counted, Moves, count_in, count_of, is_in, is_kind, marked, times_in}
-use Rattle.vtoc_core.proofs.MarkLemmas.{is_in_behind, is_in_within, marked-cons, marked_none, one_more, one_none}
+use Rattle.vtoc_core.specs.Extents.{tracks_in}
+use Rattle.vtoc_core.specs.Volumes.{AreOf, Counted, Moves, count_in, count_of, is_kind, marked, times_in}
+use Rattle.vtoc_core.proofs.MarkLemmas.{marked-cons, marked_none, one_more, one_none}
 use Rattle.vtoc_core.proofs.FreeLemmas.{times_in-cons}
-use Rattle.vtoc_core.proofs.KindLemmas.{marked_not_in}
+use Rattle.vtoc_core.proofs.KindLemmas.{marked_not_in, others_stay}
 use Rattle.vtoc_core.proofs.PlanLemmas.{tracks_in-cons}
 
 -- a number where a test holds, and else 0
@@ -98,16 +100,6 @@ count-one q from kind s (suc n) ts h =
     let c : count_of q (marked kind (extent s (suc n) ∷ []) ts) ≡ count_of q (set before (s + n) kind) = ap (count_of q) one in
     omega (arith, count-set q from kind before (s + n) at, cond-suc (is_kind q from) n, cond-suc (is_kind q kind) n)
 
--- extents of one kind behind the first, once that is marked
-others_stay : (from kind : Track) (e : Extent) (es : List Extent) (ts : List Track) → AreOf from ts (e ∷ es) → AreOf from (marked kind (e ∷ []) ts) es
-others_stay from kind e es ts a = record {
-  kinds = λ k l.
-      let o : times_in k (e ∷ es) ≤ 1 = a.once k in
-      let z : times_in k (e ∷ []) ≡ 0 = omega (arith, times_in-cons k e es, times_in-cons k e []) in
-      marked_not_in kind (e ∷ []) ts k z ∙ a.kinds k (omega (arith, times_in-cons k e es));
-  once = λ k. let o : times_in k (e ∷ es) ≤ 1 = a.once k in omega (arith, times_in-cons k e es);
-}
-
 -- the tracks of extents that are all of one kind
 pub count-marked : (q from kind : Track) (es : List Extent) (ts : List Track) → AreOf from ts es →
     count_of q (marked kind es ts) + if_so (is_kind q from) (tracks_in es) ≡ count_of q ts + if_so (is_kind q kind) (tracks_in es)
@@ -152,14 +144,12 @@ pub were_there : (from kind : Track) (es : List Extent) (ts : List Track) → fr
 were_there from kind es ts n a = let m = moves from kind es ts n a in let f = m.fewer in omega arith
 
 -- counts that are kept: so many fewer of the one kind, so many more of the other
-pub counted_on : (from kind : Track) (es : List Extent) (ts : List Track) (old mid new : TrackCounts) (n : ℕ) → from ≢ kind → AreOf from ts es →
-    n ≡ tracks_in es → Counted old ts → ((k : Track) → count_in mid k ≡ count_in old k - if_so (is_kind k from) n) →
-    ((k : Track) → count_in new k ≡ count_in mid k + if_so (is_kind k kind) n) → Counted new (marked kind es ts)
-counted_on from kind es ts old mid new n apart a same counts less more = λ k.
+pub counted_on : (from kind : Track) (es : List Extent) (ts : List Track) (old new : TrackCounts) (n : ℕ) → from ≢ kind → AreOf from ts es →
+    n ≡ tracks_in es → Counted old ts → ((k : Track) → count_in new k ≡ count_in old k - if_so (is_kind k from) n + if_so (is_kind k kind) n) → Counted new (marked kind es ts)
+counted_on from kind es ts old new n apart a same counts shift = λ k.
     let c = count-marked k from kind es ts a in
     let o : count_in old k ≡ count_of k ts = counts k in
-    let l : count_in mid k ≡ count_in old k - if_so (is_kind k from) n = less k in
-    let m : count_in new k ≡ count_in mid k + if_so (is_kind k kind) n = more k in
+    let s : count_in new k ≡ count_in old k - if_so (is_kind k from) n + if_so (is_kind k kind) n = shift k in
     ⊎_elim
     (λ (p : is_kind k from ≡ true).
     let q : is_kind k kind ≡ false = kind_other k kind (λ e. apart (sym (kind_same k from p) ∙ e)) in

@@ -1,10 +1,11 @@
 -- A set's extents parted behind so many tracks, one extent after another.
 use Rattle.std.proofs.Common.{true, ◌≡◌, ◌≢◌, ℕ, suc, zero, ◌+◌, ◌-◌, ◌<◌, ◌≤◌, min, cond, List, [], ◌∷◌, ◌++◌, length, get_or, refl, ap, sym, ◌∙◌, arith, ⊎_elim, inl, inr, nat_eq, nat_le, append_assoc}
 use Rattle.std.proofs.lemmas.Bool.{cases_eq, cases_lt, cond_both, eq-eqb, ne_eqb, le-leb, lt-leb}
-use Rattle.vtoc_core.specs.declared.entry.Extent.{Extent}
-use Rattle.vtoc_core.specs.Extents.{extent, kept_front, past_front, tracks_in}
-use Rattle.vtoc_core.specs.Volumes.{is_in, times_in, tracks_past}
-use Rattle.vtoc_core.proofs.MarkLemmas.{is_in_within, is_in_before, is_in_behind}
+use Rattle.extent_core.specs.declared.extent.Extent.{Extent}
+use Rattle.extent_core.specs.Extents.{extent, is_in}
+use Rattle.extent_core.proofs.Marking.{is_in_before, is_in_behind, is_in_within}
+use Rattle.vtoc_core.specs.Extents.{kept_front, past_front, tracks_in}
+use Rattle.vtoc_core.specs.Volumes.{times_in, tracks_past}
 use Rattle.vtoc_core.proofs.FreeLemmas.{times_in-cons}
 use Rattle.vtoc_core.proofs.PlanLemmas.{tracks_in-cons}
 

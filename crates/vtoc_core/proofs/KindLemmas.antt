@@ -1,12 +1,14 @@
 -- Tracks of a kind: what marking does to them, and to others.
-use Rattle.std.proofs.Common.{◌≡◌, ◌≢◌, ℕ, ◌+◌, ◌<◌, ◌≤◌, true, false, cond, List, [], ◌∷◌, length, Some, refl, ap, sym, ◌∙◌, arith, ⊎_elim}
+use Rattle.std.proofs.Common.{◌≡◌, ◌≢◌, ℕ, ◌+◌, ◌<◌, ◌≤◌, true, false, Bool, cond, List, [], ◌∷◌, length, get_or, Some, refl, ap, sym, ◌∙◌, arith, ⊎_elim}
 use Rattle.std.specs.List.{slice_get}
 use Rattle.std.proofs.lemmas.Bool.{cases_Bool, cases_lt, true≢false}
-use Rattle.std.proofs.lemmas.Option.{slice_get-get_or, slice_get_within, slice_get_past, same_Some}
-use Rattle.vtoc_core.specs.declared.entry.Extent.{Extent}
+use Rattle.std.proofs.lemmas.List.{same_lists}
+use Rattle.std.proofs.lemmas.Option.{get_or_from_slice_get, slice_get-get_or, slice_get_within, slice_get_past, same_Some}
+use Rattle.extent_core.specs.declared.extent.Extent.{Extent}
+use Rattle.extent_core.specs.Extents.{is_in}
 use Rattle.vtoc_core.specs.declared.volume.Track.{Track}
 use Rattle.vtoc_core.specs.declared.volume.Track.TheVariants.{Free, Aside, InSet, Unusable}
-use Rattle.vtoc_core.specs.Volumes.{is_in, is_in_some, times_in, marked, AreOf, LieApart}
+use Rattle.vtoc_core.specs.Volumes.{is_in_some, times_in, marked, AreOf, LieApart}
 use Rattle.vtoc_core.proofs.MarkLemmas.{length-marked, get_or-marked}
 use Rattle.vtoc_core.proofs.FreeLemmas.{times_in-cons}
 
@@ -98,3 +100,28 @@ are_of_apart kind b ts fs es y h = record {
   kinds = λ k l. marked_not_in kind es ts k (h k l) ∙ y.kinds k l;
   once = y.once;
 }
+
+-- extents of one kind behind the first, once that is marked
+pub others_stay : (from kind : Track) (e : Extent) (es : List Extent) (ts : List Track) → AreOf from ts (e ∷ es) → AreOf from (marked kind (e ∷ []) ts) es
+others_stay from kind e es ts a = record {
+  kinds = λ k l.
+      let o : times_in k (e ∷ es) ≤ 1 = a.once k in
+      let z : times_in k (e ∷ []) ≡ 0 = omega (arith, times_in-cons k e es, times_in-cons k e []) in
+      marked_not_in kind (e ∷ []) ts k z ∙ a.kinds k (omega (arith, times_in-cons k e es));
+  once = λ k. let o : times_in k (e ∷ es) ≤ 1 = a.once k in omega (arith, times_in-cons k e es);
+}
+
+-- tracks that are marked and marked back are as before
+marked_twice : (b : Bool) (first last t : Track) → (b ≡ true → t ≡ last) → cond b last (cond b first t) ≡ t
+marked_twice true first last t h = sym (h refl)
+marked_twice false first last t h = refl
+
+pub marked_back : (first last : Track) (es : List Extent) (ts : List Track) → AreOf last ts es → marked last es (marked first es ts) ≡ ts
+marked_back first last es ts a =
+    same_lists (marked last es (marked first es ts)) ts
+    (length-marked last es (marked first es ts) ∙ length-marked first es ts)
+    (λ k d l. let m : k < length ts = omega (arith, length-marked last es (marked first es ts), length-marked first es ts) in
+    get_or-marked last es (marked first es ts) k d (omega (arith, length-marked first es ts))
+    ∙ ap (λ t. cond (is_in_some k es) last t) (get_or-marked first es ts k d m)
+    ∙ marked_twice (is_in_some k es) first last (get_or ts k d)
+    (λ q. get_or_from_slice_get ts k last d (a.kinds k (some_in k es q))))

@@ -3,8 +3,10 @@ pub mod PlaceLemmas
 pub mod MapLemmas
 pub mod FreeLemmas
 pub mod LargestLemmas
-pub mod PlanLemmas
 pub mod KindLemmas
+pub mod FreeTracks
+pub mod PlanLemmas
+pub mod TakeLemmas
 pub mod CountLemmas
 pub mod TableLemmas
 pub mod CutLemmas

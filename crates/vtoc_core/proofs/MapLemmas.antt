@@ -10,7 +10,7 @@ use Rattle.std.specs.declared.cmp.Ordering.TheVariants.{Less, Equal, Greater}
 use Rattle.std.proofs.lemmas.Cmp.{eq_by_cmp_equiv}
 use Rattle.std.proofs.lemmas.Option.{none-some}
 use Rattle.vtoc_core.specs.contracts.entry.SetKeyOrd.TheImpl as ord
-use Rattle.vtoc_core.specs.declared.entry.Extent.{Extent}
+use Rattle.extent_core.specs.declared.extent.Extent.{Extent}
 use Rattle.vtoc_core.specs.declared.entry.SetEntry.{SetEntry}
 use Rattle.vtoc_core.specs.declared.entry.SetKey.{SetKey}
 use Rattle.vtoc_core.specs.Entries.{Sets, changed, changed_by, key_cmp, sets_of}
@@ -67,6 +67,14 @@ insert_same m k v h = same_map key_total keys_tie (insert m k v) m (λ q.
 twice : (b : Bool) (x y z : Option SetEntry) → cond b x (cond b y z) ≡ cond b x z
 twice true x y z = refl
 twice false x y z = refl
+
+-- the last that is put at a key stays
+pub insert-insert : (m : Sets) (k : SetKey) (v w : SetEntry) → insert (insert m k v) k w ≡ insert m k w
+insert-insert m k v w = same_map key_total keys_tie (insert (insert m k v) k w) (insert m k w) (λ q.
+    get-insert key_total (insert m k v) k w q
+    ∙ ap (cond (eq_by_cmp key_cmp q k) (Some w)) (get-insert key_total m k v q)
+    ∙ twice (eq_by_cmp key_cmp q k) (Some w) (Some v) (get m q)
+    ∙ sym (get-insert key_total m k w q))
 
 -- to put something at a key is to put it where nothing is at that key
 pub insert-remove : (m : Sets) (k : SetKey) (v : SetEntry) → insert (remove m k) k v ≡ insert m k v

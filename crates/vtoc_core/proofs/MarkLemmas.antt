@@ -1,11 +1,12 @@
 -- What tracks are once those of some extents are marked.
-use Rattle.std.proofs.Common.{◌≡◌, ◌≢◌, ℕ, suc, zero, ◌+◌, ◌-◌, ◌<◌, ◌≤◌, min, Bool, true, false, ◌||◌, cond, List, [], ◌∷◌, ◌++◌, length, get_or, set, take, drop, refl, ap, sym, ◌∙◌, arith, ⊎_elim, nat_lt, nat_le, get_or-set_same, get_or-set_other, length-set}
-use Rattle.std.proofs.lemmas.Bool.{cases_Bool, cases_eq, cases_lt, ltb-true, lt-ltb, le-leb, lt-leb, le-ltb, leb-true, and_parts, and_right, or_from, false_from_ne_true, both_ways}
+use Rattle.std.proofs.Common.{◌≡◌, ◌≢◌, ℕ, suc, zero, ◌+◌, ◌-◌, ◌<◌, ◌≤◌, min, Bool, true, false, ◌||◌, cond, List, [], ◌∷◌, ◌++◌, length, get_or, set, take, drop, refl, ap, sym, ◌∙◌, arith, ⊎_elim, get_or-set_same, get_or-set_other, length-set}
+use Rattle.std.proofs.lemmas.Bool.{cases_eq, cases_lt, or_from}
 use Rattle.std.proofs.lemmas.List.{same_lists, take_at}
-use Rattle.vtoc_core.specs.declared.entry.Extent.{Extent}
+use Rattle.extent_core.specs.declared.extent.Extent.{Extent}
+use Rattle.extent_core.proofs.Marking.{is_in_as, is_in_before, is_in_behind, is_in_within}
+use Rattle.extent_core.specs.Extents.{extent, is_in}
 use Rattle.vtoc_core.specs.declared.volume.Track.{Track}
-use Rattle.vtoc_core.specs.Extents.{extent}
-use Rattle.vtoc_core.specs.Volumes.{is_in, is_in_some, marked_from, marked}
+use Rattle.vtoc_core.specs.Volumes.{is_in_some, marked_from, marked}
 
 pub length-marked_from : (at : ℕ) (kind : Track) (es : List Extent) (ts : List Track) → length (marked_from at kind es ts) ≡ length ts
 length-marked_from at kind es [] = refl
@@ -51,27 +52,6 @@ marked-cons kind e es ts =
     ∙ ap (λ t. cond (is_in_some k es) kind t) (get_or-marked kind (e ∷ []) ts k d m)
     ∙ twice (is_in k e) (is_in_some k es) kind (get_or ts k d)
     ∙ sym (get_or-marked kind (e ∷ es) ts k d m))
-
--- a track lies in an extent, in front of it, or behind it
-pub is_in_within : (k : ℕ) (e : Extent) → e.start ≤ k → k < e.start + e.tracks → is_in k e ≡ true
-is_in_within k e l r = simp (le-leb e.start k l, lt-ltb k (e.start + e.tracks) r)
-
-pub is_in_before : (k : ℕ) (e : Extent) → k < e.start → is_in k e ≡ false
-is_in_before k e l = simp (lt-leb e.start k l)
-
-pub is_in_behind : (k : ℕ) (e : Extent) → e.start + e.tracks ≤ k → is_in k e ≡ false
-is_in_behind k e l = and_right (nat_le e.start k) (nat_lt k (e.start + e.tracks)) (le-ltb k (e.start + e.tracks) l)
-
-pub within_is_in : (k : ℕ) (e : Extent) → is_in k e ≡ true → (e.start ≤ k) × (k < e.start + e.tracks)
-within_is_in k e h =
-    let p = and_parts (nat_le e.start k) (nat_lt k (e.start + e.tracks)) h in
-    (leb-true e.start k p.0, ltb-true k (e.start + e.tracks) p.1)
-
-pub is_in_as : (k : ℕ) (e f : Extent) → ((e.start ≤ k) × (k < e.start + e.tracks) → (f.start ≤ k) × (k < f.start + f.tracks)) → ((f.start ≤ k) × (k < f.start + f.tracks) → (e.start ≤ k) × (k < e.start + e.tracks)) → is_in k e ≡ is_in k f
-is_in_as k e f there back =
-    ⊎_elim (λ (h : is_in k e ≡ true). let p = there (within_is_in k e h) in h ∙ sym (is_in_within k f p.0 p.1))
-    (λ (h : is_in k e ≡ false). h ∙ sym (false_from_ne_true (is_in k f) (λ g. let p = back (within_is_in k f g) in both_ways (is_in k e) h (is_in_within k e p.0 p.1))))
-    (cases_Bool (is_in k e))
 
 -- marking one extent, track by track
 pub one_none : (kind : Track) (s n : ℕ) (ts : List Track) → n ≡ 0 → marked kind (extent s n ∷ []) ts ≡ ts

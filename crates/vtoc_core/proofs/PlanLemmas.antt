@@ -1,55 +1,31 @@
 -- What is planned: free tracks, as many as are wanted, of five extents at most, exactly where the five largest have as many.
-use Rattle.std.proofs.Common.{◌≡◌, ◌≢◌, ℕ, suc, zero, ◌+◌, ◌-◌, ◌<◌, ◌≤◌, true, false, cond, List, [], ◌∷◌, ◌++◌, length, Option, Some, None, refl, ap, sym, ◌∙◌, subst, arith, ⊎_elim, nat_le, nat_eq, inl, inr, IsSome}
-use Rattle.std.specs.Option.{MatchOption, is_some}
-use Rattle.arrayvec.specs.ArrayVec.{ArrayVec}
-use Rattle.std.proofs.lemmas.Bool.{true≢false, cases_Bool, cases_eq, cases_lt, cond_both, eq-eqb, ne_eqb, le-leb, lt-leb, leb-true, leb-false}
+use Rattle.std.proofs.Common.{◌≡◌, ◌≢◌, ℕ, suc, zero, ◌+◌, ◌-◌, ◌<◌, ◌≤◌, true, false, cond, List, [], ◌∷◌, length, Option, Some, None, refl, ap, sym, ◌∙◌, subst, arith, ⊎_elim, nat_le, nat_eq, inl, inr, IsSome}
+use Rattle.std.specs.Option.{is_some}
+use Rattle.std.proofs.lemmas.Bool.{true≢false, cases_Bool, cases_eq, cases_lt, cond_both, eq-eqb, ne_eqb, lt-leb, leb-true, leb-false}
 use Rattle.std.proofs.lemmas.Option.{same_Some, none-some}
 use Rattle.std.proofs.lemmas.List.Sums.{sum_by-cons, sum-map}
-use Rattle.vtoc_core.specs.declared.entry.Extent.{Extent}
+use Rattle.extent_core.specs.declared.extent.Extent.{Extent}
+use Rattle.extent_core.specs.Extents.{extent, first_of, is_in, larger, largest_of}
+use Rattle.extent_core.proofs.Marking.{is_in_within, within_is_in}
 use Rattle.vtoc_core.specs.declared.volume.Track.{Track}
 use Rattle.vtoc_core.specs.declared.volume.Track.TheVariants.{Free}
-use Rattle.vtoc_core.specs.Extents.{extent, largest_of, larger, without_extent, others_by, tracks_of_largest_by, tracks_of_largest, five_largest, first_of, behind, largest_taken, front_or, planned, tracks_in, free_extents}
-use Rattle.vtoc_core.specs.Searches.{taken_from, searched}
-use Rattle.vtoc_core.specs.Volumes.{is_in, times_in, AreOf}
-use Rattle.vtoc_core.proofs.MarkLemmas.{is_in_within, within_is_in}
-use Rattle.vtoc_core.proofs.FreeLemmas.{InOrder, in_order_from, in_order-free_from, in_order_once, times_in-cons, times_in-cons_not, free_extents_hold}
-use Rattle.vtoc_core.proofs.LargestLemmas.{largest, before, largest_taken_is, largest_is_one, IsOneOf, BeginsBehind, BeginInOrder, sought, searched_is, none_or_some}
+use Rattle.vtoc_core.specs.Extents.{without_extent, others_by, tracks_of_largest_by, tracks_of_largest, five_largest, behind, largest_taken, front_or, planned, tracks_in, free_extents}
+use Rattle.vtoc_core.specs.Volumes.{times_in, AreOf}
+use Rattle.vtoc_core.proofs.FreeLemmas.{InOrder, in_order_from, in_order-free_extents, in_order_once, times_in-cons, times_in-cons_not}
+use Rattle.vtoc_core.proofs.FreeTracks.{free_extents_hold}
+use Rattle.vtoc_core.proofs.LargestLemmas.{largest, before, largest_taken_is, largest_is_one, IsOneOf, sought, none_or_some, taken_from}
 
 -- the number of tracks, one extent after another
 pub tracks_in-cons : (e : Extent) (es : List Extent) → tracks_in (e ∷ es) ≡ e.tracks + tracks_in es
 tracks_in-cons e es = sum-map (λ (f : Extent). f.tracks) (e ∷ es) ∙ sum_by-cons (λ (f : Extent). f.tracks) e es ∙ ap (λ n. e.tracks + n) (sym (sum-map (λ (f : Extent). f.tracks) es))
 
--- extents in order begin one behind the other
-abbrev BeginBelow : ℕ → List Extent → Type 0
-BeginBelow at es = BeginsBehind (extent at 0) es
-
-begins_behind : (es : List Extent) (at : ℕ) (e : Extent) → BeginBelow at es → at ≤ e.start → BeginsBehind e es
-begins_behind [] at e h l = tt
-begins_behind (x ∷ xs) at e h l = (omega (arith, h.0), begins_behind xs at e h.1 l)
-
-begin_below_push : (es : List Extent) (e : Extent) (at to : ℕ) → BeginBelow at es → at ≤ to → e.start < to → BeginBelow to (es ++ e ∷ [])
-begin_below_push [] e at to h l m = (m, tt)
-begin_below_push (x ∷ xs) e at to h l m = (omega (arith, h.0), begin_below_push xs e at to h.1 l m)
-
-begin_in_order : (es seen : List Extent) (at : ℕ) → InOrder at es → BeginBelow at seen → BeginInOrder seen es
-begin_in_order [] seen at h b = tt
-begin_in_order (e ∷ es) seen at h b = (
-  begins_behind seen at e b h.0,
-  begin_in_order es (seen ++ e ∷ []) (e.start + e.tracks) h.2 (begin_below_push seen e at (e.start + e.tracks) b (omega (arith, h.0)) (omega (arith, h.1))),
-)
-
 pub planned_none : (es : List Extent) (n : ℕ) → n ≡ 0 → planned es n ≡ Some []
 unfolding planned
 planned_none es n h = ap (λ b. cond b (Some []) (sought n es)) (eq-eqb n 0 h)
 
-planned_sought : (es : List Extent) (n : ℕ) → n ≢ 0 → planned es n ≡ sought n es
+pub planned_sought : (es : List Extent) (n : ℕ) → n ≢ 0 → planned es n ≡ sought n es
 unfolding planned
 planned_sought es n h = ap (λ b. cond b (Some []) (sought n es)) (ne_eqb n 0 h)
-
-pub planned_searched : (ts : List Track) (n : ℕ) → n ≢ 0 → planned (free_extents ts) n ≡ searched [] n (free_extents ts)
-planned_searched ts n h =
-    planned_sought (free_extents ts) n h
-    ∙ sym (searched_is (free_extents ts) [] n (begin_in_order (free_extents ts) [] 0 (in_order-free_from 0 ts) tt) refl)
 
 -- one of extents in order, and the others
 same_start : (es : List Extent) (at : ℕ) (m : Extent) → InOrder at es → IsOneOf m es → at ≤ m.start
@@ -247,7 +223,7 @@ plan_from : (ts : List Track) (n : ℕ) (list : List Extent) → tracks_in list 
 plan_from ts n list t among few = record {
   free = record {
     kinds = λ k l. free_extents_hold k ts (let a = among k in omega arith);
-    once = λ k. let a = among k in let o = in_order_once k 0 (free_extents ts) (in_order-free_from 0 ts) in omega arith;
+    once = λ k. let a = among k in let o = in_order_once k 0 (free_extents ts) (in_order-free_extents ts) in omega arith;
   };
   tracks = t;
   few = few;
@@ -273,7 +249,7 @@ plan_taken : (j : ℕ) (ts : List Track) (n : ℕ) (list : List Extent) → j �
 plan_taken j ts n list l h =
     let t : Takes (largest j (free_extents ts)) n list = taken_takes (largest j (free_extents ts)) n list (sym (largest_taken_is j (free_extents ts) n) ∙ h) in
     plan_from ts n list t.tracks
-    (λ k. let a = t.among k in let b = times_in_largest j (free_extents ts) 0 k (in_order-free_from 0 ts) in omega arith)
+    (λ k. let a = t.among k in let b = times_in_largest j (free_extents ts) 0 k (in_order-free_extents ts) in omega arith)
     (let a = t.few in let b = length-largest j (free_extents ts) in omega arith)
 
 plan_front : (ts : List Track) (n : ℕ) (e : Extent) → first_of n (free_extents ts) ≡ Some e → IsPlan ts n (extent e.start n ∷ [])
@@ -297,16 +273,6 @@ planned_is ts n list h =
     (none_or_some (first_of n (free_extents ts))))
     (cases_eq n 0)
 
--- where the search ends
-searched_found : (kept es fs : List Extent) (n : ℕ) (e : Extent) → es ≡ e ∷ fs → n ≤ e.tracks → searched kept n es ≡ Some (extent e.start n ∷ [])
-searched_found kept es fs n e h l = ap (searched kept n) h ∙ simp (le-leb n e.tracks l)
-
-pub planned_found : (ts : List Track) (kept es fs : List Extent) (n : ℕ) (e : Extent) → n ≢ 0 → searched kept n es ≡ searched [] n (free_extents ts) → es ≡ e ∷ fs → n ≤ e.tracks → planned (free_extents ts) n ≡ Some (extent e.start n ∷ [])
-planned_found ts kept es fs n e z h q l = planned_searched ts n z ∙ sym h ∙ searched_found kept es fs n e q l
-
-pub planned_left : (ts : List Track) (kept es : List Extent) (n : ℕ) → n ≢ 0 → searched kept n es ≡ searched [] n (free_extents ts) → es ≡ [] → planned (free_extents ts) n ≡ taken_from kept n
-planned_left ts kept es n z h q = planned_searched ts n z ∙ sym h ∙ ap (searched kept n) q
-
 -- the five largest have as many tracks as are wanted exactly where something is planned
 pub planned_some : (es : List Extent) (n : ℕ) (list : List Extent) → planned es n ≡ Some list → n ≤ five_largest es
 planned_some es n list h =
@@ -315,13 +281,3 @@ planned_some es n list h =
 pub planned_refused : (es : List Extent) (n : ℕ) → planned es n ≡ None → five_largest es < n
 planned_refused es n h =
     ⊎_elim (λ (l : five_largest es < n). l) (λ (l : n ≤ five_largest es). absurd (true≢false (sym (planned_where es n l) ∙ ap is_some h))) (cases_lt (five_largest es) n)
-
--- what the search answers
-pub plan_tells : (ts : List Track) (n : ℕ) (o : Option (ArrayVec Extent)) →
-    MatchOption o (planned (free_extents ts) n ≡ None) (λ t. planned (free_extents ts) n ≡ Some t.items) →
-    MatchOption o ((planned (free_extents ts) n ≡ None) × (five_largest (free_extents ts) < n))
-    (λ t. (planned (free_extents ts) n ≡ Some t.items) × (n ≤ five_largest (free_extents ts)) × AreOf Free ts t.items × (tracks_in t.items ≡ n))
-plan_tells ts n None h = (h, planned_refused (free_extents ts) n h)
-plan_tells ts n (Some t) h =
-    let p : IsPlan ts n t.items = planned_is ts n t.items h in
-    (h, planned_some (free_extents ts) n t.items h, p.free, p.tracks)

@@ -1,59 +1,58 @@
--- A table of the five largest extents: where one more goes.
-use Rattle.std.proofs.Common.{◌≡◌, ℕ, suc, zero, ◌+◌, ◌<◌, ◌≤◌, Bool, not, cond, List, [], ◌∷◌, length, take, Some, None, refl, ap, sym, ◌∙◌, arith, ⊎_elim, nat_lt}
-use Rattle.std.specs.List.{position, position_or_len, insert}
-use Rattle.std.specs.Option.{unwrap_or}
-use Rattle.std.proofs.lemmas.Bool.{cases_lt, le-leb, lt-leb, lt-ltb, le-ltb}
-use Rattle.std.proofs.lemmas.List.Sums.{prefix_len-le-length}
-use Rattle.vtoc_core.specs.declared.entry.Extent.{Extent}
-use Rattle.vtoc_core.specs.Searches.{entered}
+-- What a table of tracks keeps beside them once some are marked.
+use Rattle.std.proofs.Common.{◌≡◌, ◌≢◌, ℕ, ◌≤◌, true, false, Bool, List, length, Some, None, ap, sym, ◌∙◌, subst, arith}
+use Rattle.extent_core.specs.declared.extent.Extent.{Extent}
+use Rattle.vtoc_core.specs.declared.volume.Track.{Track}
+use Rattle.vtoc_core.specs.declared.volume.Track.TheVariants.{Free}
+use Rattle.vtoc_core.specs.declared.volume.TrackCounts.{TrackCounts}
+use Rattle.vtoc_core.specs.Extents.{are_free, free_extents, planned}
+use Rattle.vtoc_core.specs.Searches.{marked_each}
+use Rattle.vtoc_core.specs.Volumes.{AreOf, Counted, IsSpace, LacksSpace, Moves, marked}
+use Rattle.vtoc_core.proofs.CountLemmas.{moves}
+use Rattle.vtoc_core.proofs.FreeTracks.{are_free-marked, not_free}
+use Rattle.vtoc_core.proofs.KindLemmas.{are_of-marked, marked_back}
+use Rattle.vtoc_core.proofs.MarkLemmas.{length-marked}
+use Rattle.vtoc_core.proofs.PlanLemmas.{IsPlan, planned_is, planned_refused, planned_some}
 
-abbrev smaller : Extent → Extent → Bool
-smaller e f = nat_lt f.tracks e.tracks
+pub table_kept : (to : Track) (es : List Extent) (ts us ws : List Track) (counts : TrackCounts) (free : List Bool) → us ≡ marked to es ts → ws ≡ marked to es ts → length ts ≤ 4000 →
+    Counted counts ws → free ≡ are_free (marked to es ts) → Counted counts us × (length us ≤ 4000) × (free ≡ are_free us)
+table_kept to es ts us ws counts free p q l c f =
+    subst (λ (xs : List Track). Counted counts xs × (length xs ≤ 4000) × (free ≡ are_free xs)) (sym p)
+    (subst (Counted counts) q c, omega (arith, length-marked to es ts), f)
 
-entered_is : (e : Extent) (es : List Extent) (p : ℕ) → position_or_len (smaller e) es ≡ p → entered e es ≡ insert es p e
-entered_is e [] p h = simp (sym h)
-entered_is e (f ∷ fs) zero h =
-    ⊎_elim
-    (λ (l : f.tracks < e.tracks). simp (lt-leb e.tracks f.tracks l))
-    (λ (l : e.tracks ≤ f.tracks). absurd (omega (arith, simp (le-ltb f.tracks e.tracks l) at h)))
-    (cases_lt f.tracks e.tracks)
-entered_is e (f ∷ fs) (suc p) h =
-    ⊎_elim
-    (λ (l : f.tracks < e.tracks). absurd (omega (arith, simp (lt-ltb f.tracks e.tracks l) at h)))
-    (λ (l : e.tracks ≤ f.tracks). simp (le-leb e.tracks f.tracks l) (ap (λ xs. f ∷ xs) (entered_is e fs p (let q : 1 + position_or_len (smaller e) fs ≡ suc p = simp (le-ltb f.tracks e.tracks l) at h in omega arith))))
-    (cases_lt f.tracks e.tracks)
+-- where they are free, once some are free and once some are no longer
+pub freed_are_free : (es : List Extent) (ts : List Track) (free new : List Bool) → free ≡ are_free ts → new ≡ marked_each true es free → new ≡ are_free (marked Free es ts)
+freed_are_free es ts free new f n = n ∙ ap (marked_each true es) f ∙ sym (are_free-marked Free es ts)
 
-take-insert : (p k : ℕ) (es : List Extent) (e : Extent) → p ≤ k → p ≤ length es → take (suc k) (insert es p e) ≡ insert (take k es) p e
-take-insert zero k es e l m = refl
-take-insert (suc p) zero es e l m = absurd (omega arith)
-take-insert (suc p) (suc k) [] e l m = absurd (omega arith)
-take-insert (suc p) (suc k) (x ∷ xs) e l m = ap (λ ys. x ∷ ys) (take-insert p k xs e (omega arith) (omega arith))
+pub taken_are_not : (to : Track) (es : List Extent) (ts : List Track) (free new : List Bool) → Free ≢ to → free ≡ are_free ts → new ≡ marked_each false es free → new ≡ are_free (marked to es ts)
+taken_are_not to es ts free new a f n =
+    n ∙ ap (marked_each false es) f
+    ∙ ap (λ b. marked_each b es (are_free ts)) (sym (not_free to (λ e. a (sym e))))
+    ∙ sym (are_free-marked to es ts)
 
-take-insert_behind : (p k : ℕ) (es : List Extent) (e : Extent) → p ≡ k → length es ≡ k → take k (insert es p e) ≡ es
-take-insert_behind zero zero [] e q m = refl
-take-insert_behind zero zero (x ∷ xs) e q m = absurd (omega arith)
-take-insert_behind zero (suc k) es e q m = absurd (omega arith)
-take-insert_behind (suc p) zero es e q m = absurd (omega arith)
-take-insert_behind (suc p) (suc k) [] e q m = absurd (omega arith)
-take-insert_behind (suc p) (suc k) (x ∷ xs) e q m = ap (λ ys. x ∷ ys) (take-insert_behind p k xs e (omega arith) (omega arith))
+-- what is taken
+pub space_taken : (to : Track) (n : ℕ) (old ts us : List Track) (es : List Extent) → Free ≢ to → ts ≡ old → planned (free_extents ts) n ≡ Some es → us ≡ marked to es ts →
+    IsSpace to n old es us
+space_taken to n old ts us es a o h q =
+    let p : IsPlan ts n es = planned_is ts n es h in
+    let m : Moves Free to n ts (marked to es ts) = subst (λ (k : ℕ). Moves Free to k ts (marked to es ts)) p.tracks (moves Free to es ts a p.free) in
+    subst (λ (xs : List Track). IsSpace to n xs es us) o
+    (record {
+      planned = h;
+      held = planned_some (free_extents ts) n es h;
+      free = p.free;
+      size = p.tracks;
+      few = p.few;
+      marked = q;
+      counts = subst (λ (xs : List Track). Moves Free to n ts xs) (sym q) m;
+    })
 
-place_is : (e : Extent) (es : List Extent) → unwrap_or (position (smaller e) es) (length es) ≡ position_or_len (smaller e) es
-place_is e es =
-    let n = position_or_len (smaller e) es in
-    ⊎_elim
-    (λ (l : n < length es). ap (λ b. unwrap_or (cond b (Some n) None) (length es)) (lt-ltb n (length es) l))
-    (λ (l : length es ≤ n). ap (λ b. unwrap_or (cond b (Some n) None) (length es)) (le-ltb n (length es) l) ∙ (let m = prefix_len-le-length (λ f. not (smaller e f)) es in omega arith))
-    (cases_lt n (length es))
+pub space_lacking : (n : ℕ) (ts us : List Track) → planned (free_extents ts) n ≡ None → us ≡ ts → LacksSpace n ts us
+space_lacking n ts us h q = record { none = h; exceeded = planned_refused (free_extents ts) n h; same = q }
 
--- the place of an extent in the table
-pub place_within : (e : Extent) (es : List Extent) (p : ℕ) → p ≡ unwrap_or (position (smaller e) es) (length es) → p ≤ length es
-place_within e es p h = omega (arith, place_is e es, prefix_len-le-length (λ f. not (smaller e f)) es)
+-- what is taken is of its kind, and is freed again
+pub space_held : (to : Track) (n : ℕ) (old new : List Track) (es fs : List Extent) → fs ≡ es → IsSpace to n old es new → AreOf to new fs
+space_held to n old new es fs q s =
+    subst (λ (xs : List Extent). AreOf to new xs) (sym q) (subst (λ (us : List Track). AreOf to us es) (sym s.marked) (are_of-marked Free to es old s.free))
 
-pub enter_within : (e : Extent) (es : List Extent) (p : ℕ) → p ≡ unwrap_or (position (smaller e) es) (length es) → p < 5 → insert (take 4 es) p e ≡ take 5 (entered e es)
-enter_within e es p h l =
-    sym (ap (take 5) (entered_is e es p (sym (h ∙ place_is e es))) ∙ take-insert p 4 es e (omega arith) (place_within e es p h))
-
-pub enter_behind : (e : Extent) (es : List Extent) (p : ℕ) → p ≡ unwrap_or (position (smaller e) es) (length es) → 5 ≤ p → length es ≤ 5 → es ≡ take 5 (entered e es)
-enter_behind e es p h l m =
-    let n = place_within e es p h in
-    sym (ap (take 5) (entered_is e es p (sym (h ∙ place_is e es))) ∙ take-insert_behind p 5 es e (omega arith) (omega arith))
+pub space_back : (to : Track) (n : ℕ) (old new : List Track) (es fs : List Extent) → fs ≡ es → IsSpace to n old es new → marked Free fs new ≡ old
+space_back to n old new es fs q s = ap (λ (xs : List Extent). marked Free xs new) q ∙ ap (λ (us : List Track). marked Free es us) s.marked ∙ marked_back to Free es old s.free

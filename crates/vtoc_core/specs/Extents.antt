@@ -1,16 +1,9 @@
 -- Extents: which are free, which are taken for a number of tracks, and which stay of a set that is cut.
 use Rattle.std.specs.Prelude.{ℕ, zero, suc, ◌+◌, ◌-◌, Bool, true, false, ◌==◌, nat_le, List, [], ◌∷◌, map, sum, Option, Some, None, if◌then◌else◌}
-use Rattle.vtoc_core.specs.declared.entry.Extent.{Extent}
+use Rattle.extent_core.specs.declared.extent.Extent.{Extent}
+use Rattle.extent_core.specs.Extents.{extent, first_of, free_extents as free_extents_of, largest_of}
 use Rattle.vtoc_core.specs.declared.volume.Track.{Track}
 use Rattle.vtoc_core.specs.declared.volume.Track.TheVariants.{Free, Aside, InSet, Unusable}
-
-abbrev pub extent : ℕ → ℕ → Extent
-extent start tracks = record { start = start; tracks = tracks }
-
--- a free track before these free extents
-abbrev pub lengthened : ℕ → List Extent → List Extent
-lengthened at [] = extent at 1 ∷ []
-lengthened at (e ∷ es) = if e.start == at + 1 then extent at (e.tracks + 1) ∷ es else extent at 1 ∷ e ∷ es
 
 abbrev pub is_free_track : Track → Bool
 is_free_track Free = true
@@ -18,32 +11,18 @@ is_free_track Aside = false
 is_free_track InSet = false
 is_free_track Unusable = false
 
-abbrev pub free_from : ℕ → List Track → List Extent
-free_from at [] = []
-free_from at (t ∷ ts) = if is_free_track t then lengthened at (free_from (at + 1) ts) else free_from (at + 1) ts
+-- which tracks are free
+abbrev pub are_free : List Track → List Bool
+are_free tracks = map is_free_track tracks
 
 -- the free extents by place: as many neighbouring free tracks as there are
 abbrev pub free_extents : List Track → List Extent
-free_extents tracks = free_from 0 tracks
+free_extents tracks = free_extents_of (are_free tracks)
 
 abbrev pub tracks_in : List Extent → ℕ
 tracks_in extents = sum (map (λ e. e.tracks) extents)
 
--- the first extent that has so many tracks
-abbrev pub first_of : ℕ → List Extent → Option Extent
-first_of n [] = None
-first_of n (e ∷ es) = if nat_le n e.tracks then Some e else first_of n es
-
--- the largest extent, of equals the first
-abbrev pub larger : Extent → Option Extent → Extent
-larger e None = e
-larger e (Some f) = if nat_le f.tracks e.tracks then e else f
-
-abbrev pub largest_of : List Extent → Option Extent
-largest_of [] = None
-largest_of (e ∷ es) = Some (larger e (largest_of es))
-
--- the others
+-- the other extents
 abbrev pub without_extent : Extent → List Extent → List Extent
 without_extent e [] = []
 without_extent e (f ∷ fs) = if f.start == e.start then fs else f ∷ without_extent e fs

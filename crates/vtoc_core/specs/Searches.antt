@@ -1,19 +1,24 @@
--- What searches keep and find: the largest extents in order, and what is taken of them.
-use Rattle.std.specs.Prelude.{ℕ, ◌-◌, nat_le, List, [], ◌∷◌, take, Option, Some, None, if◌then◌else◌}
-use Rattle.vtoc_core.specs.declared.entry.Extent.{Extent}
-use Rattle.vtoc_core.specs.Extents.{extent, behind}
+-- Free extents that are taken and freed one after another.
+use Rattle.std.specs.Prelude.{◌≡◌, Bool, true, false, List, [], ◌∷◌, Contains}
+use Rattle.extent_core.specs.declared.extent.Extent.{Extent}
+use Rattle.extent_core.specs.Extents.{IsTaken, free_extents, marked}
 
--- an extent among others that go from the largest down: behind those that are as large
-abbrev pub entered : Extent → List Extent → List Extent
-entered e [] = e ∷ []
-entered e (f ∷ fs) = if nat_le e.tracks f.tracks then f ∷ entered e fs else e ∷ f ∷ fs
+-- the tracks of these extents are now all free, or all not free
+abbrev pub marked_each : Bool → List Extent → List Bool → List Bool
+marked_each free [] tracks = tracks
+marked_each free (e ∷ es) tracks = marked_each free es (marked free e tracks)
 
--- all of the first, and of the last the front
-abbrev pub taken_from : List Extent → ℕ → Option (List Extent)
-taken_from [] n = None
-taken_from (e ∷ es) n = if nat_le n e.tracks then Some (extent e.start n ∷ []) else behind e (taken_from es (n - e.tracks))
+-- each of these extents has no free track once those in front of it are freed
+abbrev pub AreTaken : List Bool → List Extent → Type 0
+AreTaken tracks [] = Unit {0}
+AreTaken tracks (e ∷ es) = IsTaken tracks e × AreTaken (marked true e tracks) es
 
--- the extents taken where the search has kept some of those before: the front of the first that has all, else of the five largest
-abbrev pub searched : List Extent → ℕ → List Extent → Option (List Extent)
-searched kept n [] = taken_from kept n
-searched kept n (e ∷ es) = if nat_le n e.tracks then Some (extent e.start n ∷ []) else searched (take 5 (entered e kept)) n es
+-- each of these extents is free once those in front of it are taken
+abbrev pub AreFree : List Bool → List Extent → Type 0
+AreFree tracks [] = Unit {0}
+AreFree tracks (e ∷ es) = Contains (free_extents tracks) e × AreFree (marked false e tracks) es
+
+-- free extents were taken, one after another
+pub record WereTaken (before : List Bool) (extents : List Extent) (now : List Bool) : Type 0 where
+  pub free : AreFree before extents
+  pub marked : now ≡ marked_each false extents before

@@ -1,9 +1,10 @@
 -- A volume: what each of its tracks is, and its sets.
-use Rattle.std.specs.Prelude.{◌≡◌, ◌≢◌, ◌≤◌, ◌<◌, ℕ, ◌+◌, ◌-◌, Bool, true, false, ◌&&◌, nat_lt, nat_le, min, List, [], ◌∷◌, ◌++◌, length, count_by, slice_get, Option, Some, None, Result, Ok, Err, if◌then◌else◌, IsSome, replicate, refl}
+use Rattle.std.specs.Prelude.{◌≡◌, ◌≢◌, ◌≤◌, ◌<◌, ℕ, ◌+◌, ◌-◌, Bool, true, false, min, List, [], ◌∷◌, ◌++◌, length, count_by, slice_get, Option, Some, None, Result, Ok, Err, if◌then◌else◌, IsSome, replicate, refl}
 use Rattle.std.specs.Coded.{Coded, code_by, coded×, coded_bool, coded_list}
 use Rattle.std.specs.FinMap.{entries, get}
 use Rattle.std.specs.List.{list_any, flat_map}
-use Rattle.vtoc_core.specs.declared.entry.Extent.{Extent}
+use Rattle.extent_core.specs.declared.extent.Extent.{Extent}
+use Rattle.extent_core.specs.Extents.{is_in}
 use Rattle.vtoc_core.specs.declared.entry.SetEntry.{SetEntry}
 use Rattle.vtoc_core.specs.declared.entry.SetKey.{SetKey}
 use Rattle.vtoc_core.specs.declared.volume.Track.{Track}
@@ -44,10 +45,7 @@ abbrev pub coded_volume : Coded VolumeState
 coded_volume =
     code_by (List Track × Sets) (coded× (coded_list coded_track) coded_sets) (λ v. (v.tracks, v.sets)) (λ p. record { tracks = p.0; sets = p.1 }) (λ _. refl)
 
--- a track lies in an extent
-abbrev pub is_in : ℕ → Extent → Bool
-is_in track e = nat_le e.start track && nat_lt track (e.start + e.tracks)
-
+-- a track lies in one of these extents
 abbrev pub is_in_some : ℕ → List Extent → Bool
 is_in_some track extents = list_any (λ e. is_in track e) extents
 
@@ -106,6 +104,22 @@ pub record Moves (from to : Track) (n : ℕ) (old new : List Track) : Type 0 whe
   pub fewer : count_of from new + n ≡ count_of from old
   pub more : count_of to new ≡ count_of to old + n
   pub others : (kind : Track) → kind ≢ from → kind ≢ to → count_of kind new ≡ count_of kind old
+
+-- so many free tracks of a volume are of another kind now: those planned
+pub record IsSpace (to : Track) (n : ℕ) (old : List Track) (list : List Extent) (new : List Track) : Type 0 where
+  pub planned : planned (free_extents old) n ≡ Some list
+  pub held : n ≤ five_largest (free_extents old)
+  pub free : AreOf Free old list
+  pub size : tracks_in list ≡ n
+  pub few : length list ≤ 5
+  pub marked : new ≡ marked to list old
+  pub counts : Moves Free to n old new
+
+-- there is no space for so many tracks: the five largest free extents do not hold them, and nothing is changed
+pub record LacksSpace (n : ℕ) (old new : List Track) : Type 0 where
+  pub none : planned (free_extents old) n ≡ None
+  pub exceeded : five_largest (free_extents old) < n
+  pub same : new ≡ old
 
 -- how many tracks a set loses that is cut to so many
 abbrev pub tracks_past : ℕ → List Extent → ℕ

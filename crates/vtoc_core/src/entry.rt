@@ -3,6 +3,7 @@ ghost use Rattle.std.specs.Prelude.{◌≡◌};
 ghost use Rattle.vtoc_core.specs.Entries.{same_key};
 
 use arrayvec::ArrayVec;
+pub use extent_core::extent::Extent;
 use jname_core::ds_name::DsName;
 use jname_core::name8::Name8;
 use set_core::records::Records;
@@ -40,13 +41,6 @@ impl SetKey {
     }
 }
 
-/// Neighbouring tracks: the first, counted from 0, and how many.
-#[derive(Clone, Copy, Debug, Default, PartialEq, Eq)]
-pub struct Extent {
-    pub start: u16,
-    pub tracks: u16,
-}
-
 /// A set on a volume: its extents in order, sixteen at most, the day, counted from 1900/001 as 0, before which it is not to be deleted,
 /// and its records.
 #[derive(Debug, Drop)]
@@ -64,7 +58,7 @@ pub struct ExtentList {
 
 impl Model for ExtentList {
     ghost use Rattle.std.specs.Prelude.{List};
-    ghost use Rattle.vtoc_core.specs.declared.entry.Extent.{Extent};
+    ghost use Rattle.extent_core.specs.declared.extent.Extent.{Extent};
 
     ghost Value = { List Extent };
 

@@ -1,15 +1,16 @@
-//! The tracks of a volume, with their counts kept beside them.
-ghost use Rattle.std.specs.Prelude.{◌≡◌, ◌≢◌, ◌≤◌, ◌<◌, ◌+◌, ◌-◌, ℕ, Some, None, IfOk, MatchOption, length, if◌then◌else◌};
-ghost use Rattle.vtoc_core.specs.Extents.{five_largest, free_extents, planned, tracks_in};
-ghost use Rattle.vtoc_core.specs.Volumes.{AreOf, Counted, Moves, count_in, first_tracks, is_kind, marked};
+//! The tracks of a volume. Where they are free, and how many are of each kind, is kept beside them.
+ghost use Rattle.std.specs.Prelude.{◌≡◌, ◌≢◌, ◌≤◌, ◌+◌, ◌-◌, IfOk, MatchOption, length, if◌then◌else◌};
+ghost use Rattle.vtoc_core.specs.Extents.{tracks_in};
+ghost use Rattle.vtoc_core.specs.Volumes.{AreOf, Counted, IsSpace, LacksSpace, Moves, count_in, first_tracks, is_kind, marked};
 ghost use Rattle.vtoc_core.specs.declared.volume.Track.{Track};
-ghost use Rattle.vtoc_core.specs.declared.volume.Track.TheVariants.{Free};
+ghost use Rattle.vtoc_core.specs.declared.volume.Track.TheVariants.{Free, Aside, InSet};
 
 use crate::entry::Extent;
 use crate::marks::{count_of, mark, tracks_in};
-use crate::space;
+use crate::space::{self, free_all, free_among};
 use crate::volume::{Track, TrackCounts};
 use arrayvec::ArrayVec;
+use extent_core::free::FreeExtents;
 use std::alloc::{AllocError, Global};
 use std::marker::Model;
 
@@ -56,15 +57,47 @@ fn more(counts: TrackCounts, kind: Track, tracks: usize) -> TrackCounts
     all
 }
 
-/// What each track is, of 4,000 at most, and how many are of each kind.
+/// The counts once so many tracks of one kind are of another.
+fn shifted(counts: TrackCounts, from: Track, to: Track, tracks: usize) -> TrackCounts
+    requires there { tracks ≤ count_in counts from }
+    requires few { tracks ≤ 4000 }
+    requires counted { (kind : Track) → count_in counts kind ≤ 4000 }
+    ensures { (other : Track) → count_in result other ≡ count_in counts other - (if is_kind other from then tracks else 0) + (if is_kind other to then tracks else 0) }
+{
+    more(fewer(counts, from, tracks), to, tracks)
+}
+
+/// Makes the tracks of these extents, which are all of one kind, tracks of another, and counts them so.
+fn change(
+    tracks: &mut [Track],
+    counts: TrackCounts,
+    from: Track,
+    to: Track,
+    extents: &[Extent],
+) -> TrackCounts
+    requires few { length extents.now ≤ 16 }
+    requires size { length tracks.old ≤ 4000 }
+    requires counted { Counted counts tracks.old }
+    requires kinds { AreOf from tracks.old extents.now }
+    requires apart { from ≢ to }
+    ensures tracks { tracks.new ≡ marked to extents.now tracks.old }
+    ensures counted { Counted result tracks.new }
+{
+    mark(tracks, to, extents);
+    shifted(counts, from, to, tracks_in(extents))
+}
+
+/// What each track is, of 4,000 at most, where they are free, and how many are of each kind.
 #[derive(Debug, Drop)]
 pub(crate) struct TrackTable {
     tracks: Vec<Track>,
+    free: FreeExtents,
     counts: TrackCounts,
 }
 
 impl Model for TrackTable {
-    ghost use Rattle.std.specs.Prelude.{List, ◌≤◌, length};
+    ghost use Rattle.std.specs.Prelude.{List, ◌≡◌, ◌≤◌, length};
+    ghost use Rattle.vtoc_core.specs.Extents.{are_free};
     ghost use Rattle.vtoc_core.specs.Volumes.{Counted};
     ghost use Rattle.vtoc_core.specs.declared.volume.Track.{Track};
 
@@ -72,7 +105,7 @@ impl Model for TrackTable {
 
     ghost view = { λ t. t.tracks.items };
 
-    ghost invariant = { λ t. Counted t.counts t.tracks.items × (length t.tracks.items ≤ 4000) };
+    ghost invariant = { λ t. Counted t.counts t.tracks.items × (length t.tracks.items ≤ 4000) × (t.free ≡ are_free t.tracks.items) };
 }
 
 impl TrackTable {
@@ -87,9 +120,11 @@ impl TrackTable {
     {
         let mut all = vec![in alloc; Track::Free; usize::from(tracks)]?;
         mark(all.as_mut_slice(), Track::Unusable, unusable);
+        let free = free_among(alloc, all.as_slice())?;
         let counts = count_all(all.as_slice());
         Ok(TrackTable {
             tracks: all,
+            free,
             counts,
         })
     }
@@ -102,26 +137,55 @@ impl TrackTable {
         self.counts
     }
 
-    /// The extents that so many tracks take.
-    pub(crate) fn plan(&self, wanted: u16) -> Option<ArrayVec<Extent, 5>>
-        ensures { MatchOption result
-            ((planned (free_extents self.now) wanted ≡ None) × (five_largest (free_extents self.now) < wanted))
-            (λ t. (planned (free_extents self.now) wanted ≡ Some t.items) × (wanted ≤ five_largest (free_extents self.now))
-            × AreOf Free self.now t.items × (tracks_in t.items ≡ wanted)) }
+    /// Makes so many free tracks tracks of another kind, and tells which. It changes nothing where there is no space for them.
+    pub(crate) fn take(&mut self, to: Track, wanted: u16) -> Option<ArrayVec<Extent, 5>>
+        requires { Free ≢ to }
+        ensures { MatchOption result (LacksSpace wanted self.old self.new) (λ t. IsSpace to wanted self.old t.items self.new) }
     {
-        space::plan(self.tracks.as_slice(), wanted)
+        let Some(taken) = space::take(&mut self.free, wanted) else {
+            return None;
+        };
+        self.counts = change(
+            self.tracks.as_mut_slice(),
+            self.counts,
+            Track::Free,
+            to,
+            taken.as_slice(),
+        );
+        Some(taken)
     }
 
-    /// Makes the tracks of these extents, which are all of one kind, tracks of another.
-    pub(crate) fn mark(&mut self, from: Track, to: Track, extents: &[Extent])
+    /// Makes the tracks of these extents, which are all of one kind, free.
+    pub(crate) fn set_free(&mut self, from: Track, extents: &[Extent])
         requires few { length extents.now ≤ 16 }
         requires kinds { AreOf from self.old extents.now }
-        requires apart { from ≢ to }
-        ensures tracks { self.new ≡ marked to extents.now self.old }
-        ensures counts { Moves from to (tracks_in extents.now) self.old self.new }
+        requires apart { from ≢ Free }
+        ensures tracks { self.new ≡ marked Free extents.now self.old }
+        ensures counts { Moves from Free (tracks_in extents.now) self.old self.new }
     {
-        let count = tracks_in(extents);
-        mark(self.tracks.as_mut_slice(), to, extents);
-        self.counts = more(fewer(self.counts, from, count), to, count);
+        free_all(&mut self.free, extents);
+        self.counts = change(
+            self.tracks.as_mut_slice(),
+            self.counts,
+            from,
+            Track::Free,
+            extents,
+        );
+    }
+
+    /// Makes the tracks of these extents, which were set aside, tracks of a set.
+    pub(crate) fn assign(&mut self, extents: &[Extent])
+        requires few { length extents.now ≤ 16 }
+        requires kinds { AreOf Aside self.old extents.now }
+        ensures tracks { self.new ≡ marked InSet extents.now self.old }
+        ensures counts { Moves Aside InSet (tracks_in extents.now) self.old self.new }
+    {
+        self.counts = change(
+            self.tracks.as_mut_slice(),
+            self.counts,
+            Track::Aside,
+            Track::InSet,
+            extents,
+        );
     }
 }

@@ -5,7 +5,7 @@ ghost use Rattle.std.specs.Option.{option_copied};
 ghost use Rattle.vtoc_core.specs.Entries.{LacksRecords, changed, with_extents, with_records};
 ghost use Rattle.vtoc_core.specs.Extents.{five_largest, free_extents, is_free_track, kept_front, past_front, planned, tracks_in};
 ghost use Rattle.vtoc_core.specs.Volumes.{AnswersGrow, AnswersMake, AnswersWrite, AreOf, IsAside, IsSound, Moves, count_of, first_tracks, marked, tracks_past};
-ghost use Rattle.vtoc_core.specs.declared.entry.Extent.{Extent};
+ghost use Rattle.extent_core.specs.declared.extent.Extent.{Extent};
 ghost use Rattle.vtoc_core.specs.declared.entry.SetEntry.{SetEntry};
 ghost use Rattle.vtoc_core.specs.declared.volume.Track.TheVariants.{Free, Aside, InSet, Unusable};
 
@@ -111,14 +111,10 @@ impl Volume {
         ensures err { OnErr result (self.new ≡ self.old) }
         ensures fault { IfErr result (λ fault. fault ≡ VolumeFault.NoSpace) }
     {
-        match self.tracks.plan(tracks) {
-            Some(extents) => {
-                self.tracks
-                    .mark(Track::Free, Track::Aside, extents.as_slice());
-                Ok(ExtentList { extents })
-            }
-            None => Err(VolumeFault::NoSpace),
-        }
+        let Some(extents) = self.tracks.take(Track::Aside, tracks) else {
+            return Err(VolumeFault::NoSpace);
+        };
+        Ok(ExtentList { extents })
     }
 
     /// Frees tracks that were set aside on this volume.
@@ -128,8 +124,7 @@ impl Volume {
         ensures counts { Moves Aside Free (tracks_in list) self.old.tracks self.new.tracks }
     {
         let ExtentList { extents } = list;
-        self.tracks
-            .mark(Track::Aside, Track::Free, extents.as_slice());
+        self.tracks.set_free(Track::Aside, extents.as_slice());
     }
 
     /// Makes a set of tracks that were set aside on this volume, without a record. A refusal gives the list back and changes nothing.
@@ -157,8 +152,7 @@ impl Volume {
         };
         match enter(&mut self.sets, key, entry) {
             Ok(()) => {
-                self.tracks
-                    .mark(Track::Aside, Track::InSet, extents.as_slice());
+                self.tracks.assign(extents.as_slice());
                 Ok(())
             }
             Err(fault) => Err((ExtentList { extents }, fault)),
@@ -186,7 +180,7 @@ impl Volume {
         if is_there(&self.sets, &key) {
             return Err(VolumeFault::NameThere);
         }
-        let Some(taken) = self.tracks.plan(tracks) else {
+        let Some(taken) = self.tracks.take(Track::InSet, tracks) else {
             return Err(VolumeFault::NoSpace);
         };
         let entry = SetEntry {
@@ -195,12 +189,11 @@ impl Volume {
             records: Records::new(alloc),
         };
         match enter(&mut self.sets, key, entry) {
-            Ok(()) => {
-                self.tracks
-                    .mark(Track::Free, Track::InSet, taken.as_slice());
-                Ok(())
+            Ok(()) => Ok(()),
+            Err(fault) => {
+                self.tracks.set_free(Track::InSet, taken.as_slice());
+                Err(fault)
             }
-            Err(fault) => Err(fault),
         }
     }
 
@@ -217,8 +210,7 @@ impl Volume {
     {
         match take_out(&mut self.sets, key) {
             Some(entry) => {
-                self.tracks
-                    .mark(Track::InSet, Track::Free, entry.extents.as_slice());
+                self.tracks.set_free(Track::InSet, entry.extents.as_slice());
                 Ok(())
             }
             None => Err(VolumeFault::NameMissing),
@@ -232,14 +224,14 @@ impl Volume {
         let Some(entry) = contents::find(&self.sets, key) else {
             return Err(VolumeFault::NameMissing);
         };
-        let Some(more) = self.tracks.plan(tracks) else {
+        let Some(more) = self.tracks.take(Track::InSet, tracks) else {
             return Err(VolumeFault::NoSpace);
         };
         let Some(extents) = joined(entry.extents.as_slice(), more.as_slice()) else {
+            self.tracks.set_free(Track::InSet, more.as_slice());
             return Err(VolumeFault::TooManyExtents);
         };
         set_extents(&mut self.sets, key, extents);
-        self.tracks.mark(Track::Free, Track::InSet, more.as_slice());
         Ok(())
     }
 
@@ -258,7 +250,7 @@ impl Volume {
         };
         let (kept, past) = cut(entry.extents.as_slice(), tracks);
         set_extents(&mut self.sets, key, kept);
-        self.tracks.mark(Track::InSet, Track::Free, past.as_slice());
+        self.tracks.set_free(Track::InSet, past.as_slice());
         Ok(())
     }
 

@@ -1,8 +1,8 @@
 use Rattle.std.proofs.Common.{◌≡◌, ◌<◌, ◌+◌, ◌++◌, ◌∷◌, [], ◌-◌, length, get_or, drop, ap, arith}
 use Rattle.std.proofs.lemmas.List.{drop_more, length_push}
-use Rattle.vtoc_core.specs.Extents.{extent}
+use Rattle.extent_core.specs.Extents.{extent}
+use Rattle.extent_core.proofs.Marking.{is_in_within}
 use Rattle.vtoc_core.proofs.CutLemmas.{keeps_none, passes_none, keeps_whole, passes_whole, keeps_part, passes_part, track_of_one}
-use Rattle.vtoc_core.proofs.MarkLemmas.{is_in_within}
 use Rattle.vtoc_core.proofs.contents.cut.Goals as goal
 use Rattle.vtoc_core.proofs.contents.cut.Goals.{then-left-eq0, else-left-eq0+then-size-left, else-left-eq0+else-size-left}
 

@@ -1,6 +1,6 @@
 use Rattle.std.proofs.Common.{[], ◌+◌, drop, get_or, refl, sym, ap, ◌∙◌, arith}
 use Rattle.std.proofs.lemmas.List.{at_drop_more, at_drop_all}
-use Rattle.vtoc_core.specs.Extents.{extent}
+use Rattle.extent_core.specs.Extents.{extent}
 use Rattle.vtoc_core.specs.Volumes.{marked}
 use Rattle.vtoc_core.proofs.MarkLemmas.{marked-cons, marked_none}
 use Rattle.vtoc_core.proofs.marks.mark.Goals as goal

@@ -1,5 +1,5 @@
 use Rattle.std.proofs.Common.{◌≡◌, ◌+◌, ◌-◌, ◌≤◌, [], ◌∷◌}
-use Rattle.vtoc_core.specs.Extents.{extent}
+use Rattle.extent_core.specs.Extents.{extent}
 use Rattle.vtoc_core.specs.Volumes.{marked}
 use Rattle.vtoc_core.proofs.marks.mark_one.Given as goal
 

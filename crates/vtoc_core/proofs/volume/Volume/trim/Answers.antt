@@ -1,6 +1,6 @@
 use Rattle.std.proofs.Common.{◌≡◌, ◌<◌, ℕ, List, Some, ap, sym, subst, ◌∙◌, arith}
 use Rattle.std.specs.FinMap.{get, insert}
-use Rattle.vtoc_core.specs.declared.entry.Extent.{Extent}
+use Rattle.extent_core.specs.declared.extent.Extent.{Extent}
 use Rattle.vtoc_core.specs.declared.entry.SetEntry.{SetEntry}
 use Rattle.vtoc_core.specs.declared.volume.Track.TheVariants.{Free, InSet}
 use Rattle.vtoc_core.specs.Entries.{changed, sets_of, with_extents}
@@ -18,8 +18,8 @@ cut-kept-requires-clause-below c = λ k l.
     let b : k < 4000 = set_below v c.args.key.now c.in-Some.entry.now k (sym c.in-Some.ensures) m c.self.invariant in
     omega arith
 
-pub mark-requires-clause-kinds : goal.mark-requires-clause-kinds
-mark-requires-clause-kinds c =
+pub set_free-requires-clause-kinds : goal.set_free-requires-clause-kinds
+set_free-requires-clause-kinds c =
     let v : VolumeState = record { tracks = c.self.inside.tracks; sets = sets_of c.self.inside.sets.entries } in
     let e : SetEntry = c.in-Some.entry.now in
     let past : c.as_slice-2.result.now ≡ past_front c.args.tracks e.extents.items = cc in
@@ -33,9 +33,9 @@ invariant_of-self c =
     let past : c.as_slice-2.result.now ≡ past_front c.args.tracks e.extents.items = cc in
     let kept : c.cut-kept.result.0.items ≡ kept_front c.args.tracks e.extents.items = cc in
     let f : SetEntry = with_extents (λ _. c.cut-kept.result.0.items) e in
-    sound_as (marked Free (past_front c.args.tracks e.extents.items) v.tracks) c.mark.new.self (insert v.sets c.args.key.now f)
+    sound_as (marked Free (past_front c.args.tracks e.extents.items) v.tracks) c.set_free.new.self (insert v.sets c.args.key.now f)
     (sets_of c.set_extents.new.sets.entries)
-    (c.mark.ensures.tracks ∙ ap (λ fs. marked Free fs v.tracks) past)
+    (c.set_free.ensures.tracks ∙ ap (λ fs. marked Free fs v.tracks) past)
     (c.set_extents.ensures ∙ changed_is v.sets c.args.key.now (with_extents (λ _. c.cut-kept.result.0.items)) e there)
     (sound_cut v c.args.tracks c.args.key.now e f there kept c.self.invariant)
 
@@ -51,13 +51,13 @@ returns-clause-ok c =
       e,
       ap (λ (w : VolumeState). get w.sets c.args.key.now) (sym c.self.view_is) ∙ there,
       same_state _ _ _ _
-          (c.mark.ensures.tracks ∙ ap (λ fs. marked Free fs v.tracks) past
+          (c.set_free.ensures.tracks ∙ ap (λ fs. marked Free fs v.tracks) past
           ∙ ap (λ (w : VolumeState). marked Free (past_front n e.extents.items) w.tracks) c.self.view_is)
           (c.set_extents.ensures
           ∙ changed_is v.sets c.args.key.now (with_extents (λ _. c.cut-kept.result.0.items)) e there
           ∙ ap (λ (es : List Extent). insert v.sets c.args.key.now (with_extents (λ _. es) e)) kept
           ∙ sym (changed_is v.sets c.args.key.now (with_extents (kept_front n)) e there)
           ∙ ap (λ (w : VolumeState). changed w.sets c.args.key.now (with_extents (kept_front n))) c.self.view_is),
-      subst (λ (w : VolumeState). Moves InSet Free (tracks_past n e.extents.items) w.tracks c.mark.new.self) c.self.view_is
-          (subst (λ (m : ℕ). Moves InSet Free m v.tracks c.mark.new.self) lost c.mark.ensures.counts),
+      subst (λ (w : VolumeState). Moves InSet Free (tracks_past n e.extents.items) w.tracks c.set_free.new.self) c.self.view_is
+          (subst (λ (m : ℕ). Moves InSet Free m v.tracks c.set_free.new.self) lost c.set_free.ensures.counts),
     )
