@@ -1,2 +1,3 @@
+mod GrownBack
 mod MadeBack
 mod MarkedBack

@@ -1,15 +1,18 @@
-//! How fast a volume grants and refuses reservations where its free tracks all lie apart, and how fast sets are made and scratched, and
-//! tracks counted, where it has many sets. Without an argument a hundred rounds are made and only what came of them is printed; with a
-//! number of rounds, also the time of each; a second number is that of the sets.
+//! How fast a volume grants and refuses reservations, and adds tracks to a set, where its free tracks all lie apart, and how fast sets are
+//! made and scratched, and tracks counted, where it has many sets. Without an argument a hundred rounds are made and only what came of
+//! them is printed; with a number of rounds, also the time of each; a second number is that of the sets, and a third that of the free
+//! extents.
 #![tactic(auto)]
 
 ghost use Rattle.std.specs.Prelude.{◌≤◌, IfOk};
 
 mod broken;
+mod growth;
 mod rounds;
 mod sets;
 
 use crate::broken::{EXTENTS, broken_volume};
+use crate::growth::timed_growth;
 use crate::rounds::timed_rounds;
 use crate::sets::{MOST_SETS, SETS, timed_counts, timed_remakes, timed_sets};
 use anyhow::{Context, Result, ensure};
@@ -17,9 +20,13 @@ use jname_core::ds_name::read_base;
 use std::env::{self, Env};
 use std::io::Write;
 use std::rt::Clock;
+use vtoc_core::entry::SetKey;
 use vtoc_core::volume::Volume;
 
 const USUAL_ROUNDS: u32 = 100;
+
+/// The tracks that are added to a set: as many as five of the free extents have.
+const GROWTH: u16 = 5;
 
 /// The tracks of the volume that has many sets: the most that there may be.
 const TRACKS: u16 = 4000;
@@ -52,14 +59,64 @@ fn asked_sets(rt: &(impl Env + AllocGlobal)) -> Result<u16>
     Ok(sets)
 }
 
+/// The number of free extents that the command line asks for, or the usual one.
+fn asked_extents(rt: &(impl Env + AllocGlobal)) -> Result<u16>
+    ensures { IfOk result (λ extents. extents ≤ 2000) }
+{
+    let Some(word) = env::args(rt)?.nth(3) else {
+        return Ok(EXTENTS);
+    };
+    let extents = word
+        .as_str()
+        .parse::<u16>()
+        .context(format_args!("reading the number of extents, {word:?}"))?;
+    ensure!(extents <= EXTENTS, "more than {EXTENTS} extents");
+    Ok(extents)
+}
+
+/// Measures how tracks are added to a set, and cut off again.
+fn measure_growth(
+    rt: &(impl Clock + AllocGlobal),
+    out: &mut impl Write,
+    extents: u16,
+    rounds: u32,
+    is_timed: bool,
+) -> Result<()>
+    requires { extents ≤ 2000 }
+{
+    let mut volume = broken_volume(rt.alloc(), extents)?;
+    let key = SetKey::Named(read_base(b"MEASURE.OF.GROWTH")?);
+    let answer = volume.make_set(rt.alloc(), key, 0, None);
+    ensure!(answer.is_ok(), "no set is made");
+    let grown = timed_growth(rt, &mut volume, &key, GROWTH, rounds)?;
+    writeln!(
+        out,
+        "{GROWTH} tracks: {} added to a set and cut off, {} refused",
+        grown.granted,
+        grown.refused()
+    )?;
+    if is_timed {
+        writeln!(
+            out,
+            "{extents} extents: {} ns a round of {GROWTH} tracks added to a set and cut off",
+            grown.nanoseconds_each()
+        )?;
+    }
+    writeln!(out, "{} tracks free", volume.free_tracks())?;
+    Ok(())
+}
+
 /// Measures reservations on a broken-up volume.
 fn measure_reservations(
     rt: &(impl Clock + AllocGlobal),
     out: &mut impl Write,
+    extents: u16,
     rounds: u32,
     is_timed: bool,
-) -> Result<()> {
-    let mut volume = broken_volume(rt.alloc(), EXTENTS)?;
+) -> Result<()>
+    requires { extents ≤ 2000 }
+{
+    let mut volume = broken_volume(rt.alloc(), extents)?;
     writeln!(out, "{} tracks free", volume.free_tracks())?;
     for tracks in [5, 6] {
         let made = timed_rounds(rt, &mut volume, tracks, rounds)?;
@@ -72,7 +129,7 @@ fn measure_reservations(
         if is_timed {
             writeln!(
                 out,
-                "{tracks} tracks: {} ns a round",
+                "{extents} extents: {} ns a round of {tracks} tracks reserved",
                 made.nanoseconds_each()
             )?;
         }
@@ -129,8 +186,10 @@ fn measure_sets(
 fn main(rt: HostRuntime) -> Result<()> {
     let asked = asked_rounds(&rt)?;
     let sets = asked_sets(&rt)?;
+    let extents = asked_extents(&rt)?;
     let rounds = asked.unwrap_or(USUAL_ROUNDS);
     let mut out = rt.stdout();
-    measure_reservations(&rt, &mut out, rounds, asked.is_some())?;
+    measure_reservations(&rt, &mut out, extents, rounds, asked.is_some())?;
+    measure_growth(&rt, &mut out, extents, rounds, asked.is_some())?;
     measure_sets(&rt, &mut out, sets, rounds, asked.is_some())
 }
