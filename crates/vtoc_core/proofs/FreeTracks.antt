@@ -12,7 +12,7 @@ use Rattle.extent_core.proofs.Marking.{get_or-marked as at_marked, is_in_before,
 use Rattle.vtoc_core.specs.declared.volume.Track.{Track}
 use Rattle.vtoc_core.specs.declared.volume.Track.TheVariants.{Free, Aside, InSet, Unusable}
 use Rattle.vtoc_core.specs.Extents.{are_free, free_extents, is_free_track}
-use Rattle.vtoc_core.specs.Searches.{AreTaken, marked_each}
+use Rattle.vtoc_core.specs.Searches.{TakenInTurn, marked_each}
 use Rattle.vtoc_core.specs.Volumes.{AreOf, is_in_some, marked, marked_from, times_in}
 use Rattle.vtoc_core.proofs.FreeLemmas.{times_in-cons}
 use Rattle.vtoc_core.proofs.KindLemmas.{none_in, others_stay, some_in}
@@ -97,13 +97,13 @@ are_free_same from kind es ts a f =
     ∙ get_or_default (are_free ts) k false d (omega (arith, length-are_free ts)))
 
 -- extents of tracks that are not free
-pub are_taken : (from : Track) (es : List Extent) (ts : List Track) → AreOf from ts es → is_free_track from ≡ false → AreTaken (are_free ts) es
-are_taken from [] ts a f = tt
-are_taken from (e ∷ es) ts a f = (
+pub taken_in_turn : (from : Track) (es : List Extent) (ts : List Track) → AreOf from ts es → is_free_track from ≡ false → TakenInTurn (are_free ts) es
+taken_in_turn from [] ts a f = tt
+taken_in_turn from (e ∷ es) ts a f = (
   λ k i.
       let n : 0 < times_in k (e ∷ es) = let t : times_in k (e ∷ es) ≡ 1 + times_in k es = times_in-cons k e es ∙ simp i in omega arith in
       not_free_at ts k from (a.kinds k n) ∙ ap Some f,
-  subst (λ bs. AreTaken bs es) (are_free-marked_from 0 Free e ts) (are_taken from es (marked Free (e ∷ []) ts) (others_stay from Free e es ts a) f),
+  subst (λ bs. TakenInTurn bs es) (are_free-marked_from 0 Free e ts) (taken_in_turn from es (marked Free (e ∷ []) ts) (others_stay from Free e es ts a) f),
 )
 
 false_everywhere : (n k : ℕ) → get_or (replicate n false) k false ≡ false

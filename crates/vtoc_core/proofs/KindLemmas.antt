@@ -16,9 +16,6 @@ use Rattle.vtoc_core.proofs.FreeLemmas.{times_in-cons}
 pub free≢in_set : Free ≢ InSet
 free≢in_set h = cc
 
-pub free≢aside : Free ≢ Aside
-free≢aside h = cc
-
 pub aside≢in_set : Aside ≢ InSet
 aside≢in_set h = cc
 

@@ -9,7 +9,7 @@ use Rattle.extent_core.specs.Extents.{AreApart, IsTaken, extent, first_of, free_
 use Rattle.extent_core.proofs.LawLemmas.{free_extents_are_apart, largest_is_largest, taken_front_is_taken}
 use Rattle.extent_core.proofs.ListChanges.{taken_front_leaves_the_rest}
 use Rattle.vtoc_core.specs.Extents.{behind, front_or, largest_taken, left_by, others_by, planned, taken_by, without_extent}
-use Rattle.vtoc_core.specs.Searches.{AreFree, WereTaken, marked_each}
+use Rattle.vtoc_core.specs.Searches.{FreeInTurn, WereTaken, marked_each}
 use Rattle.vtoc_core.proofs.PlanLemmas.{planned_sought}
 
 -- one more at the end
@@ -17,17 +17,17 @@ marked_each-push : (free : Bool) (es : List Extent) (e : Extent) (ts : List Bool
 marked_each-push free [] e ts = refl
 marked_each-push free (x ∷ xs) e ts = marked_each-push free xs e (marked free x ts)
 
-are_free-push : (es : List Extent) (e : Extent) (ts : List Bool) → AreFree ts es → Contains (free_extents (marked_each false es ts)) e → AreFree ts (es ++ e ∷ [])
-are_free-push [] e ts a h = (h, tt)
-are_free-push (x ∷ xs) e ts a h = (a.0, are_free-push xs e (marked false x ts) a.1 h)
+free_in_turn-push : (es : List Extent) (e : Extent) (ts : List Bool) → FreeInTurn ts es → Contains (free_extents (marked_each false es ts)) e → FreeInTurn ts (es ++ e ∷ [])
+free_in_turn-push [] e ts a h = (h, tt)
+free_in_turn-push (x ∷ xs) e ts a h = (a.0, free_in_turn-push xs e (marked false x ts) a.1 h)
 
-are_free-last : (es : List Extent) (e : Extent) (ts : List Bool) → AreFree ts (es ++ e ∷ []) → AreFree ts es × Contains (free_extents (marked_each false es ts)) e
-are_free-last [] e ts a = (tt, a.0)
-are_free-last (x ∷ xs) e ts a = let r = are_free-last xs e (marked false x ts) a.1 in ((a.0, r.0), r.1)
+free_in_turn-last : (es : List Extent) (e : Extent) (ts : List Bool) → FreeInTurn ts (es ++ e ∷ []) → FreeInTurn ts es × Contains (free_extents (marked_each false es ts)) e
+free_in_turn-last [] e ts a = (tt, a.0)
+free_in_turn-last (x ∷ xs) e ts a = let r = free_in_turn-last xs e (marked false x ts) a.1 in ((a.0, r.0), r.1)
 
 taken_more : (before now : List Bool) (es : List Extent) (e : Extent) → WereTaken before es now → Contains (free_extents now) e → WereTaken before (es ++ e ∷ []) (marked false e now)
 taken_more before now es e w h = record {
-  free = are_free-push es e before w.free (subst (λ ts. Contains (free_extents ts) e) w.marked h);
+  free = free_in_turn-push es e before w.free (subst (λ ts. Contains (free_extents ts) e) w.marked h);
   marked = ap (marked false e) w.marked ∙ sym (marked_each-push false es e before);
 }
 
@@ -38,9 +38,9 @@ marked_more before now es all e w q =
 -- the last is freed again
 pub taken_last : (before now : List Bool) (all es : List Extent) (e : Extent) → all ≡ es ++ e ∷ [] → WereTaken before all now → IsTaken now e × WereTaken before es (marked true e now)
 taken_last before now all es e q w =
-    let a : AreFree before (es ++ e ∷ []) = subst (AreFree before) q w.free in
+    let a : FreeInTurn before (es ++ e ∷ []) = subst (FreeInTurn before) q w.free in
     let ts = marked_each false es before in
-    let p = are_free-last es e before a in
+    let p = free_in_turn-last es e before a in
     let m : now ≡ marked false e ts = w.marked ∙ ap (λ xs. marked_each false xs before) q ∙ marked_each-push false es e before in
     let t = taken_front_is_taken ts e e.tracks p.1 (omega arith) in (
       subst (λ bs. IsTaken bs e) (sym m) t.0,
@@ -72,26 +72,13 @@ others_left ts e h =
     taken_front_leaves_the_rest ts e e.tracks h (omega arith)
     ∙ whole_taken 0 (length ts) (free_extents ts) e (free_extents_are_apart ts) h
 
--- a turn: no extent is left, the largest has as many as are left, or it is taken whole
-pub turn_none : (o : Option (List Extent)) (taken es : List Extent) (j k left : ℕ) → j ≡ suc k →
-    o ≡ option_map (λ more. taken ++ more) (largest_taken j es left) → None ≡ largest_of es → o ≡ None
-turn_none o taken es j k left i h q =
-    h ∙ ap (λ m. option_map (λ more. taken ++ more) (largest_taken m es left)) i
-    ∙ ap (λ l. option_map (λ more. taken ++ more) (taken_by l left (largest_taken k (others_by l es) (left_by l left)))) (sym q)
-
+-- a turn: the largest is taken whole
 turn_some : (o : Option (List Extent)) (taken es : List Extent) (e : Extent) (j k left : ℕ) → j ≡ suc k →
     o ≡ option_map (λ more. taken ++ more) (largest_taken j es left) → Some e ≡ largest_of es →
     o ≡ option_map (λ more. taken ++ more) (taken_by (Some e) left (largest_taken k (without_extent e es) (left - e.tracks)))
 turn_some o taken es e j k left i h q =
     h ∙ ap (λ m. option_map (λ more. taken ++ more) (largest_taken m es left)) i
     ∙ ap (λ l. option_map (λ more. taken ++ more) (taken_by l left (largest_taken k (others_by l es) (left_by l left)))) (sym q)
-
-pub turn_front : (o : Option (List Extent)) (taken es : List Extent) (e : Extent) (j k left : ℕ) → j ≡ suc k →
-    o ≡ option_map (λ more. taken ++ more) (largest_taken j es left) → Some e ≡ largest_of es → left ≤ e.tracks → o ≡ Some (taken ++ extent e.start left ∷ [])
-turn_front o taken es e j k left i h q l =
-    turn_some o taken es e j k left i h q
-    ∙ ap (λ b. option_map (λ more. taken ++ more) (cond b (Some (extent e.start left ∷ [])) (behind e (largest_taken k (without_extent e es) (left - e.tracks)))))
-    (le-leb left e.tracks l)
 
 behind_all : (taken : List Extent) (e : Extent) (o : Option (List Extent)) →
     option_map (λ more. taken ++ more) (behind e o) ≡ option_map (λ more. (taken ++ e ∷ []) ++ more) o

@@ -2,7 +2,7 @@
 ghost use Rattle.std.specs.Prelude.{◌≡◌, ◌≤◌, [], List, Bool, Some, None, IfOk, IsTrue, IsFalse, MatchOption, false, true, length};
 ghost use Rattle.extent_core.specs.Extents.{free_extents};
 ghost use Rattle.vtoc_core.specs.Extents.{are_free, is_free_track, largest_taken, planned};
-ghost use Rattle.vtoc_core.specs.Searches.{AreTaken, WereTaken, marked_each};
+ghost use Rattle.vtoc_core.specs.Searches.{TakenInTurn, WereTaken, marked_each};
 
 use crate::entry::Extent;
 use crate::volume::Track;
@@ -40,7 +40,7 @@ pub(crate) fn free_among(alloc: Global, tracks: &[Track]) -> Result<FreeExtents,
 
 /// Frees extents, one after another.
 pub(crate) fn free_all(free: &mut FreeExtents, extents: &[Extent])
-    requires { AreTaken free.old extents.now }
+    requires { TakenInTurn free.old extents.now }
     ensures { free.new ≡ marked_each true extents.now free.old }
 {
     for extent in extents {

@@ -2,10 +2,10 @@ use Rattle.std.proofs.Common.{◌≡◌, List, Bool, ap, sym, subst, ◌∙◌, 
 use Rattle.vtoc_core.specs.declared.volume.Track.{Track}
 use Rattle.vtoc_core.specs.declared.volume.Track.TheVariants.{Free}
 use Rattle.vtoc_core.specs.Extents.{tracks_in}
-use Rattle.vtoc_core.specs.Searches.{AreTaken}
+use Rattle.vtoc_core.specs.Searches.{TakenInTurn}
 use Rattle.vtoc_core.specs.Volumes.{AreOf, Moves, marked}
 use Rattle.vtoc_core.proofs.CountLemmas.{moves}
-use Rattle.vtoc_core.proofs.FreeTracks.{are_taken, not_free}
+use Rattle.vtoc_core.proofs.FreeTracks.{taken_in_turn, not_free}
 use Rattle.vtoc_core.proofs.MarkLemmas.{length-marked, written}
 use Rattle.vtoc_core.proofs.TableLemmas.{freed_are_free, table_kept}
 use Rattle.vtoc_core.proofs.table.TrackTable.set_free.Goals as goal
@@ -15,7 +15,7 @@ free_all-requires c =
     let ts = c.self.inside.tracks.items in
     let es = c.args.extents.now in
     let a : AreOf c.args.from ts es = subst (λ (us : List Track). AreOf c.args.from us es) (sym c.self.view_is) c.requires.kinds in
-    subst (λ (bs : List Bool). AreTaken bs es) (sym c.self.invariant.2) (are_taken c.args.from es ts a (not_free c.args.from c.requires.apart))
+    subst (λ (bs : List Bool). TakenInTurn bs es) (sym c.self.invariant.2) (taken_in_turn c.args.from es ts a (not_free c.args.from c.requires.apart))
 
 pub invariant_of-self : goal.invariant_of-self
 invariant_of-self c =
