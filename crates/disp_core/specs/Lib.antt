@@ -1,3 +1,4 @@
 pub mod Courses
 pub mod Grants
 pub mod Takings
+pub mod Requests

@@ -5,5 +5,6 @@ pub mod change;
 pub mod course;
 pub mod dispose;
 mod refuse;
+pub mod request;
 pub mod step;
 pub mod take;
