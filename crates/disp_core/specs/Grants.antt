@@ -1,5 +1,6 @@
 -- The answer of a store on which the taking of a DD depends: whether it grants the primary of a set that is to be made.
 use Rattle.std.specs.Prelude.{◌≡◌, ℕ, Bool, true, List, [], ◌∷◌, Option, Some, None}
+use Rattle.jname_core.specs.declared.key.Key.{Key}
 use Rattle.jcl_plan.specs.declared.fault.Fault.{Fault}
 use Rattle.jcl_plan.specs.declared.plan.DdKind.{DdKind}
 use Rattle.jcl_plan.specs.declared.plan.DdKind.TheVariants.{Sysout, Dummy, Cards, Set}
@@ -23,11 +24,11 @@ granted_on grants n dd p None = true
 granted_on grants n dd p (Some serial) = grants (record { step = n; dd = dd; serial = serial }) (primary_of p.space)
 
 -- where a DD goes for a set
-abbrev pub granted_by : (Place → ℕ → Bool) → Fixed → ℕ → ℕ → SetPlan → Store → Own → Resolution → Bool
+abbrev pub granted_by : (Key → Place → ℕ → Bool) → Fixed → ℕ → ℕ → SetPlan → Store → Own → Resolution → Bool
 granted_by grants fixed n dd p seen own (Fails fault) = true
-granted_by grants fixed n dd p seen own (Means key) = granted_on grants n dd p (looked_at (target_in fixed n dd p key seen own))
+granted_by grants fixed n dd p seen own (Means key) = granted_on (grants key) n dd p (looked_at (target_in fixed n dd p key seen own))
 
-abbrev pub primary_granted : (Place → ℕ → Bool) → Fixed → ℕ → ℕ → DdKind → Store → Own → Bool
+abbrev pub primary_granted : (Key → Place → ℕ → Bool) → Fixed → ℕ → ℕ → DdKind → Store → Own → Bool
 primary_granted grants fixed n dd (Sysout class) seen own = true
 primary_granted grants fixed n dd Dummy seen own = true
 primary_granted grants fixed n dd (Cards cards) seen own = true

@@ -256,8 +256,8 @@ fn make_for<S: JobStore>(
     requires { how ≡ How.Made → (S.seen job store.old).set key.now serial ≡ None }
     ensures seen { OnOk result (S.seen job store.new ≡ store_made how (fixed_by given.now) p.now key.now serial (S.seen job store.old)) }
     ensures rest { OnOk result (S.rest job store.new ≡ S.spent job (place_made how n dd serial) (S.rest job store.old)) }
-    ensures granted { OnOk result (how ≡ How.Made → granted_on (S.grants_new job store.old) n dd p.now (Some serial) ≡ true) }
-    ensures refused { result ≡ Err RoomFault.NotGranted → (how ≡ How.Made) × (granted_on (S.grants_new job store.old) n dd p.now (Some serial) ≡ false) }
+    ensures granted { OnOk result (how ≡ How.Made → granted_on (S.grants_new job store.old key.now) n dd p.now (Some serial) ≡ true) }
+    ensures refused { result ≡ Err RoomFault.NotGranted → (how ≡ How.Made) × (granted_on (S.grants_new job store.old key.now) n dd p.now (Some serial) ≡ false) }
     ensures err { OnErr result ((S.seen job store.new ≡ S.seen job store.old) × (S.rest job store.new ≡ S.rest job store.old)) }
 {
     match how {
@@ -298,8 +298,8 @@ fn accept<S: JobStore>(
       lines = course.old.lines ++ line.Take dd name.now (take_word how serial) ∷ [];
     }) }
     ensures rest { OnOk result (S.rest job store.new ≡ S.spent job (place_made how n dd serial) (S.rest job store.old)) }
-    ensures granted { OnOk result (how ≡ How.Made → granted_on (S.grants_new job store.old) n dd p.now (Some serial) ≡ true) }
-    ensures refused { result ≡ Err RoomFault.NotGranted → (how ≡ How.Made) × (granted_on (S.grants_new job store.old) n dd p.now (Some serial) ≡ false) }
+    ensures granted { OnOk result (how ≡ How.Made → granted_on (S.grants_new job store.old key.now) n dd p.now (Some serial) ≡ true) }
+    ensures refused { result ≡ Err RoomFault.NotGranted → (how ≡ How.Made) × (granted_on (S.grants_new job store.old key.now) n dd p.now (Some serial) ≡ false) }
     ensures err { OnErr result ((S.seen job store.new ≡ S.seen job store.old) × (S.rest job store.new ≡ S.rest job store.old) × (course.new ≡ course.old)) }
 {
     let volume = DdVolume {
@@ -418,7 +418,7 @@ fn accept_or_refuse<S: JobStore>(
 ) -> Result<Taken, AllocError>
     requires { how ≡ How.Made → (S.seen job store.old).set key.now serial ≡ None }
     ensures ok { IfOk result (λ told. Carried
-        (λ s. decided (fixed_by given.now) n dd name.now p.now key.now s (granted_or_refused (Takes serial how) (granted_on (S.grants_new job store.old) n dd p.now (Some serial))))
+        (λ s. decided (fixed_by given.now) n dd name.now p.now key.now s (granted_or_refused (Takes serial how) (granted_on (S.grants_new job store.old key.now) n dd p.now (Some serial))))
         (S.seen job store.old) course.old (S.seen job store.new) course.new told.meets (made_of told.made)) }
     ensures rest { IfOk result (λ told. S.rest job store.new ≡ S.spent job (made_of told.made) (S.rest job store.old)) }
     ensures err { OnErr result ((S.seen job store.new ≡ S.seen job store.old) × (S.rest job store.new ≡ S.rest job store.old) × (course.new ≡ course.old)) }

@@ -1,3 +1,4 @@
+mod Changes
 mod Groups
 mod Keys
 mod Placed

@@ -56,7 +56,7 @@ impl JobStore for Alone {
 
     ghost spent = { λ _ _ rest. rest };
 
-    ghost grants_new = { λ _ _ _ _. true };
+    ghost grants_new = { λ _ _ _ _ _. true };
 
     ghost grants_growth = { λ _ s _ _ _. s.growth };
 

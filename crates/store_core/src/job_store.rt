@@ -49,8 +49,8 @@ pub trait JobStore {
     /// What is left of it once a job's sets are made at these places.
     ghost spent: { ℕ → List Place → Rest → Rest };
 
-    /// Whether the tracks of a job's new set are granted, at a place.
-    ghost grants_new: { ℕ → Self → Place → ℕ → Bool };
+    /// Whether the tracks of a job's new set of a key are granted, at a place.
+    ghost grants_new: { ℕ → Self → Key → Place → ℕ → Bool };
 
     /// Whether further tracks are granted to a job's set.
     ghost grants_growth: { ℕ → Self → Key → List ℕ → ℕ → Bool };
@@ -85,8 +85,8 @@ pub trait JobStore {
     ) -> Result<(), RoomFault>
         requires { (seen job self.old).set key.now place.now.serial ≡ None }
         ensures ok { OnOk result ((seen job self.new ≡ with_set (seen job self.old) key.now place.now.serial (Some (new_set_of tracks expires)))
-            × (rest job self.new ≡ spent job (place.now ∷ []) (rest job self.old)) × (grants_new job self.old place.now tracks ≡ true)) }
-        ensures refused { result ≡ Err RoomFault.NotGranted → grants_new job self.old place.now tracks ≡ false }
+            × (rest job self.new ≡ spent job (place.now ∷ []) (rest job self.old)) × (grants_new job self.old key.now place.now tracks ≡ true)) }
+        ensures refused { result ≡ Err RoomFault.NotGranted → grants_new job self.old key.now place.now tracks ≡ false }
         ensures err { OnErr result ((seen job self.new ≡ seen job self.old) × (rest job self.new ≡ rest job self.old)) };
 
     /// Adds tracks to a set.

@@ -5,6 +5,7 @@
 pub mod alone;
 pub mod disposition;
 pub mod job_store;
+pub mod laws;
 pub mod meanings;
 pub mod source;
 pub mod store;

@@ -19,7 +19,7 @@ returns-in-Refuses-clause-ok g c =
     let own = c.args.course.now.own in
     let p = c.args.p.now in
     let key = c.args.key.now in
-    let granted = granted_on (g.S.JobStore.grants_new c.args.job c.args.store.now) c.args.n c.args.dd p (looked_at (target_in fixed c.args.n c.args.dd p key seen own)) in
+    let granted = granted_on (g.S.JobStore.grants_new c.args.job c.args.store.now key) c.args.n c.args.dd p (looked_at (target_in fixed c.args.n c.args.dd p key seen own)) in
     let is = sym c.in-Refuses.is ∙ c.decision.ensures ∙ ap (λ t. decision_in fixed p key seen t true) c.target-target.ensures in
     if_ok_then
     (λ (told : Taken). Carried (λ s. refused c.args.n c.args.dd c.in-Refuses.fault s) seen c.args.course.now after c.take_refused.new.course told.meets (made_of told.made))
@@ -50,7 +50,7 @@ returns-in-Takes-clause-ok g c =
     let p = c.args.p.now in
     let key = c.args.key.now in
     let t = target_in fixed c.args.n c.args.dd p key seen own in
-    let grants = g.S.JobStore.grants_new c.args.job c.args.store.now in
+    let grants = g.S.JobStore.grants_new c.args.job c.args.store.now key in
     let granted = granted_on grants c.args.n c.args.dd p (looked_at t) in
     let is = sym c.in-Takes.is ∙ c.decision.ensures ∙ ap (λ t. decision_in fixed p key seen t true) c.target-target.ensures in
     if_ok_then
