@@ -1,3 +1,4 @@
+mod Asking
 mod Entering
 mod Passes
 mod Silent

@@ -1,20 +1,35 @@
 -- A program's request carried out, with the answers that it takes.
-use Rattle.std.specs.Prelude.{◌≡◌, ℕ, ◌+◌, Bool, true, false, not, ◌&&◌, nat_lt, length, List, [], ◌∷◌, ◌++◌, slice_get, slice_set, Option, Some, None}
+use Rattle.std.specs.Prelude.{◌≡◌, ℕ, ◌+◌, Bool, true, false, not, ◌&&◌, ◌||◌, ◌==◌, nat_lt, length, List, [], ◌∷◌, ◌++◌, drop, slice_get, slice_set, Option, Some, None, if◌then◌else◌}
+use Rattle.jname_core.specs.declared.key.Key.{Key}
 use Rattle.jcl_plan.specs.declared.entry.JobLine.{JobLine}
 use Rattle.jcl_plan.specs.declared.entry.JobLine.TheVariants as line
 use Rattle.jcl_plan.specs.declared.outcome.Abend.{Abend}
+use Rattle.jcl_plan.specs.declared.outcome.Abend.TheVariants as abend
 use Rattle.jcl_plan.specs.declared.outcome.Outcome.TheVariants as outcome
+use Rattle.jcl_plan.specs.declared.plan.DdKind.{DdKind}
+use Rattle.jcl_plan.specs.declared.plan.DdKind.TheVariants.{Sysout, Dummy, Cards, Set}
 use Rattle.jcl_plan.specs.declared.plan.DdPlan.{DdPlan}
+use Rattle.jcl_plan.specs.declared.plan.SetPlan.{SetPlan}
+use Rattle.jcl_plan.specs.declared.plan.StepPlan.{StepPlan}
+use Rattle.jcl_meaning.specs.declared.program.Move.{Move}
+use Rattle.jcl_meaning.specs.declared.program.Move.TheVariants.{From, To}
 use Rattle.jcl_meaning.specs.declared.state.DdState.{DdState}
 use Rattle.jcl_meaning.specs.declared.source.FoundRecord.{FoundRecord}
 use Rattle.jcl_meaning.specs.declared.source.Source.{Source}
 use Rattle.jcl_meaning.specs.declared.state.Due.{Due}
 use Rattle.jcl_meaning.specs.declared.state.Due.TheVariants as due
-use Rattle.jcl_meaning.specs.States.{Answers, Done, State, cancel_due}
+use Rattle.jcl_meaning.specs.declared.state.Own.{Own}
+use Rattle.jcl_meaning.specs.declared.state.TakenSet.{TakenSet}
+use Rattle.jcl_meaning.specs.declared.store.DataSet.{DataSet}
+use Rattle.jcl_meaning.specs.Programs.{dd_of, emptied, empties, grown_by, is_concatenated, is_full, is_read_only, or_nothing}
+use Rattle.jcl_meaning.specs.RequestActs.{dd_name, head_or}
+use Rattle.jcl_meaning.specs.States.{Answers, Done, State, asks_open, cancel_due, others}
+use Rattle.jcl_meaning.specs.Takes.{secondary_of}
 use Rattle.jcl_meaning.specs.Stores.{Store}
-use Rattle.store_core.specs.Actions.{state_at}
+use Rattle.store_core.specs.Actions.{changed_at, state_at}
 use Rattle.disp_core.specs.Courses.{Does}
 use Rattle.disp_core.specs.declared.course.Course.{Course}
+use Rattle.disp_core.specs.declared.put.Here.{Here}
 
 -- the state of a DD changed, where it was taken
 abbrev pub with_dd_by : (DdState → DdState) → List DdState → ℕ → Option DdState → List DdState
@@ -26,8 +41,8 @@ with_dd f dds d = with_dd_by f dds d (slice_get dds d)
 
 -- a line of a program, with what is due behind it
 abbrev pub course_with : Course → (DdState → DdState) → ℕ → Option Due → JobLine → Course
-course_with c f d then l = record {
-  own = record c.own { dds = with_dd f c.own.dds d; due = then; lines = c.own.lines + 1 };
+course_with c f d waits l = record {
+  own = record c.own { dds = with_dd f c.own.dds d; due = waits; lines = c.own.lines + 1 };
   lines = c.lines ++ l ∷ [];
 }
 
@@ -62,3 +77,95 @@ is_some_dd (dd ∷ dds) = true
 
 abbrev pub is_read_on : Source → List DdPlan → ℕ → Bool
 is_read_on x rest position = is_some_dd rest && not (nat_lt position (length x.records)) && x.read_past
+
+-- what a PUT leaves of its DD: a record was put to its set, or stands behind those for SYSOUT
+abbrev pub with_mark : DdState → DdState
+with_mark x = record x { written = true }
+
+abbrev pub with_spooled : List ℕ → DdState → DdState
+with_spooled text x = record x { spooled = x.spooled ++ text ∷ [] }
+
+-- the DD that a request goes to, the d-th of its step, from 0, and what it needs of its state
+pub record IsHere (dds : List DdState) (here : Here) (x : DdState) : Type 0 where
+  pub there : slice_get dds here.d ≡ Some x
+  pub its_member : x.member ≡ here.member
+  pub its_position : x.position ≡ here.position
+  pub its_mark : x.written ≡ here.written
+  pub its_set : x.taken ≡ here.taken
+
+-- the tracks that a request asks its store for, behind those of a set
+pub record Growth : Type 0 where
+  pub key : Key
+  pub serial : List ℕ
+  pub tracks : ℕ
+
+-- a PUT asks for the secondary where its set is full
+abbrev pub growth_for : TakenSet → ℕ → DataSet → Option Growth
+growth_for t secondary set = if is_full set then (if secondary == 0 then None else Some (record { key = t.key; serial = t.serial; tracks = secondary })) else None
+
+abbrev pub growth_in : SetPlan → Bool → Option TakenSet → Store → Option Growth
+growth_in p mark None seen = None
+growth_in p mark (Some t) seen = growth_for t (secondary_of p.space) (emptied (empties p.status mark) (or_nothing (seen.set t.key t.serial)))
+
+abbrev pub growth_of_kind : Here → DdKind → Store → Option Growth
+growth_of_kind here (Sysout class) seen = None
+growth_of_kind here Dummy seen = None
+growth_of_kind here (Cards cards) seen = None
+growth_of_kind here (Set p) seen = growth_in p here.written here.taken seen
+
+abbrev pub growth_unless : Bool → Here → DdKind → Store → Option Growth
+growth_unless true here kind seen = None
+growth_unless false here kind seen = growth_of_kind here kind seen
+
+abbrev pub growth_of : StepPlan → Move → Here → DdPlan → Store → Option Growth
+growth_of step (From name) here dd seen = None
+growth_of step (To name text) here dd seen = growth_unless (is_read_only dd.kind || is_concatenated (drop here.d step.dds)) here dd.kind seen
+
+abbrev pub here_at : ℕ → DdState → Here
+here_at d x = record { d = d; member = x.member; position = x.position; written = x.written; taken = x.taken }
+
+abbrev pub growth_at_dd : Option DdState → Option DdPlan → StepPlan → Move → ℕ → Store → Option Growth
+growth_at_dd None dd step move d seen = None
+growth_at_dd (Some x) None step move d seen = None
+growth_at_dd (Some x) (Some dd) step move d seen = growth_of step move (here_at d x) dd seen
+
+abbrev pub growth_at : Option ℕ → StepPlan → Move → List DdState → Store → Option Growth
+growth_at None step move dds seen = None
+growth_at (Some d) step move dds seen = growth_at_dd (slice_get dds d) (slice_get step.dds d) step move d seen
+
+-- none where a cancel stands in the place of the request
+abbrev pub growth_asked : Bool → StepPlan → Move → Own → Store → Option Growth
+growth_asked cancelled step move own seen =
+    if asks_open own then (if cancelled then None else growth_at (dd_of step.dds (dd_name move)) step move own.dds seen) else None
+
+-- the next answer is the store's where tracks are asked for, and it is used up
+abbrev pub Grants : (Key → List ℕ → ℕ → Bool) → Option Growth → Answers → Type 0
+Grants grants None answers = Unit {0}
+Grants grants (Some g) answers = head_or true answers.grants ≡ grants g.key g.serial g.tracks
+
+abbrev pub answers_left : Option Growth → Answers → Answers
+answers_left None a = a
+answers_left (Some g) a = record { outcomes = a.outcomes; cancels = a.cancels; grants = others a.grants; primary = a.primary }
+
+-- a request was carried out that asks for these tracks, or for none
+abbrev pub CarriedGrown : (Key → List ℕ → ℕ → Bool) → Option Growth → (State → Done) → Store → Course → Store → Course → Type 0
+CarriedGrown grants growth action old before new after =
+    (answers : Answers) → Grants grants growth answers → Does (action (state_at old before.own answers)) new after before (answers_left growth answers) None []
+
+-- and a cancel stands in its place, or none does
+abbrev pub CarriedRequest : Bool → (Key → List ℕ → ℕ → Bool) → Option Growth → (State → Done) → Store → Course → Store → Course → Type 0
+CarriedRequest cancelled grants growth action old before new after =
+    (answers : Answers) → cancel_due answers.cancels before.own.lines ≡ cancelled → Grants grants growth answers →
+    Does (action (state_at old before.own answers)) new after before (answers_left growth answers) None []
+
+-- a PUT that asks for tracks: the store and the course, by whether they are granted
+abbrev pub store_grown : Bool → Bool → ℕ → Store → TakenSet → Store
+store_grown true wipes tracks seen t = changed_at (λ set. grown_by tracks (emptied wipes set)) seen t.key t.serial
+store_grown false wipes tracks seen t = changed_at (emptied wipes) seen t.key t.serial
+
+abbrev pub course_put : Course → List ℕ → List ℕ → ℕ → TakenSet → Option ℕ → Course
+course_put c name text d t grown = course_with c with_mark d (Some (due.Put name d text)) (line.PutStart name t.serial grown)
+
+abbrev pub course_grown : Bool → Course → List ℕ → List ℕ → ℕ → TakenSet → ℕ → Course
+course_grown true c name text d t tracks = course_put c name text d t (Some tracks)
+course_grown false c name text d t tracks = course_abended c abend.SB37

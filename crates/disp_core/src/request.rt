@@ -23,7 +23,7 @@ use store_core::job_store::JobStore;
 use store_core::source::members_at;
 
 /// The next number of lines.
-fn one_more(lines: usize) -> Result<usize, AllocError>
+pub(crate) fn one_more(lines: usize) -> Result<usize, AllocError>
     ensures { IfOk result (λ n. n ≡ lines + 1) }
 {
     match lines.checked_add(1) {
@@ -33,14 +33,14 @@ fn one_more(lines: usize) -> Result<usize, AllocError>
 }
 
 /// Whether the program of the step at hand goes on.
-fn is_open(own: &Own) -> bool
+pub(crate) fn is_open(own: &Own) -> bool
     ensures { result ≡ asks_open own.now }
 {
     own.runs && own.over.is_none()
 }
 
 /// The program ends by an ABEND. An `Err` changes nothing.
-fn abend(course: &mut Course, abend: &Abend) -> Result<(), AllocError>
+pub(crate) fn abend(course: &mut Course, abend: &Abend) -> Result<(), AllocError>
     ensures ok { OnOk result (course.new ≡ course_abended course.old abend.now) }
     ensures err { OnErr result (course.new ≡ course.old) }
 {
@@ -341,7 +341,7 @@ fn append<S: JobStore>(
 }
 
 /// Writes a line of the program behind which nothing is due. An `Err` changes nothing.
-fn say_done(course: &mut Course, line: JobLine) -> Result<(), AllocError>
+pub(crate) fn say_done(course: &mut Course, line: JobLine) -> Result<(), AllocError>
     ensures ok { OnOk result (course.new ≡ record { own = wrote course.old.own; lines = course.old.lines ++ line ∷ [] }) }
     ensures err { OnErr result (course.new ≡ course.old) }
 {

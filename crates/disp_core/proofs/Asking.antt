@@ -1,0 +1,49 @@
+-- A request to a DD that was taken, from what it needs of its state.
+use Rattle.std.proofs.Common.{◌≡◌, ℕ, Bool, List, [], Option, Some, None, Result, Ok, Err, OnOk, slice_get, refl, sym, ap, subst, ◌∙◌}
+use Rattle.std.specs.Option.{option_map}
+use Rattle.jname_core.specs.declared.key.Key.{Key}
+use Rattle.jcl_plan.specs.declared.plan.DdPlan.{DdPlan}
+use Rattle.jcl_plan.specs.declared.plan.StepPlan.{StepPlan}
+use Rattle.jcl_meaning.specs.declared.program.Move.{Move}
+use Rattle.jcl_meaning.specs.declared.state.DdState.{DdState}
+use Rattle.jcl_meaning.specs.RequestActs.{asks_dd, asks_of}
+use Rattle.jcl_meaning.specs.States.{Answers}
+use Rattle.jcl_meaning.specs.Stores.{Store}
+use Rattle.store_core.specs.Actions.{state_at}
+use Rattle.disp_core.specs.Courses.{Does}
+use Rattle.disp_core.specs.Requests.{CarriedGrown, Grants, IsHere, answers_left, growth_at_dd, growth_of, here_at}
+use Rattle.disp_core.specs.declared.course.Course.{Course}
+use Rattle.disp_core.specs.declared.put.Here.{Here}
+
+pub on_ok_then : {X E P Q : Type 0} (r : Result X E) → (P → Q) → OnOk r P → OnOk r Q
+on_ok_then (Ok x) f h = f h
+on_ok_then (Err e) f h = h
+
+abbrev some_of : Here → Option Here → Here
+some_of other None = other
+some_of other (Some here) = here
+
+module _ (grants : Key → List ℕ → ℕ → Bool) (step : StepPlan) (wants : Move) (d : ℕ) (here : Here) (dd : DdPlan) (old new : Store) (before after : Course) where
+  abbrev Asked : Option DdState → Option DdPlan → Type 0
+  Asked o q = (answers : Answers) → Grants grants (growth_at_dd o q step wants d old) answers →
+      Does (asks_dd o q step wants d (state_at old before.own answers)) new after before (answers_left (growth_at_dd o q step wants d old) answers) None []
+
+  abbrev AskedAt : DdState → Here → Type 0
+  AskedAt x w = CarriedGrown grants (growth_of step wants w dd old) (λ s. asks_of step wants w.d x dd s) old before new after
+
+  asked_here : (o : Option DdState) → slice_get before.own.dds d ≡ o → Some here ≡ option_map (here_at d) o →
+      ((x : DdState) → IsHere before.own.dds here x → AskedAt x here) → Asked o (Some dd)
+  asked_here None e k h = absurd cc
+  asked_here (Some x) e k h =
+      let p : here ≡ here_at d x = ap (some_of here) k in
+      subst (AskedAt x) p (h x (record {
+        there = ap (λ w. slice_get before.own.dds w.d) p ∙ e;
+        its_member = sym (ap (λ w. w.member) p);
+        its_position = sym (ap (λ w. w.position) p);
+        its_mark = sym (ap (λ w. w.written) p);
+        its_set = sym (ap (λ w. w.taken) p);
+      }))
+
+  pub asked_at : Some here ≡ option_map (here_at d) (slice_get before.own.dds d) → Some dd ≡ slice_get step.dds d →
+      ((x : DdState) → IsHere before.own.dds here x → AskedAt x here) → Asked (slice_get before.own.dds d) (slice_get step.dds d)
+  asked_at k q h = subst (Asked (slice_get before.own.dds d)) q (asked_here (slice_get before.own.dds d) refl k h)

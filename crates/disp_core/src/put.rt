@@ -1,0 +1,284 @@
+//! PUT. (This profile)
+ghost use Rattle.std.specs.Prelude.{◌≡◌, ◌+◌, ◌++◌, ◌∷◌, [], None, OnErr, OnOk, Some};
+ghost use Rattle.jcl_plan.specs.declared.entry.JobLine.TheVariants as line;
+ghost use Rattle.jcl_meaning.specs.Programs.{emptied, empties, is_full, is_read_only, or_nothing};
+ghost use Rattle.jcl_meaning.specs.RequestActs.{puts, puts_in};
+ghost use Rattle.jcl_meaning.specs.Takes.{secondary_of};
+ghost use Rattle.jcl_meaning.specs.declared.state.DdState.{DdState};
+ghost use Rattle.jcl_meaning.specs.declared.state.Due.TheVariants as due;
+ghost use Rattle.store_core.specs.Actions.{changed_at};
+ghost use Rattle.disp_core.specs.Requests.{CarriedGrown, IsHere, course_abended, course_grown, course_put, course_with, growth_in, growth_of_kind, store_grown, with_dd, with_mark, with_spooled};
+
+use crate::course::Course;
+use crate::request::{abend, one_more, say_done};
+use jcl_meaning::state::{DdState, Due, TakenSet};
+use jcl_plan::entry::JobLine;
+use jcl_plan::outcome::Abend;
+use jcl_plan::plan::{DdKind, RECORDS_A_TRACK, Record, SetPlan, Space, Status};
+use jname_core::name8::Name8;
+use plain::listed::Listed;
+use std::alloc::{AllocError, Global};
+use std::mem;
+use store_core::job_store::{JobStore, RoomFault};
+use store_core::laws::{grown_and_emptied_in_either_order, not_emptied_stays};
+
+/// The DD that a request goes to, from 0, and what the request needs of its state.
+#[derive(Clone, Copy, Debug)]
+pub(crate) struct Here {
+    pub(crate) d: usize,
+    pub(crate) member: usize,
+    pub(crate) position: usize,
+    pub(crate) written: bool,
+    pub(crate) taken: Option<TakenSet>,
+}
+
+/// A record was put by a DD.
+fn mark(alloc: Global, dds: &mut Listed<DdState>, d: usize)
+    ensures { dds.new ≡ with_dd with_mark dds.old d }
+{
+    let mut states = mem::replace(dds, Listed::empty(alloc)).into_vec();
+    if let Some(x) = states.get_mut(d) {
+        x.written = true;
+    }
+    *dds = Listed::new(states);
+}
+
+/// A record behind those of a DD for SYSOUT. An `Err` changes nothing.
+fn spool(
+    alloc: Global,
+    dds: &mut Listed<DdState>,
+    d: usize,
+    text: &Record,
+) -> Result<(), AllocError>
+    ensures ok { OnOk result (dds.new ≡ with_dd (with_spooled text.now) dds.old d) }
+    ensures err { OnErr result (dds.new ≡ dds.old) }
+{
+    let mut states = mem::replace(dds, Listed::empty(alloc)).into_vec();
+    let told = match states.get_mut(d) {
+        None => Ok(()),
+        Some(x) => x.spooled.push(*text),
+    };
+    *dds = Listed::new(states);
+    told
+}
+
+/// Whether a PUT empties the set first.
+fn empties(status: Status, written: bool) -> bool
+    ensures { result ≡ empties status written }
+{
+    match status {
+        Status::New => !written,
+        Status::Old => !written,
+        Status::Shr => false,
+        Status::Mod => false,
+    }
+}
+
+fn secondary_of(space: &Option<Space>) -> u16
+    ensures { result ≡ secondary_of space.now }
+{
+    match space {
+        None => 0,
+        Some(space) => space.secondary,
+    }
+}
+
+/// Whether the records fill the tracks of a set, once it is emptied or not.
+fn is_full<S: JobStore>(store: &S, job: u16, t: &TakenSet, wipes: bool) -> bool
+    ensures { result ≡ is_full (emptied wipes (or_nothing ((S.seen job store.now).set t.now.key t.now.serial))) }
+{
+    match store.set(job, &t.key, t.serial) {
+        None => true,
+        Some(facts) => {
+            let records = if wipes { 0 } else { facts.records };
+            facts.tracks <= (records / RECORDS_A_TRACK) as u64
+        }
+    }
+}
+
+/// Takes the records of a set away, or leaves it.
+fn wipe<S: JobStore>(store: &mut S, job: u16, t: &TakenSet, wipes: bool)
+    ensures seen { S.seen job store.new ≡ changed_at (emptied wipes) (S.seen job store.old) t.now.key t.now.serial }
+    ensures rest { S.rest job store.new ≡ S.rest job store.old }
+{
+    not_emptied_stays();
+    if wipes {
+        store.empty(job, &t.key, t.serial);
+    }
+}
+
+/// The operation of a PUT is due, behind its line.
+fn begin_put(alloc: Global, course: &mut Course, d: usize, due: Due, lines: usize)
+    ensures { course.new ≡ record {
+      own = record course.old.own { dds = with_dd with_mark course.old.own.dds d; due = Some due; lines = lines };
+      lines = course.old.lines;
+    } }
+{
+    mark(alloc, &mut course.own.dds, d);
+    course.own.due = Some(due);
+    course.own.lines = lines;
+}
+
+fn due_of(name: &Name8, text: &Record, d: usize) -> Due
+    ensures { result ≡ due.Put name.now d text.now }
+{
+    Due::Put {
+        name: *name,
+        dd: d,
+        text: *text,
+    }
+}
+
+/// The start of a PUT to a set that has room. An `Err` changes nothing.
+fn put_starts(
+    alloc: Global,
+    course: &mut Course,
+    name: &Name8,
+    text: &Record,
+    d: usize,
+    t: &TakenSet,
+) -> Result<(), AllocError>
+    ensures ok { OnOk result (course.new ≡ course_put course.old name.now text.now d t.now None) }
+    ensures err { OnErr result (course.new ≡ course.old) }
+{
+    let lines = one_more(course.own.lines)?;
+    course.say(JobLine::PutStart {
+        name: *name,
+        serial: t.serial,
+        grown: None,
+    })?;
+    begin_put(alloc, course, d, due_of(name, text, d), lines);
+    Ok(())
+}
+
+/// The start of a PUT to a set that is to grow: where it may not, it is an ABEND. An `Err` changes nothing.
+fn put_grows<S: JobStore>(
+    alloc: Global,
+    store: &mut S,
+    job: u16,
+    course: &mut Course,
+    name: &Name8,
+    text: &Record,
+    d: usize,
+    t: &TakenSet,
+    secondary: u16,
+    wipes: bool,
+) -> Result<(), AllocError>
+    ensures seen { OnOk result (S.seen job store.new ≡ store_grown (S.grants_growth job store.old t.now.key t.now.serial secondary) wipes secondary (S.seen job store.old) t.now) }
+    ensures course { OnOk result (course.new ≡ course_grown (S.grants_growth job store.old t.now.key t.now.serial secondary) course.old name.now text.now d t.now secondary) }
+    ensures err { OnErr result ((S.seen job store.new ≡ S.seen job store.old) × (course.new ≡ course.old)) }
+    ensures rest { S.rest job store.new ≡ S.rest job store.old }
+{
+    grown_and_emptied_in_either_order();
+    let lines = one_more(course.own.lines)?;
+    course.say(JobLine::PutStart {
+        name: *name,
+        serial: t.serial,
+        grown: Some(secondary),
+    })?;
+    match store.grow(job, &t.key, t.serial, secondary) {
+        Ok(()) => {
+            begin_put(alloc, course, d, due_of(name, text, d), lines);
+            wipe(store, job, t, wipes);
+            Ok(())
+        }
+        Err(RoomFault::NotGranted) => {
+            course.unsay();
+            abend(course, &Abend::SB37)?;
+            wipe(store, job, t, wipes);
+            Ok(())
+        }
+        Err(RoomFault::Memory) => {
+            course.unsay();
+            Err(AllocError)
+        }
+    }
+}
+
+/// PUT to a set: at the start of the operation it is emptied, if it is the first, and grows, if it is full. An `Err` changes nothing.
+fn put_in<S: JobStore>(
+    alloc: Global,
+    store: &mut S,
+    job: u16,
+    course: &mut Course,
+    name: &Name8,
+    text: &Record,
+    here: &Here,
+    p: &SetPlan,
+    t: &TakenSet,
+) -> Result<(), AllocError>
+    ensures ok { OnOk result ((x : DdState) → IsHere course.old.own.dds here.now x → CarriedGrown (S.grants_growth job store.old)
+        (growth_in p.now here.now.written (Some t.now) (S.seen job store.old))
+        (λ s. puts_in name.now text.now here.now.d x p.now (Some t.now) s) (S.seen job store.old) course.old (S.seen job store.new) course.new) }
+    ensures err { OnErr result ((S.seen job store.new ≡ S.seen job store.old) × (course.new ≡ course.old)) }
+    ensures rest { S.rest job store.new ≡ S.rest job store.old }
+{
+    let wipes = empties(p.status, here.written);
+    let secondary = secondary_of(&p.space);
+    if !is_full(store, job, t, wipes) {
+        put_starts(alloc, course, name, text, here.d, t)?;
+        wipe(store, job, t, wipes);
+        return Ok(());
+    }
+    if secondary == 0 {
+        abend(course, &Abend::SD37)?;
+        wipe(store, job, t, wipes);
+        return Ok(());
+    }
+    put_grows(
+        alloc, store, job, course, name, text, here.d, t, secondary, wipes,
+    )
+}
+
+/// PUT to a DD for SYSOUT. An `Err` changes nothing.
+fn put_out(
+    alloc: Global,
+    course: &mut Course,
+    name: &Name8,
+    text: &Record,
+    d: usize,
+) -> Result<(), AllocError>
+    ensures ok { OnOk result (course.new ≡ course_with course.old (with_spooled text.now) d None (line.PutDone name.now)) }
+    ensures err { OnErr result (course.new ≡ course.old) }
+{
+    let lines = one_more(course.own.lines)?;
+    course.say(JobLine::PutDone { name: *name })?;
+    match spool(alloc, &mut course.own.dds, d, text) {
+        Ok(()) => {}
+        Err(error) => {
+            course.unsay();
+            return Err(error);
+        }
+    }
+    course.own.due = None;
+    course.own.lines = lines;
+    Ok(())
+}
+
+/// PUT, where it is not refused. An `Err` changes nothing.
+pub(crate) fn put<S: JobStore>(
+    alloc: Global,
+    store: &mut S,
+    job: u16,
+    course: &mut Course,
+    name: &Name8,
+    text: &Record,
+    here: &Here,
+    kind: &DdKind,
+) -> Result<(), AllocError>
+    ensures ok { OnOk result ((x : DdState) → IsHere course.old.own.dds here.now x → CarriedGrown (S.grants_growth job store.old)
+        (growth_of_kind here.now kind.now (S.seen job store.old))
+        (λ s. puts name.now text.now here.now.d x kind.now s) (S.seen job store.old) course.old (S.seen job store.new) course.new) }
+    ensures err { OnErr result ((S.seen job store.new ≡ S.seen job store.old) × (course.new ≡ course.old)) }
+    ensures rest { S.rest job store.new ≡ S.rest job store.old }
+{
+    match kind {
+        DdKind::Sysout(_) => put_out(alloc, course, name, text, here.d),
+        DdKind::Dummy => say_done(course, JobLine::PutDone { name: *name }),
+        DdKind::Cards(_) => abend(course, &Abend::SFF1),
+        DdKind::Set(p) => match &here.taken {
+            None => abend(course, &Abend::SFF1),
+            Some(t) => put_in(alloc, store, job, course, name, text, here, p, t),
+        },
+    }
+}
