@@ -1,5 +1,5 @@
 //! A request of a program. (This profile)
-ghost use Rattle.std.specs.Prelude.{◌≡◌, ◌<◌, IsSome, OnErr, OnOk, Some, length, slice_get};
+ghost use Rattle.std.specs.Prelude.{◌≡◌, ◌<◌, IfOk, IsSome, OnErr, OnOk, Some, is_some, length, slice_get};
 ghost use Rattle.std.specs.Option.{option_copied, option_map};
 ghost use Rattle.jcl_meaning.specs.Programs.{is_read_only};
 ghost use Rattle.jcl_meaning.specs.RequestActs.{asked, asks_at, asks_of, dd_name};
@@ -64,7 +64,7 @@ fn here_at(dds: &[DdState], d: usize) -> Option<Here>
     }
 }
 
-/// A request to a DD that was taken. An `Err` changes nothing.
+/// A request to a DD that was taken; it tells whether it asked for tracks. An `Err` changes nothing.
 fn ask_of<S: JobStore>(
     alloc: Global,
     store: &mut S,
@@ -74,8 +74,9 @@ fn ask_of<S: JobStore>(
     wants: &Move,
     here: &Here,
     dd: &DdPlan,
-) -> Result<(), AllocError>
+) -> Result<bool, AllocError>
     requires { here.now.d < length step.now.dds }
+    ensures asked { IfOk result (λ asked. asked ≡ is_some (growth_of step.now wants.now here.now dd.now (S.seen job store.old))) }
     ensures ok { OnOk result ((x : DdState) → IsHere course.old.own.dds here.now x → CarriedGrown (S.grants_growth job store.old)
         (growth_of step.now wants.now here.now dd.now (S.seen job store.old))
         (λ s. asks_of step.now wants.now here.now.d x dd.now s) (S.seen job store.old) course.old (S.seen job store.new) course.new) }
@@ -83,21 +84,25 @@ fn ask_of<S: JobStore>(
     ensures rest { S.rest job store.new ≡ S.rest job store.old }
 {
     match wants {
-        Move::From(name) => get(
-            alloc,
-            &*store,
-            job,
-            course,
-            step,
-            name,
-            here.d,
-            here.member,
-            here.position,
-        ),
+        Move::From(name) => {
+            get(
+                alloc,
+                &*store,
+                job,
+                course,
+                step,
+                name,
+                here.d,
+                here.member,
+                here.position,
+            )?;
+            Ok(false)
+        }
         Move::To { dd: name, text } => {
             let refused = is_read_only(&dd.kind) || is_concatenated(&step.dds.as_slice()[here.d..]);
             if refused {
-                abend(course, &Abend::SFF1)
+                abend(course, &Abend::SFF1)?;
+                Ok(false)
             } else {
                 put(alloc, store, job, course, name, text, here, &dd.kind)
             }
@@ -105,7 +110,7 @@ fn ask_of<S: JobStore>(
     }
 }
 
-/// A request to the d-th DD of its step, from 0. An `Err` changes nothing.
+/// A request to the d-th DD of its step, from 0; it tells whether it asked for tracks. An `Err` changes nothing.
 fn ask_at<S: JobStore>(
     alloc: Global,
     store: &mut S,
@@ -114,22 +119,25 @@ fn ask_at<S: JobStore>(
     step: &StepPlan,
     wants: &Move,
     d: usize,
-) -> Result<(), AllocError>
+) -> Result<bool, AllocError>
+    ensures asked { IfOk result (λ asked. asked ≡ is_some (growth_at (Some d) step.now wants.now course.old.own.dds (S.seen job store.old))) }
     ensures ok { OnOk result (CarriedGrown (S.grants_growth job store.old) (growth_at (Some d) step.now wants.now course.old.own.dds (S.seen job store.old))
         (λ s. asks_at (Some d) step.now wants.now s) (S.seen job store.old) course.old (S.seen job store.new) course.new) }
     ensures err { OnErr result ((S.seen job store.new ≡ S.seen job store.old) × (course.new ≡ course.old)) }
     ensures rest { S.rest job store.new ≡ S.rest job store.old }
 {
     let Some(here) = here_at(course.own.dds.as_slice(), d) else {
-        return abend(course, &Abend::SFF0);
+        abend(course, &Abend::SFF0)?;
+        return Ok(false);
     };
     let Some(dd) = dd_at(step.dds.as_slice(), d) else {
-        return abend(course, &Abend::SFF0);
+        abend(course, &Abend::SFF0)?;
+        return Ok(false);
     };
     ask_of(alloc, store, job, course, step, wants, &here, dd)
 }
 
-/// A request's first action, unless a cancel stands in its place. An `Err` changes nothing.
+/// A request's first action, unless a cancel stands in its place; it tells whether it asked its store for tracks. An `Err` changes nothing.
 pub fn ask<S: JobStore>(
     alloc: Global,
     store: &mut S,
@@ -138,7 +146,8 @@ pub fn ask<S: JobStore>(
     step: &StepPlan,
     wants: &Move,
     cancelled: bool,
-) -> Result<(), AllocError>
+) -> Result<bool, AllocError>
+    ensures asked { IfOk result (λ asked. asked ≡ is_some (growth_asked cancelled step.now wants.now course.old.own (S.seen job store.old))) }
     ensures ok { OnOk result (CarriedRequest cancelled (S.grants_growth job store.old)
         (growth_asked cancelled step.now wants.now course.old.own (S.seen job store.old))
         (λ s. asked step.now wants.now s) (S.seen job store.old) course.old (S.seen job store.new) course.new) }
@@ -146,13 +155,17 @@ pub fn ask<S: JobStore>(
     ensures rest { S.rest job store.new ≡ S.rest job store.old }
 {
     if !is_open(&course.own) {
-        return Ok(());
+        return Ok(false);
     }
     if cancelled {
-        return abend(course, &Abend::S222);
+        abend(course, &Abend::S222)?;
+        return Ok(false);
     }
     match dd_of(step.dds.as_slice(), dd_name(wants)) {
-        None => abend(course, &Abend::SFF0),
+        None => {
+            abend(course, &Abend::SFF0)?;
+            Ok(false)
+        }
         Some(d) => ask_at(alloc, store, job, course, step, wants, d),
     }
 }

@@ -1,5 +1,5 @@
 //! PUT. (This profile)
-ghost use Rattle.std.specs.Prelude.{◌≡◌, ◌+◌, ◌++◌, ◌∷◌, [], None, OnErr, OnOk, Some};
+ghost use Rattle.std.specs.Prelude.{◌≡◌, ◌+◌, ◌++◌, ◌∷◌, [], IfOk, None, OnErr, OnOk, Some, is_some};
 ghost use Rattle.jcl_plan.specs.declared.entry.JobLine.TheVariants as line;
 ghost use Rattle.jcl_meaning.specs.Programs.{emptied, empties, is_full, is_read_only, or_nothing};
 ghost use Rattle.jcl_meaning.specs.RequestActs.{puts, puts_in};
@@ -195,7 +195,8 @@ fn put_grows<S: JobStore>(
     }
 }
 
-/// PUT to a set: at the start of the operation it is emptied, if it is the first, and grows, if it is full. An `Err` changes nothing.
+/// PUT to a set: at the start of the operation it is emptied, if it is the first, and grows, if it is full; it tells whether it asked for tracks. An
+/// `Err` changes nothing.
 fn put_in<S: JobStore>(
     alloc: Global,
     store: &mut S,
@@ -206,7 +207,8 @@ fn put_in<S: JobStore>(
     here: &Here,
     p: &SetPlan,
     t: &TakenSet,
-) -> Result<(), AllocError>
+) -> Result<bool, AllocError>
+    ensures asked { IfOk result (λ asked. asked ≡ is_some (growth_in p.now here.now.written (Some t.now) (S.seen job store.old))) }
     ensures ok { OnOk result ((x : DdState) → IsHere course.old.own.dds here.now x → CarriedGrown (S.grants_growth job store.old)
         (growth_in p.now here.now.written (Some t.now) (S.seen job store.old))
         (λ s. puts_in name.now text.now here.now.d x p.now (Some t.now) s) (S.seen job store.old) course.old (S.seen job store.new) course.new) }
@@ -218,16 +220,17 @@ fn put_in<S: JobStore>(
     if !is_full(store, job, t, wipes) {
         put_starts(alloc, course, name, text, here.d, t)?;
         wipe(store, job, t, wipes);
-        return Ok(());
+        return Ok(false);
     }
     if secondary == 0 {
         abend(course, &Abend::SD37)?;
         wipe(store, job, t, wipes);
-        return Ok(());
+        return Ok(false);
     }
     put_grows(
         alloc, store, job, course, name, text, here.d, t, secondary, wipes,
-    )
+    )?;
+    Ok(true)
 }
 
 /// PUT to a DD for SYSOUT. An `Err` changes nothing.
@@ -255,7 +258,7 @@ fn put_out(
     Ok(())
 }
 
-/// PUT, where it is not refused. An `Err` changes nothing.
+/// PUT, where it is not refused; it tells whether it asked for tracks. An `Err` changes nothing.
 pub(crate) fn put<S: JobStore>(
     alloc: Global,
     store: &mut S,
@@ -265,7 +268,8 @@ pub(crate) fn put<S: JobStore>(
     text: &Record,
     here: &Here,
     kind: &DdKind,
-) -> Result<(), AllocError>
+) -> Result<bool, AllocError>
+    ensures asked { IfOk result (λ asked. asked ≡ is_some (growth_of_kind here.now kind.now (S.seen job store.old))) }
     ensures ok { OnOk result ((x : DdState) → IsHere course.old.own.dds here.now x → CarriedGrown (S.grants_growth job store.old)
         (growth_of_kind here.now kind.now (S.seen job store.old))
         (λ s. puts name.now text.now here.now.d x kind.now s) (S.seen job store.old) course.old (S.seen job store.new) course.new) }
@@ -273,11 +277,23 @@ pub(crate) fn put<S: JobStore>(
     ensures rest { S.rest job store.new ≡ S.rest job store.old }
 {
     match kind {
-        DdKind::Sysout(_) => put_out(alloc, course, name, text, here.d),
-        DdKind::Dummy => say_done(course, JobLine::PutDone { name: *name }),
-        DdKind::Cards(_) => abend(course, &Abend::SFF1),
+        DdKind::Sysout(_) => {
+            put_out(alloc, course, name, text, here.d)?;
+            Ok(false)
+        }
+        DdKind::Dummy => {
+            say_done(course, JobLine::PutDone { name: *name })?;
+            Ok(false)
+        }
+        DdKind::Cards(_) => {
+            abend(course, &Abend::SFF1)?;
+            Ok(false)
+        }
         DdKind::Set(p) => match &here.taken {
-            None => abend(course, &Abend::SFF1),
+            None => {
+                abend(course, &Abend::SFF1)?;
+                Ok(false)
+            }
             Some(t) => put_in(alloc, store, job, course, name, text, here, p, t),
         },
     }
