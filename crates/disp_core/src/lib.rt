@@ -8,5 +8,6 @@ pub mod dispose;
 mod put;
 mod refuse;
 pub mod request;
+pub mod resolve;
 pub mod step;
 pub mod take;
