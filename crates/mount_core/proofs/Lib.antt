@@ -1,0 +1,5 @@
+pub mod Places
+pub mod KeptMaps
+pub mod KeptTracks
+pub mod Keeping
+pub mod Making

@@ -1,0 +1,144 @@
+//! A mounted volume.
+ghost use Rattle.std.specs.Prelude.{◌≡◌, ◌≢◌, ◌≤◌, ◌<◌, List, false, true, Some, None, Err, IfErr, IfOk, IsSome, OnErr, OnOk};
+ghost use Rattle.std.specs.FinMap as map;
+ghost use Rattle.extent_core.specs.declared.extent.Extent.{Extent};
+ghost use Rattle.vtoc_core.specs.Entries.{changed, with_extents, with_records};
+ghost use Rattle.vtoc_core.specs.Extents.{five_largest, free_extents, planned};
+ghost use Rattle.vtoc_core.specs.Volumes.{AnswersGrow, AnswersMake, AnswersWrite, Moves, first_tracks, marked};
+ghost use Rattle.vtoc_core.specs.declared.volume.Track.TheVariants.{Aside, Free, InSet};
+ghost use Rattle.mount_core.specs.Kept.{list_at};
+ghost use Rattle.mount_core.specs.Mounts.{WasMade, given_back, holds};
+
+use crate::lists::{self, Lists, drop_place, is_taken, restore, take_out, take_up};
+use crate::place::KeptPlace;
+use jname_core::serial::Serial;
+use std::alloc::{AllocError, Global};
+use std::collections::BTreeMap;
+use std::marker::Model;
+use vtoc_core::entry::{Extent, SetEntry, SetKey};
+use vtoc_core::fault::VolumeFault;
+use vtoc_core::volume::Volume;
+
+/// A volume with its serial, and the tracks that are kept on it for sets still to be made.
+#[derive(Debug)]
+pub struct Mounted {
+    serial: Serial,
+    volume: Volume,
+    kept: Lists,
+}
+
+impl Model for Mounted {
+    ghost use Rattle.mount_core.specs.Kept.{AreKept, kept_of};
+    ghost use Rattle.mount_core.specs.Mounts.{MountedState, coded_mounted};
+
+    ghost Value = { MountedState };
+
+    ghost coded = { coded_mounted };
+
+    ghost view = { λ m. record { serial = m.serial; volume = m.volume; kept = kept_of m.kept.entries } };
+
+    ghost invariant = { λ m. AreKept m.volume.tracks (kept_of m.kept.entries) };
+}
+
+impl Mounted {
+    /// A volume of 1 to 4,000 tracks without a set. The tracks of these extents are never free.
+    pub fn new(
+        alloc: Global,
+        serial: Serial,
+        tracks: u16,
+        unusable: &[Extent],
+    ) -> Result<Mounted, AllocError>
+        requires { tracks ≤ 4000 }
+        ensures { IfOk result (λ m. m ≡ record { serial = serial; volume = record { tracks = first_tracks tracks unusable.now; sets = map.empty }; kept = map.empty }) }
+    {
+        let volume = Volume::new(alloc, tracks, unusable)?;
+        Ok(Mounted {
+            serial,
+            volume,
+            kept: BTreeMap::new(alloc),
+        })
+    }
+
+    pub fn serial(&self) -> Serial
+        ensures { result ≡ self.now.serial }
+    {
+        self.serial
+    }
+
+    /// Its tracks and sets.
+    pub fn volume(&self) -> &Volume
+        ensures { result.now ≡ self.now.volume }
+    {
+        &self.volume
+    }
+
+    /// Keeps so many tracks at a place where none are kept. A refusal changes nothing: `NameThere` where some are.
+    pub fn keep(&mut self, place: KeptPlace, tracks: u16) -> Result<(), VolumeFault>
+        ensures ok { OnOk result ((list : List Extent) × (planned (free_extents self.old.volume.tracks) tracks ≡ Some list) × (self.new ≡ record self.old {
+          volume = record self.old.volume { tracks = marked Aside list self.old.volume.tracks };
+          kept = map.insert self.old.kept place (Some list);
+        })) }
+        ensures there { (result ≡ Err VolumeFault.NameThere) → IsSome (map.get self.old.kept place) }
+        ensures space { (result ≡ Err VolumeFault.NoSpace) → five_largest (free_extents self.old.volume.tracks) < tracks }
+        ensures err { OnErr result (self.new ≡ self.old) }
+    {
+        if is_taken(&self.kept, &place) {
+            return Err(VolumeFault::NameThere);
+        }
+        let list = self.volume.reserve(tracks)?;
+        match lists::put(&mut self.kept, place, list) {
+            Ok(()) => Ok(()),
+            Err(back) => {
+                self.volume.give_back(back);
+                Err(VolumeFault::Memory)
+            }
+        }
+    }
+
+    /// Gives the tracks of a place back, if some are kept there.
+    pub fn give_back(&mut self, place: &KeptPlace)
+        ensures { self.new ≡ given_back (list_at self.old.kept place.now) self.old place.now }
+    {
+        if let Some(list) = take_out(&mut self.kept, place) {
+            self.volume.give_back(list);
+        }
+    }
+
+    /// Makes a set without a record: of the tracks that are kept at a place, if so many are, else of free tracks where none are kept. A refusal changes
+    /// nothing.
+    pub fn make(
+        &mut self,
+        alloc: Global,
+        place: &KeptPlace,
+        key: SetKey,
+        tracks: u16,
+        expires: Option<u32>,
+    ) -> Result<(), VolumeFault>
+        ensures made { OnOk result (WasMade (list_at self.old.kept place.now) self.old place.now key tracks expires self.new) }
+        ensures granted { OnOk result (holds (list_at self.old.kept place.now) self.old.volume tracks ≡ true) }
+        ensures space { result ≡ Err VolumeFault.NoSpace → holds (list_at self.old.kept place.now) self.old.volume tracks ≡ false }
+        ensures there { (result ≡ Err VolumeFault.NameThere) → IsSome (map.get self.old.volume.sets key) }
+        ensures others { IfErr result (λ fault. (fault ≢ VolumeFault.NameMissing) × (fault ≢ VolumeFault.TooManyExtents)) }
+        ensures err { OnErr result (self.new ≡ self.old) }
+    {
+        match take_up(&mut self.kept, place) {
+            None => self.volume.make_set(alloc, key, tracks, expires),
+            Some(list) => {
+                if list.tracks() != u32::from(tracks) {
+                    restore(&mut self.kept, place, list);
+                    return Err(VolumeFault::NoSpace);
+                }
+                match self.volume.make_from(alloc, list, key, expires) {
+                    Ok(()) => {
+                        drop_place(&mut self.kept, place);
+                        Ok(())
+                    }
+                    Err((back, fault)) => {
+                        restore(&mut self.kept, place, back);
+                        Err(fault)
+                    }
+                }
+            }
+        }
+    }
+}
