@@ -1,10 +1,11 @@
 //! A mounted volume.
-ghost use Rattle.std.specs.Prelude.{◌≡◌, ◌≢◌, ◌≤◌, ◌<◌, List, false, true, Some, None, Err, IfErr, IfOk, IsSome, OnErr, OnOk};
+ghost use Rattle.std.specs.Prelude.{◌≡◌, ◌≢◌, ◌≤◌, ◌<◌, ◌↔◌, ◌++◌, ◌∷◌, [], List, IsErr, false, true, Some, None, Err, IfErr, IfOk, IsSome, OnErr, OnOk};
 ghost use Rattle.std.specs.FinMap as map;
 ghost use Rattle.extent_core.specs.declared.extent.Extent.{Extent};
 ghost use Rattle.vtoc_core.specs.Entries.{changed, with_extents, with_records};
-ghost use Rattle.vtoc_core.specs.Extents.{five_largest, free_extents, planned};
-ghost use Rattle.vtoc_core.specs.Volumes.{AnswersGrow, AnswersMake, AnswersWrite, Moves, first_tracks, marked};
+ghost use Rattle.vtoc_core.specs.Extents.{five_largest, free_extents, kept_front, past_front, planned, tracks_in};
+ghost use Rattle.vtoc_core.specs.Volumes.{AnswersGrow, AnswersWrite, Moves, first_tracks, marked, tracks_past};
+ghost use Rattle.vtoc_core.specs.declared.entry.SetEntry.{SetEntry};
 ghost use Rattle.vtoc_core.specs.declared.volume.Track.TheVariants.{Aside, Free, InSet};
 ghost use Rattle.mount_core.specs.Kept.{list_at};
 ghost use Rattle.mount_core.specs.Mounts.{WasMade, given_back, holds};
@@ -12,12 +13,13 @@ ghost use Rattle.mount_core.specs.Mounts.{WasMade, given_back, holds};
 use crate::lists::{self, Lists, drop_place, is_taken, restore, take_out, take_up};
 use crate::place::KeptPlace;
 use jname_core::serial::Serial;
+use set_core::records::DataRecord;
 use std::alloc::{AllocError, Global};
 use std::collections::BTreeMap;
 use std::marker::Model;
-use vtoc_core::entry::{Extent, SetEntry, SetKey};
+use vtoc_core::entry::{Extent, SetKey};
 use vtoc_core::fault::VolumeFault;
-use vtoc_core::volume::Volume;
+use vtoc_core::volume::{Volume, volumes_are_sound};
 
 /// A volume with its serial, and the tracks that are kept on it for sets still to be made.
 #[derive(Debug)]
@@ -140,5 +142,61 @@ impl Mounted {
                 }
             }
         }
+    }
+
+    /// Scratches a set: its tracks are free again. A refusal changes nothing.
+    pub fn scratch(&mut self, key: &SetKey) -> Result<(), VolumeFault>
+        ensures ok { OnOk result ((entry : SetEntry) × (map.get self.old.volume.sets key.now ≡ Some entry) × (self.new.volume ≡ record {
+          tracks = marked Free entry.extents.items self.old.volume.tracks;
+          sets = map.remove self.old.volume.sets key.now;
+        }) × Moves InSet Free (tracks_in entry.extents.items) self.old.volume.tracks self.new.volume.tracks) }
+        ensures missing { IsErr result ↔ (map.get self.old.volume.sets key.now ≡ None) }
+        ensures err { OnErr result (self.new.volume ≡ self.old.volume) }
+        ensures others { self.new ≡ record self.old { volume = self.new.volume } }
+    {
+        volumes_are_sound(&self.volume);
+        self.volume.scratch(key)
+    }
+
+    /// Adds free tracks to a set. A refusal changes nothing.
+    pub fn grow(&mut self, key: &SetKey, tracks: u16) -> Result<(), VolumeFault>
+        ensures answer { AnswersGrow result self.old.volume key.now tracks self.new.volume }
+        ensures others { self.new ≡ record self.old { volume = self.new.volume } }
+    {
+        self.volume.grow(key, tracks)
+    }
+
+    /// Cuts a set to this many tracks, from the end of its extents. A refusal changes nothing.
+    pub fn trim(&mut self, key: &SetKey, tracks: usize) -> Result<(), VolumeFault>
+        ensures ok { OnOk result ((entry : SetEntry) × (map.get self.old.volume.sets key.now ≡ Some entry) × (self.new.volume ≡ record {
+          tracks = marked Free (past_front tracks entry.extents.items) self.old.volume.tracks;
+          sets = changed self.old.volume.sets key.now (with_extents (kept_front tracks));
+        }) × Moves InSet Free (tracks_past tracks entry.extents.items) self.old.volume.tracks self.new.volume.tracks) }
+        ensures missing { IsErr result ↔ (map.get self.old.volume.sets key.now ≡ None) }
+        ensures err { OnErr result (self.new.volume ≡ self.old.volume) }
+        ensures others { self.new ≡ record self.old { volume = self.new.volume } }
+    {
+        volumes_are_sound(&self.volume);
+        self.volume.trim(key, tracks)
+    }
+
+    /// Puts a record behind those of a set. A refusal changes nothing.
+    pub fn append(&mut self, key: &SetKey, columns: DataRecord) -> Result<(), VolumeFault>
+        ensures ok { OnOk result (self.new.volume ≡ record self.old.volume { sets = changed self.old.volume.sets key.now (with_records (λ all. all ++ columns ∷ [])) }) }
+        ensures answer { AnswersWrite result (map.get self.old.volume.sets key.now) }
+        ensures err { OnErr result (self.new.volume ≡ self.old.volume) }
+        ensures others { self.new ≡ record self.old { volume = self.new.volume } }
+    {
+        self.volume.append(key, columns)
+    }
+
+    /// Takes all records of a set away. A refusal changes nothing.
+    pub fn clear(&mut self, key: &SetKey) -> Result<(), VolumeFault>
+        ensures ok { OnOk result (self.new.volume ≡ record self.old.volume { sets = changed self.old.volume.sets key.now (with_records (λ _. [])) }) }
+        ensures missing { IsErr result ↔ (map.get self.old.volume.sets key.now ≡ None) }
+        ensures err { OnErr result (self.new.volume ≡ self.old.volume) }
+        ensures others { self.new ≡ record self.old { volume = self.new.volume } }
+    {
+        self.volume.clear(key)
     }
 }
