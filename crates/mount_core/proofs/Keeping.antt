@@ -1,7 +1,7 @@
 -- What is kept stays kept: what marking and taking lists out or in do to the tracks set aside.
 use Rattle.std.proofs.Common.{◌≡◌, ◌≢◌, ℕ, zero, suc, ◌+◌, ◌<◌, ◌≤◌, Bool, true, false, cond, is_some, length, replicate, List, [], ◌∷◌, ◌++◌, Option, Some, None, refl, ap, sym, ◌∙◌, subst, arith, ⊎_elim}
 use Rattle.std.specs.FinMap.{empty, entries, get, insert, len-empty, len-entries, remove}
-use Rattle.std.specs.List.{flat_map, slice_get}
+use Rattle.std.specs.List.{flat_map}
 use Rattle.std.proofs.lemmas.Bool.{cases_lt}
 use Rattle.extent_core.specs.declared.extent.Extent.{Extent}
 use Rattle.vtoc_core.specs.declared.volume.Track.{Track}
@@ -13,8 +13,8 @@ use Rattle.vtoc_core.proofs.FreeLemmas.{times_in-append}
 use Rattle.vtoc_core.proofs.KindLemmas.{apart, are_of_stay, marked_in, marked_not_in}
 use Rattle.vtoc_core.proofs.PlanLemmas.{tracks_in-cons}
 use Rattle.mount_core.specs.declared.place.KeptPlace.{KeptPlace}
-use Rattle.mount_core.specs.Kept.{AreKept, Kept, extents_kept, joined, list_at, or_none, place_cmp}
-use Rattle.mount_core.proofs.KeptMaps.{Entry, remove_absent}
+use Rattle.mount_core.specs.Kept.{AreKept, Kept, extents_kept, place_cmp}
+use Rattle.mount_core.proofs.KeptMaps.{Entry}
 use Rattle.mount_core.proofs.KeptTracks.{size_fewer, size_more}
 
 tracks_in-append : (es fs : List Extent) → tracks_in (es ++ fs) ≡ tracks_in es + tracks_in fs
@@ -29,23 +29,23 @@ free≢aside h = absurd cc
 module _ (tracks : List Track) (kept : Kept) (place : KeptPlace) where
   -- how often a track lies in the lists, with a list more or fewer
   more_times : (k : ℕ) (list : List Extent) → get kept place ≡ None →
-      times_in k (extents_kept (insert kept place (Some list))) ≡ times_in k (extents_kept kept) + times_in k list
-  more_times k list h = size_more (times_in k) (times_in-append k) kept place (Some list) h
+      times_in k (extents_kept (insert kept place list)) ≡ times_in k (extents_kept kept) + times_in k list
+  more_times k list h = size_more (times_in k) (times_in-append k) kept place list h
 
-  fewer_times : (k : ℕ) (v : Entry) → get kept place ≡ Some v → times_in k (extents_kept kept) ≡ times_in k (extents_kept (remove kept place)) + times_in k (or_none v)
+  fewer_times : (k : ℕ) (v : Entry) → get kept place ≡ Some v → times_in k (extents_kept kept) ≡ times_in k (extents_kept (remove kept place)) + times_in k v
   fewer_times k v h = size_fewer (times_in k) (times_in-append k) kept place v h
 
   -- a list that is kept is aside
-  pub list_kept : (list : List Extent) → get kept place ≡ Some (Some list) → AreKept tracks kept → AreOf Aside tracks list
+  pub list_kept : (list : List Extent) → get kept place ≡ Some list → AreKept tracks kept → AreOf Aside tracks list
   list_kept list h a = record {
-    kinds = λ k l. a.aside.kinds k (omega (arith, fewer_times k (Some list) h));
-    once = λ k. let o = a.aside.once k in omega (arith, fewer_times k (Some list) h);
+    kinds = λ k l. a.aside.kinds k (omega (arith, fewer_times k list h));
+    once = λ k. let o = a.aside.once k in omega (arith, fewer_times k list h);
   }
 
   -- one list more
   pub one_kept : (list : List Extent) (n : ℕ) (now : List Track) → get kept place ≡ None → AreOf Free tracks list → tracks_in list ≡ n → now ≡ marked Aside list tracks →
-      count_of Aside now ≡ count_of Aside tracks + n → AreKept tracks kept → AreKept now (insert kept place (Some list))
-  one_kept list n now h f s q c a = subst (λ ts. AreKept ts (insert kept place (Some list))) (sym q) (record {
+      count_of Aside now ≡ count_of Aside tracks + n → AreKept tracks kept → AreKept now (insert kept place list)
+  one_kept list n now h f s q c a = subst (λ ts. AreKept ts (insert kept place list)) (sym q) (record {
     aside = record {
       kinds = λ k l.
           let t = more_times k list h in
@@ -63,52 +63,27 @@ module _ (tracks : List Track) (kept : Kept) (place : KeptPlace) where
           (cases_lt 0 (times_in k list));
     };
     count =
-        let t : tracks_in (extents_kept (insert kept place (Some list))) ≡ tracks_in (extents_kept kept) + tracks_in list = size_more tracks_in tracks_in-append kept place (Some list) h in
+        let t : tracks_in (extents_kept (insert kept place list)) ≡ tracks_in (extents_kept kept) + tracks_in list = size_more tracks_in tracks_in-append kept place list h in
         let d : count_of Aside (marked Aside list tracks) ≡ count_of Aside tracks + n = sym (ap (count_of Aside) q) ∙ c in
         omega (arith, t, d, s, a.count);
   })
 
   -- one list fewer, whose tracks are now of another kind
-  pub one_fewer : (kind : Track) (list : List Extent) (now : List Track) → get kept place ≡ Some (Some list) → now ≡ marked kind list tracks →
+  pub one_fewer : (kind : Track) (list : List Extent) (now : List Track) → get kept place ≡ Some list → now ≡ marked kind list tracks →
       count_of Aside now + tracks_in list ≡ count_of Aside tracks → AreKept tracks kept → AreKept now (remove kept place)
   one_fewer kind list now h q c a = subst (λ ts. AreKept ts (remove kept place)) (sym q) (record {
     aside = record {
       kinds = λ k l.
-          let t = fewer_times k (Some list) h in
+          let t = fewer_times k list h in
           let o = a.aside.once k in
           marked_not_in kind list tracks k (omega arith) ∙ a.aside.kinds k (omega arith);
-      once = λ k. let o = a.aside.once k in omega (arith, fewer_times k (Some list) h);
+      once = λ k. let o = a.aside.once k in omega (arith, fewer_times k list h);
     };
     count =
-        let t : tracks_in (extents_kept kept) ≡ tracks_in (extents_kept (remove kept place)) + tracks_in list = size_fewer tracks_in tracks_in-append kept place (Some list) h in
+        let t : tracks_in (extents_kept kept) ≡ tracks_in (extents_kept (remove kept place)) + tracks_in list = size_fewer tracks_in tracks_in-append kept place list h in
         let d : count_of Aside (marked kind list tracks) + tracks_in list ≡ count_of Aside tracks = sym (ap (λ ts. count_of Aside ts + tracks_in list) q) ∙ c in
         omega (arith, t, d, a.count);
   })
-
-  -- a place without a list taken out
-  none_there : (o : Option Entry) → get kept place ≡ o → joined o ≡ None → AreKept tracks kept → AreKept tracks (remove kept place)
-  none_there None e h a = subst (AreKept tracks) (sym (remove_absent kept place e)) a
-  none_there (Some None) e h a = record {
-    aside = record {
-      kinds = λ k l. a.aside.kinds k (omega (arith, fewer_times k None e));
-      once = λ k. let o = a.aside.once k in omega (arith, fewer_times k None e);
-    };
-    count =
-        let t : tracks_in (extents_kept kept) ≡ tracks_in (extents_kept (remove kept place)) + tracks_in [] = size_fewer tracks_in tracks_in-append kept place None e in
-        omega (arith, t, a.count);
-  }
-  none_there (Some (Some list)) e h a = absurd cc
-
-  pub none_fewer : list_at kept place ≡ None → AreKept tracks kept → AreKept tracks (remove kept place)
-  none_fewer h a = none_there (get kept place) refl h a
-
-  there_of : (o : Option Entry) (list : List Extent) → joined o ≡ Some list → o ≡ Some (Some list)
-  there_of None list h = absurd cc
-  there_of (Some None) list h = absurd cc
-  there_of (Some (Some other)) list h = ap Some h
-
-  pub list_there : (list : List Extent) → list_at kept place ≡ Some list → get kept place ≡ Some (Some list)
-  list_there list h = there_of (get kept place) list h
 
 -- other tracks of another kind
 pub others_kept : (from kind : Track) (tracks now : List Track) (es : List Extent) (kept : Kept) → from ≢ Aside → AreOf from tracks es → now ≡ marked kind es tracks →
@@ -135,7 +110,7 @@ no_entries [] h = refl
 no_entries (e ∷ es) h = absurd cc
 
 none_in : extents_kept empty ≡ []
-none_in = ap (flat_map (λ e. or_none e.1)) (no_entries (entries (empty {R = place_cmp})) (sym (len-entries empty) ∙ len-empty place_cmp Entry))
+none_in = ap (flat_map (λ e. e.1)) (no_entries (entries (empty {R = place_cmp})) (sym (len-entries empty) ∙ len-empty place_cmp Entry))
 
 pub first_kept : (n : ℕ) (es : List Extent) (tracks : List Track) (kept : Kept) → tracks ≡ first_tracks n es → kept ≡ empty → AreKept tracks kept
 first_kept n es tracks kept q r = subst (λ ts. AreKept ts kept) (sym q) (subst (AreKept (first_tracks n es)) (sym r) (record {

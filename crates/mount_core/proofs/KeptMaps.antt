@@ -1,5 +1,5 @@
 -- The kept lists as a map: what is at a place, and one place changed.
-use Rattle.std.proofs.Common.{◌≡◌, ℕ, Bool, true, false, cond, List, [], ◌∷◌, Option, Some, None, IfNone, IfSome, refl, ap, sym, ◌∙◌}
+use Rattle.std.proofs.Common.{◌≡◌, Bool, true, false, cond, List, [], ◌∷◌, Option, Some, None, refl, ap, sym, ◌∙◌}
 use Rattle.std.specs.BTreeMap.{is_at}
 use Rattle.std.specs.FinMap.{find, get, get-from_entries, get-insert, get-remove, insert, remove, same_map}
 use Rattle.std.specs.Map.{lookup}
@@ -10,11 +10,11 @@ use Rattle.std.proofs.lemmas.Cmp.{eq_by_cmp_equiv}
 use Rattle.extent_core.specs.declared.extent.Extent.{Extent}
 use Rattle.mount_core.specs.contracts.place.KeptPlaceOrd.TheImpl as ord
 use Rattle.mount_core.specs.declared.place.KeptPlace.{KeptPlace}
-use Rattle.mount_core.specs.Kept.{IsUp, Kept, joined, kept_of, lifted, lifted_by, list_at, place_cmp}
+use Rattle.mount_core.specs.Kept.{Kept, kept_of, place_cmp}
 use Rattle.mount_core.proofs.Places.{order_is, place_total, places_tie}
 
 abbrev pub Entry : Type 0
-Entry = Option (List Extent)
+Entry = List Extent
 
 -- what entries have at a place, as a search by the derived order finds it
 abbrev pub entry_at : List (KeptPlace × Entry) → KeptPlace → Option Entry
@@ -66,14 +66,6 @@ twice : (b : Bool) (x y z : Option Entry) → cond b x (cond b y z) ≡ cond b x
 twice true x y z = refl
 twice false x y z = refl
 
--- the last that is put at a place stays
-pub insert-insert : (m : Kept) (k : KeptPlace) (v w : Entry) → insert (insert m k v) k w ≡ insert m k w
-insert-insert m k v w = same_map place_total places_tie (insert (insert m k v) k w) (insert m k w) (λ q.
-    get-insert place_total (insert m k v) k w q
-    ∙ ap (cond (eq_by_cmp place_cmp q k) (Some w)) (get-insert place_total m k v q)
-    ∙ twice (eq_by_cmp place_cmp q k) (Some w) (Some v) (get m q)
-    ∙ sym (get-insert place_total m k w q))
-
 pub insert-remove : (m : Kept) (k : KeptPlace) (v : Entry) → insert (remove m k) k v ≡ insert m k v
 insert-remove m k v = same_map place_total places_tie (insert (remove m k) k v) (insert m k v) (λ q.
     get-insert place_total (remove m k) k v q
@@ -81,55 +73,5 @@ insert-remove m k v = same_map place_total places_tie (insert (remove m k) k v) 
     ∙ twice (eq_by_cmp place_cmp q k) (Some v) None (get m q)
     ∙ sym (get-insert place_total m k v q))
 
--- what is taken out is not there, whatever was put before
-pub remove-insert : (m : Kept) (k : KeptPlace) (v : Entry) → remove (insert m k v) k ≡ remove m k
-remove-insert m k v = same_map place_total places_tie (remove (insert m k v) k) (remove m k) (λ q.
-    get-remove place_total (insert m k v) k q
-    ∙ ap (cond (eq_by_cmp place_cmp q k) None) (get-insert place_total m k v q)
-    ∙ twice (eq_by_cmp place_cmp q k) None (Some v) (get m q)
-    ∙ sym (get-remove place_total m k q))
-
-pub get_inserted : (m : Kept) (k : KeptPlace) (v : Entry) → get (insert m k v) k ≡ Some v
-get_inserted m k v = get-insert place_total m k v k ∙ ap (λ b. cond b (Some v) (get m k)) ((eq_by_cmp_equiv place_total).refl k)
-
 pub get_removed : (m : Kept) (k : KeptPlace) → get (remove m k) k ≡ None
 get_removed m k = get-remove place_total m k k ∙ ap (λ b. cond b None (get m k)) ((eq_by_cmp_equiv place_total).refl k)
-
-absent_step : (b : Bool) (m : Kept) (k q : KeptPlace) → eq_by_cmp place_cmp q k ≡ b → get m k ≡ None → cond b None (get m q) ≡ get m q
-absent_step true m k q e h = sym h ∙ ap (get m) (sym (tied_equal q k e))
-absent_step false m k q e h = refl
-
--- to take out what is not there changes nothing
-pub remove_absent : (m : Kept) (k : KeptPlace) → get m k ≡ None → remove m k ≡ m
-remove_absent m k h = same_map place_total places_tie (remove m k) m (λ q. get-remove place_total m k q ∙ absent_step (eq_by_cmp place_cmp q k) m k q refl h)
-
-pub lifted_there : (m : Kept) (k : KeptPlace) (v : Entry) → get m k ≡ Some v → lifted m k ≡ insert m k None
-lifted_there m k v h = ap (λ o. lifted_by o m k) h
-
-pub lifted_nowhere : (m : Kept) (k : KeptPlace) → get m k ≡ None → lifted m k ≡ m
-lifted_nowhere m k h = ap (λ o. lifted_by o m k) h
-
--- what is taken up can be put back
-is_up : (m : Kept) (k : KeptPlace) (list : List Extent) → get m k ≡ Some (Some list) → IsUp m k list (insert m k None)
-is_up m k list h = record {
-  there = h;
-  empty = get_inserted m k None;
-  back = insert-insert m k None (Some list) ∙ insert_same m k (Some list) h;
-  gone = remove-insert m k None;
-}
-
-up_by : (m : Kept) (k : KeptPlace) (o : Option Entry) → get m k ≡ o → IfSome (joined o) (λ list. IsUp m k list (lifted_by o m k))
-up_by m k None h = tt
-up_by m k (Some None) h = tt
-up_by m k (Some (Some list)) h = is_up m k list h
-
-pub up_of : (m : Kept) (k : KeptPlace) → IfSome (list_at m k) (λ list. IsUp m k list (lifted m k))
-up_of m k = up_by m k (get m k) refl
-
-none_by : (m : Kept) (k : KeptPlace) (o : Option Entry) → get m k ≡ o → IfNone (joined o) (lifted_by o m k ≡ m)
-none_by m k None h = refl
-none_by m k (Some None) h = insert_same m k None h
-none_by m k (Some (Some list)) h = tt
-
-pub none_of : (m : Kept) (k : KeptPlace) → IfNone (list_at m k) (lifted m k ≡ m)
-none_of m k = none_by m k (get m k) refl

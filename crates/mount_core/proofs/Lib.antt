@@ -3,3 +3,4 @@ pub mod KeptMaps
 pub mod KeptTracks
 pub mod Keeping
 pub mod Making
+pub mod Sums

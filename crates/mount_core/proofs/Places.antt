@@ -1,5 +1,5 @@
 -- Places in order: no two tie.
-use Rattle.std.proofs.Common.{◌≡◌, ℕ, refl, ap, sym, ◌∙◌}
+use Rattle.std.proofs.Common.{◌≡◌, refl, ap, sym, ◌∙◌}
 use Rattle.std.specs.Cmp.{IsTotalOrder}
 use Rattle.std.specs.FinMap.{IsAntisymmetric, nat_cmp-IsAntisymmetric}
 use Rattle.std.specs.Ordering.{nat_cmp, ordering_reverse, ordering_then}

@@ -24,7 +24,7 @@ coded_mounted =
 
 -- the tracks of a place given back
 abbrev pub given_back : Option (List Extent) → MountedState → KeptPlace → MountedState
-given_back None m place = record m { kept = remove m.kept place }
+given_back None m place = m
 given_back (Some list) m place = record m { volume = record m.volume { tracks = marked Free list m.volume.tracks }; kept = remove m.kept place }
 
 -- whether so many tracks are there for a set: those that are kept for it, or free ones

@@ -4,3 +4,5 @@
 mod lists;
 pub mod mounted;
 pub mod place;
+#[cfg(test)]
+mod tests;

@@ -1,28 +1,28 @@
 //! A mounted volume.
-ghost use Rattle.std.specs.Prelude.{◌≡◌, ◌≢◌, ◌≤◌, ◌<◌, ◌↔◌, ◌++◌, ◌∷◌, [], List, IsErr, false, true, Some, None, Err, IfErr, IfOk, IsSome, OnErr, OnOk};
+ghost use Rattle.std.specs.Prelude.{◌≡◌, ◌≢◌, ◌+◌, length, ◌≤◌, ◌<◌, ◌↔◌, ◌++◌, ◌∷◌, [], List, IsErr, false, true, Some, None, Err, IfErr, IfOk, IsSome, OnErr, OnOk};
 ghost use Rattle.std.specs.FinMap as map;
 ghost use Rattle.extent_core.specs.declared.extent.Extent.{Extent};
 ghost use Rattle.vtoc_core.specs.Entries.{changed, with_extents, with_records};
 ghost use Rattle.vtoc_core.specs.Extents.{five_largest, free_extents, kept_front, past_front, planned, tracks_in};
-ghost use Rattle.vtoc_core.specs.Volumes.{AnswersGrow, AnswersWrite, Moves, first_tracks, marked, tracks_past};
+ghost use Rattle.vtoc_core.specs.Volumes.{AnswersGrow, AnswersWrite, Moves, count_of, extents_of_all, first_tracks, marked, tracks_past};
 ghost use Rattle.vtoc_core.specs.declared.entry.SetEntry.{SetEntry};
-ghost use Rattle.vtoc_core.specs.declared.volume.Track.TheVariants.{Aside, Free, InSet};
-ghost use Rattle.mount_core.specs.Kept.{list_at};
+ghost use Rattle.vtoc_core.specs.declared.volume.Track.TheVariants.{Aside, Free, InSet, Unusable};
+ghost use Rattle.mount_core.specs.Kept.{extents_kept};
 ghost use Rattle.mount_core.specs.Mounts.{WasMade, given_back, holds};
 
-use crate::lists::{self, Lists, drop_place, is_taken, restore, take_out, take_up};
+use crate::lists::{self, Lists, copy_of, drop_place, extents_at, is_taken};
 use crate::place::KeptPlace;
 use jname_core::serial::Serial;
 use set_core::records::DataRecord;
 use std::alloc::{AllocError, Global};
 use std::collections::BTreeMap;
 use std::marker::Model;
-use vtoc_core::entry::{Extent, SetKey};
+use vtoc_core::entry::{Extent, ExtentList, SetKey, tracks_in};
 use vtoc_core::fault::VolumeFault;
 use vtoc_core::volume::{Volume, volumes_are_sound};
 
 /// A volume with its serial, and the tracks that are kept on it for sets still to be made.
-#[derive(Debug)]
+#[derive(Debug, Drop)]
 pub struct Mounted {
     serial: Serial,
     volume: Volume,
@@ -78,7 +78,7 @@ impl Mounted {
     pub fn keep(&mut self, place: KeptPlace, tracks: u16) -> Result<(), VolumeFault>
         ensures ok { OnOk result ((list : List Extent) × (planned (free_extents self.old.volume.tracks) tracks ≡ Some list) × (self.new ≡ record self.old {
           volume = record self.old.volume { tracks = marked Aside list self.old.volume.tracks };
-          kept = map.insert self.old.kept place (Some list);
+          kept = map.insert self.old.kept place list;
         })) }
         ensures there { (result ≡ Err VolumeFault.NameThere) → IsSome (map.get self.old.kept place) }
         ensures space { (result ≡ Err VolumeFault.NoSpace) → five_largest (free_extents self.old.volume.tracks) < tracks }
@@ -88,10 +88,11 @@ impl Mounted {
             return Err(VolumeFault::NameThere);
         }
         let list = self.volume.reserve(tracks)?;
-        match lists::put(&mut self.kept, place, list) {
+        let taken = list.into_extents();
+        match lists::put(&mut self.kept, place, copy_of(&taken)) {
             Ok(()) => Ok(()),
-            Err(back) => {
-                self.volume.give_back(back);
+            Err(_) => {
+                self.volume.give_back(ExtentList::of(taken));
                 Err(VolumeFault::Memory)
             }
         }
@@ -99,10 +100,11 @@ impl Mounted {
 
     /// Gives the tracks of a place back, if some are kept there.
     pub fn give_back(&mut self, place: &KeptPlace)
-        ensures { self.new ≡ given_back (list_at self.old.kept place.now) self.old place.now }
+        ensures { self.new ≡ given_back (map.get self.old.kept place.now) self.old place.now }
     {
-        if let Some(list) = take_out(&mut self.kept, place) {
-            self.volume.give_back(list);
+        if let Some(extents) = extents_at(&self.kept, place) {
+            self.volume.give_back(ExtentList::of(extents));
+            drop_place(&mut self.kept, place);
         }
     }
 
@@ -116,30 +118,30 @@ impl Mounted {
         tracks: u16,
         expires: Option<u32>,
     ) -> Result<(), VolumeFault>
-        ensures made { OnOk result (WasMade (list_at self.old.kept place.now) self.old place.now key tracks expires self.new) }
-        ensures granted { OnOk result (holds (list_at self.old.kept place.now) self.old.volume tracks ≡ true) }
-        ensures space { result ≡ Err VolumeFault.NoSpace → holds (list_at self.old.kept place.now) self.old.volume tracks ≡ false }
+        ensures made { OnOk result (WasMade (map.get self.old.kept place.now) self.old place.now key tracks expires self.new) }
+        ensures granted { OnOk result (holds (map.get self.old.kept place.now) self.old.volume tracks ≡ true) }
+        ensures space { result ≡ Err VolumeFault.NoSpace → holds (map.get self.old.kept place.now) self.old.volume tracks ≡ false }
         ensures there { (result ≡ Err VolumeFault.NameThere) → IsSome (map.get self.old.volume.sets key) }
         ensures others { IfErr result (λ fault. (fault ≢ VolumeFault.NameMissing) × (fault ≢ VolumeFault.TooManyExtents)) }
         ensures err { OnErr result (self.new ≡ self.old) }
     {
-        match take_up(&mut self.kept, place) {
-            None => self.volume.make_set(alloc, key, tracks, expires),
-            Some(list) => {
-                if list.tracks() != u32::from(tracks) {
-                    restore(&mut self.kept, place, list);
-                    return Err(VolumeFault::NoSpace);
-                }
-                match self.volume.make_from(alloc, list, key, expires) {
-                    Ok(()) => {
-                        drop_place(&mut self.kept, place);
-                        Ok(())
-                    }
-                    Err((back, fault)) => {
-                        restore(&mut self.kept, place, back);
-                        Err(fault)
-                    }
-                }
+        let Some(extents) = extents_at(&self.kept, place) else {
+            return self.volume.make_set(alloc, key, tracks, expires);
+        };
+        if tracks_in(extents.as_slice()) != u32::from(tracks) {
+            return Err(VolumeFault::NoSpace);
+        }
+        match self
+            .volume
+            .make_from(alloc, ExtentList::of(extents), key, expires)
+        {
+            Ok(()) => {
+                drop_place(&mut self.kept, place);
+                Ok(())
+            }
+            Err((back, fault)) => {
+                back.into_extents();
+                Err(fault)
             }
         }
     }
@@ -198,5 +200,13 @@ impl Mounted {
         ensures others { self.new ≡ record self.old { volume = self.new.volume } }
     {
         self.volume.clear(key)
+    }
+
+    /// The tracks of a volume add up to its size: those free, those kept, those of sets, and those that are never free.
+    pub fn tracks_add_up(&self)
+        ensures { count_of Free self.now.volume.tracks + tracks_in (extents_kept self.now.kept) + tracks_in (extents_of_all self.now.volume.sets)
+            + count_of Unusable self.now.volume.tracks ≡ length self.now.volume.tracks }
+    {
+        volumes_are_sound(&self.volume);
     }
 }

@@ -1,5 +1,5 @@
 //! What a volume's table of contents holds.
-ghost use Rattle.std.specs.Prelude.{◌≡◌, ◌≤◌, ◌*◌, [], length};
+ghost use Rattle.std.specs.Prelude.{◌≡◌, ◌≤◌, ◌*◌, length};
 ghost use Rattle.vtoc_core.specs.Extents.{tracks_in};
 ghost use Rattle.vtoc_core.specs.Entries.{same_key};
 
@@ -99,11 +99,18 @@ impl ExtentList {
         tracks_in(self.extents.as_slice())
     }
 
-    /// Ends a list without an extent, which has no track aside.
-    pub fn end(self)
-        requires { self ≡ [] }
+    /// Its extents, for a keeper of what is aside.
+    pub fn into_extents(self) -> ArrayVec<Extent, 5>
+        ensures { result.items ≡ self }
     {
         let ExtentList { extents } = self;
-        drop(extents);
+        extents
+    }
+
+    /// The list of extents that are kept aside.
+    pub fn of(extents: ArrayVec<Extent, 5>) -> ExtentList
+        ensures { result ≡ extents.items }
+    {
+        ExtentList { extents }
     }
 }

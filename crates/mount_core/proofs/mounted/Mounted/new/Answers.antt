@@ -1,4 +1,4 @@
-use Rattle.std.proofs.Common.{ap, ◌∙◌}
+use Rattle.std.proofs.Common.{ap}
 use Rattle.mount_core.specs.Kept.{kept_of}
 use Rattle.mount_core.proofs.Keeping.{first_kept}
 use Rattle.mount_core.proofs.mounted.Mounted.new.Goals as goal
