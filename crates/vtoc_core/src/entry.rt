@@ -1,5 +1,6 @@
 //! What a volume's table of contents holds.
-ghost use Rattle.std.specs.Prelude.{◌≡◌};
+ghost use Rattle.std.specs.Prelude.{◌≡◌, ◌≤◌, ◌*◌, length};
+ghost use Rattle.vtoc_core.specs.Extents.{tracks_in};
 ghost use Rattle.vtoc_core.specs.Entries.{same_key};
 
 use arrayvec::ArrayVec;
@@ -41,6 +42,18 @@ impl SetKey {
     }
 }
 
+/// How many tracks some extents have together.
+pub fn tracks_in(extents: &[Extent]) -> u32
+    requires { length extents.now ≤ 16 }
+    ensures value { result ≡ tracks_in extents.now }
+    ensures most { result ≤ 65535 * length extents.now }
+{
+    match extents.split_first() {
+        None => 0,
+        Some((first, others)) => u32::from(first.tracks) + tracks_in(others),
+    }
+}
+
 /// A set on a volume: its extents in order, sixteen at most, the day, counted from 1900/001 as 0, before which it is not to be deleted,
 /// and its records.
 #[derive(Debug, Drop)]
@@ -48,6 +61,14 @@ pub struct SetEntry {
     pub extents: ArrayVec<Extent, 16>,
     pub expires: Option<u32>,
     pub records: Records,
+}
+
+impl SetEntry {
+    pub fn tracks(&self) -> u32
+        ensures { result ≡ tracks_in self.now.extents.items }
+    {
+        tracks_in(self.extents.as_slice())
+    }
 }
 
 /// Tracks set aside: five extents at most. It must be given back, or made a set.
@@ -70,5 +91,26 @@ impl ExtentList {
         ensures { result.now ≡ self.now }
     {
         self.extents.as_slice()
+    }
+
+    pub fn tracks(&self) -> u32
+        ensures { result ≡ tracks_in self.now }
+    {
+        tracks_in(self.extents.as_slice())
+    }
+
+    /// Its extents, for a keeper of what is aside.
+    pub fn into_extents(self) -> ArrayVec<Extent, 5>
+        ensures { result.items ≡ self }
+    {
+        let ExtentList { extents } = self;
+        extents
+    }
+
+    /// The list of extents that are kept aside.
+    pub fn of(extents: ArrayVec<Extent, 5>) -> ExtentList
+        ensures { result ≡ extents.items }
+    {
+        ExtentList { extents }
     }
 }

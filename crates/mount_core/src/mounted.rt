@@ -1,0 +1,212 @@
+//! A mounted volume.
+ghost use Rattle.std.specs.Prelude.{◌≡◌, ◌≢◌, ◌+◌, length, ◌≤◌, ◌<◌, ◌↔◌, ◌++◌, ◌∷◌, [], List, IsErr, false, true, Some, None, Err, IfErr, IfOk, IsSome, OnErr, OnOk};
+ghost use Rattle.std.specs.FinMap as map;
+ghost use Rattle.extent_core.specs.declared.extent.Extent.{Extent};
+ghost use Rattle.vtoc_core.specs.Entries.{changed, with_extents, with_records};
+ghost use Rattle.vtoc_core.specs.Extents.{five_largest, free_extents, kept_front, past_front, planned, tracks_in};
+ghost use Rattle.vtoc_core.specs.Volumes.{AnswersGrow, AnswersWrite, Moves, count_of, extents_of_all, first_tracks, marked, tracks_past};
+ghost use Rattle.vtoc_core.specs.declared.entry.SetEntry.{SetEntry};
+ghost use Rattle.vtoc_core.specs.declared.volume.Track.TheVariants.{Aside, Free, InSet, Unusable};
+ghost use Rattle.mount_core.specs.Kept.{extents_kept};
+ghost use Rattle.mount_core.specs.Mounts.{WasMade, given_back, holds};
+
+use crate::lists::{self, Lists, copy_of, drop_place, extents_at, is_taken};
+use crate::place::KeptPlace;
+use jname_core::serial::Serial;
+use set_core::records::DataRecord;
+use std::alloc::{AllocError, Global};
+use std::collections::BTreeMap;
+use std::marker::Model;
+use vtoc_core::entry::{Extent, ExtentList, SetKey, tracks_in};
+use vtoc_core::fault::VolumeFault;
+use vtoc_core::volume::{Volume, volumes_are_sound};
+
+/// A volume with its serial, and the tracks that are kept on it for sets still to be made.
+#[derive(Debug, Drop)]
+pub struct Mounted {
+    serial: Serial,
+    volume: Volume,
+    kept: Lists,
+}
+
+impl Model for Mounted {
+    ghost use Rattle.mount_core.specs.Kept.{AreKept, kept_of};
+    ghost use Rattle.mount_core.specs.Mounts.{MountedState, coded_mounted};
+
+    ghost Value = { MountedState };
+
+    ghost coded = { coded_mounted };
+
+    ghost view = { λ m. record { serial = m.serial; volume = m.volume; kept = kept_of m.kept.entries } };
+
+    ghost invariant = { λ m. AreKept m.volume.tracks (kept_of m.kept.entries) };
+}
+
+impl Mounted {
+    /// A volume of 1 to 4,000 tracks without a set. The tracks of these extents are never free.
+    pub fn new(
+        alloc: Global,
+        serial: Serial,
+        tracks: u16,
+        unusable: &[Extent],
+    ) -> Result<Mounted, AllocError>
+        requires { tracks ≤ 4000 }
+        ensures { IfOk result (λ m. m ≡ record { serial = serial; volume = record { tracks = first_tracks tracks unusable.now; sets = map.empty }; kept = map.empty }) }
+    {
+        let volume = Volume::new(alloc, tracks, unusable)?;
+        Ok(Mounted {
+            serial,
+            volume,
+            kept: BTreeMap::new(alloc),
+        })
+    }
+
+    pub fn serial(&self) -> Serial
+        ensures { result ≡ self.now.serial }
+    {
+        self.serial
+    }
+
+    /// Its tracks and sets.
+    pub fn volume(&self) -> &Volume
+        ensures { result.now ≡ self.now.volume }
+    {
+        &self.volume
+    }
+
+    /// Keeps so many tracks at a place where none are kept. A refusal changes nothing: `NameThere` where some are.
+    pub fn keep(&mut self, place: KeptPlace, tracks: u16) -> Result<(), VolumeFault>
+        ensures ok { OnOk result ((list : List Extent) × (planned (free_extents self.old.volume.tracks) tracks ≡ Some list) × (self.new ≡ record self.old {
+          volume = record self.old.volume { tracks = marked Aside list self.old.volume.tracks };
+          kept = map.insert self.old.kept place list;
+        })) }
+        ensures there { (result ≡ Err VolumeFault.NameThere) → IsSome (map.get self.old.kept place) }
+        ensures space { (result ≡ Err VolumeFault.NoSpace) → five_largest (free_extents self.old.volume.tracks) < tracks }
+        ensures err { OnErr result (self.new ≡ self.old) }
+    {
+        if is_taken(&self.kept, &place) {
+            return Err(VolumeFault::NameThere);
+        }
+        let list = self.volume.reserve(tracks)?;
+        let taken = list.into_extents();
+        match lists::put(&mut self.kept, place, copy_of(&taken)) {
+            Ok(()) => Ok(()),
+            Err(_) => {
+                self.volume.give_back(ExtentList::of(taken));
+                Err(VolumeFault::Memory)
+            }
+        }
+    }
+
+    /// Gives the tracks of a place back, if some are kept there.
+    pub fn give_back(&mut self, place: &KeptPlace)
+        ensures { self.new ≡ given_back (map.get self.old.kept place.now) self.old place.now }
+    {
+        if let Some(extents) = extents_at(&self.kept, place) {
+            self.volume.give_back(ExtentList::of(extents));
+            drop_place(&mut self.kept, place);
+        }
+    }
+
+    /// Makes a set without a record: of the tracks that are kept at a place, if so many are, else of free tracks where none are kept. A refusal changes
+    /// nothing.
+    pub fn make(
+        &mut self,
+        alloc: Global,
+        place: &KeptPlace,
+        key: SetKey,
+        tracks: u16,
+        expires: Option<u32>,
+    ) -> Result<(), VolumeFault>
+        ensures made { OnOk result (WasMade (map.get self.old.kept place.now) self.old place.now key tracks expires self.new) }
+        ensures granted { OnOk result (holds (map.get self.old.kept place.now) self.old.volume tracks ≡ true) }
+        ensures space { result ≡ Err VolumeFault.NoSpace → holds (map.get self.old.kept place.now) self.old.volume tracks ≡ false }
+        ensures there { (result ≡ Err VolumeFault.NameThere) → IsSome (map.get self.old.volume.sets key) }
+        ensures others { IfErr result (λ fault. (fault ≢ VolumeFault.NameMissing) × (fault ≢ VolumeFault.TooManyExtents)) }
+        ensures err { OnErr result (self.new ≡ self.old) }
+    {
+        let Some(extents) = extents_at(&self.kept, place) else {
+            return self.volume.make_set(alloc, key, tracks, expires);
+        };
+        if tracks_in(extents.as_slice()) != u32::from(tracks) {
+            return Err(VolumeFault::NoSpace);
+        }
+        match self
+            .volume
+            .make_from(alloc, ExtentList::of(extents), key, expires)
+        {
+            Ok(()) => {
+                drop_place(&mut self.kept, place);
+                Ok(())
+            }
+            Err((back, fault)) => {
+                back.into_extents();
+                Err(fault)
+            }
+        }
+    }
+
+    /// Scratches a set: its tracks are free again. A refusal changes nothing.
+    pub fn scratch(&mut self, key: &SetKey) -> Result<(), VolumeFault>
+        ensures ok { OnOk result ((entry : SetEntry) × (map.get self.old.volume.sets key.now ≡ Some entry) × (self.new.volume ≡ record {
+          tracks = marked Free entry.extents.items self.old.volume.tracks;
+          sets = map.remove self.old.volume.sets key.now;
+        }) × Moves InSet Free (tracks_in entry.extents.items) self.old.volume.tracks self.new.volume.tracks) }
+        ensures missing { IsErr result ↔ (map.get self.old.volume.sets key.now ≡ None) }
+        ensures err { OnErr result (self.new.volume ≡ self.old.volume) }
+        ensures others { self.new ≡ record self.old { volume = self.new.volume } }
+    {
+        volumes_are_sound(&self.volume);
+        self.volume.scratch(key)
+    }
+
+    /// Adds free tracks to a set. A refusal changes nothing.
+    pub fn grow(&mut self, key: &SetKey, tracks: u16) -> Result<(), VolumeFault>
+        ensures answer { AnswersGrow result self.old.volume key.now tracks self.new.volume }
+        ensures others { self.new ≡ record self.old { volume = self.new.volume } }
+    {
+        self.volume.grow(key, tracks)
+    }
+
+    /// Cuts a set to this many tracks, from the end of its extents. A refusal changes nothing.
+    pub fn trim(&mut self, key: &SetKey, tracks: usize) -> Result<(), VolumeFault>
+        ensures ok { OnOk result ((entry : SetEntry) × (map.get self.old.volume.sets key.now ≡ Some entry) × (self.new.volume ≡ record {
+          tracks = marked Free (past_front tracks entry.extents.items) self.old.volume.tracks;
+          sets = changed self.old.volume.sets key.now (with_extents (kept_front tracks));
+        }) × Moves InSet Free (tracks_past tracks entry.extents.items) self.old.volume.tracks self.new.volume.tracks) }
+        ensures missing { IsErr result ↔ (map.get self.old.volume.sets key.now ≡ None) }
+        ensures err { OnErr result (self.new.volume ≡ self.old.volume) }
+        ensures others { self.new ≡ record self.old { volume = self.new.volume } }
+    {
+        volumes_are_sound(&self.volume);
+        self.volume.trim(key, tracks)
+    }
+
+    /// Puts a record behind those of a set. A refusal changes nothing.
+    pub fn append(&mut self, key: &SetKey, columns: DataRecord) -> Result<(), VolumeFault>
+        ensures ok { OnOk result (self.new.volume ≡ record self.old.volume { sets = changed self.old.volume.sets key.now (with_records (λ all. all ++ columns ∷ [])) }) }
+        ensures answer { AnswersWrite result (map.get self.old.volume.sets key.now) }
+        ensures err { OnErr result (self.new.volume ≡ self.old.volume) }
+        ensures others { self.new ≡ record self.old { volume = self.new.volume } }
+    {
+        self.volume.append(key, columns)
+    }
+
+    /// Takes all records of a set away. A refusal changes nothing.
+    pub fn clear(&mut self, key: &SetKey) -> Result<(), VolumeFault>
+        ensures ok { OnOk result (self.new.volume ≡ record self.old.volume { sets = changed self.old.volume.sets key.now (with_records (λ _. [])) }) }
+        ensures missing { IsErr result ↔ (map.get self.old.volume.sets key.now ≡ None) }
+        ensures err { OnErr result (self.new.volume ≡ self.old.volume) }
+        ensures others { self.new ≡ record self.old { volume = self.new.volume } }
+    {
+        self.volume.clear(key)
+    }
+
+    /// The tracks of a volume add up to its size: those free, those kept, those of sets, and those that are never free.
+    pub fn tracks_add_up(&self)
+        ensures { count_of Free self.now.volume.tracks + tracks_in (extents_kept self.now.kept) + tracks_in (extents_of_all self.now.volume.sets)
+            + count_of Unusable self.now.volume.tracks ≡ length self.now.volume.tracks }
+    {
+        volumes_are_sound(&self.volume);
+    }
+}
