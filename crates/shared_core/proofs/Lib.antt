@@ -1,0 +1,2 @@
+mod WorldKeys
+mod Places
