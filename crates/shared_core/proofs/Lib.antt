@@ -1,2 +1,5 @@
 mod WorldKeys
 mod Places
+mod Written
+mod Planned
+mod Entries

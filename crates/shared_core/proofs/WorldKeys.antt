@@ -4,7 +4,7 @@ use Rattle.std.specs.Cmp.{Equal-is, IsTotalOrder, tied_itself, tied_then}
 use Rattle.std.specs.FinMap.{FinMap, get, get-insert, get-remove, insert, nat_cmp-IsAntisymmetric, remove}
 use Rattle.std.specs.Ordering.{eq_by_cmp, is_eq, nat_cmp, ordering_reverse, ordering_then}
 use Rattle.std.specs.Str.{bytes_eq}
-use Rattle.std.proofs.lemmas.Bool.{eqb-true, eq-eqb}
+use Rattle.std.proofs.lemmas.Bool.{and_parts, eqb-true, eq-eqb}
 use Rattle.std.proofs.lemmas.Bool.Decides.{same_from_decides}
 use Rattle.std.proofs.lemmas.Cmp.{nat_cmp_total, nat_list_cmp_total}
 use Rattle.std.proofs.lemmas.Map.Text.{is_eq-slice_cmp}
@@ -70,6 +70,27 @@ keys_tied (Unnamed i s d) (Unnamed j t e) =
     ∙ ap (λ b. is_eq (nat_cmp i j) && b) (sym (tied_then (nat_cmp s t) (nat_cmp d e)))
     ∙ both_in_turn (is_eq (nat_cmp i j)) (is_eq (nat_cmp s t)) (is_eq (nat_cmp d e))
     ∙ (λ x. (numbers_tied i j x && numbers_tied s t x) && numbers_tied d e x)
+
+-- keys of one set are one
+pub keys_same : (a b : SetKey) → same_key a b ≡ true → a ≡ b
+keys_same (Named a) (Named b) h = ap Named (names_same a b h)
+keys_same (Named a) (Temporary j b) h = absurd cc
+keys_same (Named a) (Unnamed j t e) h = absurd cc
+keys_same (Temporary i a) (Named b) h = absurd cc
+keys_same (Temporary i a) (Temporary j b) h =
+    let p : ((i == j) ≡ true) × (bytes_eq a b ≡ true) = and_parts (i == j) (bytes_eq a b) h in
+    let q : i ≡ j = eqb-true i j p.0 in
+    λ x. Temporary (q x) (names_same a b p.1 x)
+keys_same (Temporary i a) (Unnamed j t e) h = absurd cc
+keys_same (Unnamed i s d) (Named b) h = absurd cc
+keys_same (Unnamed i s d) (Temporary j b) h = absurd cc
+keys_same (Unnamed i s d) (Unnamed j t e) h =
+    let p : (((i == j) && (s == t)) ≡ true) × ((d == e) ≡ true) = and_parts ((i == j) && (s == t)) (d == e) h in
+    let q : ((i == j) ≡ true) × ((s == t) ≡ true) = and_parts (i == j) (s == t) p.0 in
+    let u : i ≡ j = eqb-true i j q.0 in
+    let v : s ≡ t = eqb-true s t q.1 in
+    let w : d ≡ e = eqb-true d e p.1 in
+    λ x. Unnamed (u x) (v x) (w x)
 
 -- what a map has at a key once another is put there, or nothing
 pub set_put : (m : Sets) (k : SetKey) (e : SetEntry) (q : SetKey) → get (insert m k e) q ≡ cond (same_key q k) (Some e) (get m q)
