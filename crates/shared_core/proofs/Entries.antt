@@ -1,5 +1,5 @@
 -- An entry that is cut or grows, as a set, and when tracks are granted.
-use Rattle.std.proofs.Common.{◌≡◌, ℕ, ◌+◌, ◌<◌, ◌≤◌, min, nat_le, Bool, true, false, List, ◌++◌, length, Option, Some, None, Result, Ok, Err, OnOk, IsSome, refl, sym, ap, subst, ◌∙◌, arith}
+use Rattle.std.proofs.Common.{◌≡◌, ℕ, ◌+◌, ◌<◌, ◌≤◌, min, nat_le, Bool, true, false, List, ◌++◌, length, Option, Some, None, Result, Ok, Err, OnErr, OnOk, IsSome, refl, sym, ap, subst, ◌∙◌, arith}
 use Rattle.std.proofs.lemmas.Bool.{le-leb, lt-leb}
 use Rattle.std.specs.FinMap.{get}
 use Rattle.extent_core.specs.declared.extent.Extent.{Extent}
@@ -18,6 +18,10 @@ use Rattle.shared_core.proofs.Planned.{kept_size, planned_facts, tracks_behind}
 pub ok_by : {X E P Q : Type 0} (r : Result X E) → (P → Q) → OnOk r P → OnOk r Q
 ok_by (Ok x) f p = f p
 ok_by (Err e) f p = tt
+
+pub err_by : {X E P Q : Type 0} (r : Result X E) → (P → Q) → OnErr r P → OnErr r Q
+err_by (Ok x) f p = tt
+err_by (Err e) f p = f p
 
 pub same_found : (o : Option SetEntry) (x e : SetEntry) → Some x ≡ o → o ≡ Some e → x ≡ e
 same_found o x e p q = let r : Some x ≡ Some e = p ∙ q in cc

@@ -3,3 +3,4 @@ mod Places
 mod Written
 mod Planned
 mod Entries
+mod SeenSets

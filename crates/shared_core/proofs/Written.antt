@@ -29,7 +29,7 @@ not_there_on f v k n = record {
   all = refl;
 }
 
-at_its_place : (volumes : List Mounted) (q k : SetKey) (v serial : List ℕ) → (same_key q k && bytes_eq v serial) ≡ true →
+pub at_its_place : (volumes : List Mounted) (q k : SetKey) (v serial : List ℕ) → (same_key q k && bytes_eq v serial) ≡ true →
     set_on (volume_in volumes v) q ≡ set_on (volume_in volumes serial) k
 at_its_place volumes q k v serial e = parted (same_key q k) (bytes_eq v serial) refl refl e
   where
