@@ -23,6 +23,10 @@ pub err_by : {X E P Q : Type 0} (r : Result X E) → (P → Q) → OnErr r P →
 err_by (Ok x) f p = tt
 err_by (Err e) f p = f p
 
+pub either_way : {X E P : Type 0} (r : Result X E) → OnOk r P → OnErr r P → P
+either_way (Ok x) p q = p
+either_way (Err e) p q = q
+
 pub same_found : (o : Option SetEntry) (x e : SetEntry) → Some x ≡ o → o ≡ Some e → x ≡ e
 same_found o x e p q = let r : Some x ≡ Some e = p ∙ q in cc
 
@@ -53,14 +57,6 @@ module _ (v : VolumeState) (k : SetKey) (n : ℕ) where
       length e.extents.items + length more ≤ 16 → entry_grows (get v.sets k) v n ≡ true
   grows e more g p l =
       ap (λ o. entry_grows o v n) g ∙ ap (fits_behind e) p ∙ le-leb (length e.extents.items + length more) 16 l
-
-  pub grows_none : get v.sets k ≡ None → entry_grows (get v.sets k) v n ≡ true
-  grows_none g = ap (λ o. entry_grows o v n) g
-
-  pub grows_past : (e : SetEntry) (more : List Extent) → get v.sets k ≡ Some e → planned (free_extents v.tracks) n ≡ Some more →
-      16 < length e.extents.items + length more → entry_grows (get v.sets k) v n ≡ false
-  grows_past e more g p l =
-      ap (λ o. entry_grows o v n) g ∙ ap (fits_behind e) p ∙ lt-leb (length e.extents.items + length more) 16 l
 
   lacks : (e : SetEntry) (o : Option (List Extent)) → planned (free_extents v.tracks) n ≡ o → five_largest (free_extents v.tracks) < n → fits_behind e o ≡ false
   lacks e None p l = refl

@@ -177,38 +177,6 @@ module _ (job : ℕ) (s : SharedStore) (volumes : List Mounted) (key : Key) (k :
       seen job (world_of (with_volumes s volumes)) ≡ cut_at (seen_set job (world_of s) key serial) (seen job (world_of s)) key serial
   seen_cut w = seen_changed cut w ∙ cut_there (seen_set job (world_of s) key serial) (seen job (world_of s))
 
--- a relative key has no set
-pub not_seen : (job : ℕ) (w : WorldStore) (key : Key) (v : List ℕ) → None ≡ world_key job key → seen_set job w key v ≡ None
-not_seen job w (Named a) v e = absurd cc
-not_seen job w (Relative b s n) v e = refl
-not_seen job w (Temporary a) v e = absurd cc
-not_seen job w (Unnamed t d) v e = absurd cc
-
-pub nothing_changed : (job : ℕ) (w : WorldStore) (f : DataSet → DataSet) (key : Key) (v : List ℕ) → None ≡ world_key job key →
-    seen job w ≡ changed_at f (seen job w) key v
-nothing_changed job w f key v e = ap (λ o. with_set_there o (f (or_nothing o)) (seen job w) key v) (sym (not_seen job w key v e))
-
-pub nothing_cut : (job : ℕ) (w : WorldStore) (key : Key) (v : List ℕ) → None ≡ world_key job key →
-    seen job w ≡ cut_at (seen_set job w key v) (seen job w) key v
-nothing_cut job w key v e = ap (λ o. cut_at o (seen job w) key v) (sym (not_seen job w key v e))
-
-nothing_either : (b : Bool) (x : Option DataSet) → x ≡ None → cond b None x ≡ x
-nothing_either true x h = sym h
-nothing_either false x h = refl
-
-nothing_taken_at : (job : ℕ) (w : WorldStore) (q key : Key) (v serial : List ℕ) → None ≡ world_key job key →
-    seen_set job w q v ≡ cond (same_key q key && bytes_eq v serial) None (seen_set job w q v)
-nothing_taken_at job w q (Named a) v serial e = absurd cc
-nothing_taken_at job w q (Temporary a) v serial e = absurd cc
-nothing_taken_at job w q (Unnamed t d) v serial e = absurd cc
-nothing_taken_at job w (Named a) (Relative b s n) v serial e = refl
-nothing_taken_at job w (Relative a t m) (Relative b s n) v serial e = sym (nothing_either (same_key (Relative a t m) (Relative b s n) && bytes_eq v serial) None refl)
-nothing_taken_at job w (Temporary a) (Relative b s n) v serial e = refl
-nothing_taken_at job w (Unnamed t d) (Relative b s n) v serial e = refl
-
-pub nothing_taken : (job : ℕ) (w : WorldStore) (key : Key) (serial : List ℕ) → None ≡ world_key job key → seen job w ≡ with_set (seen job w) key serial None
-nothing_taken job w key serial e = λ i. record { set = λ q v. nothing_taken_at job w q key v serial e i; catalog = w.catalog }
-
 -- the catalog with one entry put, or taken out
 module _ (job : ℕ) (s : SharedStore) (catalog : Contents) where
   abbrev pub with_catalog : SharedStore

@@ -2,7 +2,7 @@ use Rattle.std.proofs.Common.{◌++◌, ap}
 use Rattle.jcl_meaning.specs.Programs.{grown_by}
 use Rattle.vtoc_core.specs.Entries.{with_extents}
 use Rattle.vtoc_core.specs.Volumes.{VolumeState}
-use Rattle.shared_core.proofs.Entries.{grows, grows_none, grows_not, grown}
+use Rattle.shared_core.proofs.Entries.{grows, grows_not, grown}
 use Rattle.shared_core.proofs.Written.{changed_on, taken_all, taken_aside}
 use Rattle.shared_core.proofs.volumes.grow_on.Goals as goal
 

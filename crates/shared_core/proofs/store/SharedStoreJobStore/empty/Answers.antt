@@ -1,6 +1,6 @@
 use Rattle.std.proofs.Common.{true}
 use Rattle.jcl_meaning.specs.Programs.{emptied}
-use Rattle.shared_core.proofs.SeenSets.{others_changed, seen_changed}
+use Rattle.shared_core.proofs.SeenSets.{seen_changed}
 use Rattle.shared_core.proofs.store.SharedStoreJobStore.empty.Goals as goal
 
 pub returns-in-Some-clause-seen : goal.returns-in-Some-clause-seen
