@@ -4,4 +4,6 @@
 pub mod key;
 pub mod laws;
 pub mod store;
+#[cfg(test)]
+mod tests;
 mod volumes;

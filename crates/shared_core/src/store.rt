@@ -8,9 +8,7 @@ ghost use Rattle.shared_core.specs.Rooms.{Others, grants_growth, grants_new, oth
 ghost use Rattle.shared_core.specs.Shown.{data_of, world_of};
 
 use crate::key::world_key;
-use crate::volumes::{
-    append_to, empty_set, grow_set, make_set, place_of, scratch_set, trim_set,
-};
+use crate::volumes::{append_to, empty_set, grow_set, make_set, place_of, scratch_set, trim_set};
 use cat_core::catalog::Catalog;
 use group_core::group::{Group, Rolled};
 use jcl_meaning::state::Place;

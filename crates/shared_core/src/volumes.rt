@@ -46,12 +46,7 @@ fn empty_on(volume: &mut Volume, key: &SetKey)
 }
 
 /// Takes the records of a set on the volume of a serial away.
-pub(crate) fn empty_set(
-    alloc: Global,
-    volumes: &mut Listed<Mounted>,
-    serial: Serial,
-    key: &SetKey,
-)
+pub(crate) fn empty_set(alloc: Global, volumes: &mut Listed<Mounted>, serial: Serial, key: &SetKey)
     ensures { Changes (emptied true) volumes.old volumes.new key.now serial }
 {
     let Some(at) = place_of(volumes.as_slice(), serial) else {
@@ -136,12 +131,7 @@ fn trim_on(volume: &mut Volume, key: &SetKey)
 }
 
 /// Cuts a set on the volume of a serial to the tracks that its records fill.
-pub(crate) fn trim_set(
-    alloc: Global,
-    volumes: &mut Listed<Mounted>,
-    serial: Serial,
-    key: &SetKey,
-)
+pub(crate) fn trim_set(alloc: Global, volumes: &mut Listed<Mounted>, serial: Serial, key: &SetKey)
     ensures { Changes cut volumes.old volumes.new key.now serial }
 {
     let Some(at) = place_of(volumes.as_slice(), serial) else {

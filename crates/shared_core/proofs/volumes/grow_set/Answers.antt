@@ -8,10 +8,11 @@ use Rattle.shared_core.proofs.volumes.grow_set.Goals as goal
 pub returns-clause-ok : goal.returns-clause-ok
 returns-clause-ok c =
     let at = its_state c.args.volumes.now _ _ _ c.args.serial c.in-Some.at _ _ c.args.key.now c.as_slice.ensures (c.into_vec-all.ensures ∙ c.replace.ensures.value) c.index_mut.ensures.value c.new.ensures c.in-Some.ensures.there in
-    ok_by c.grow_on-grown.result (λ w.
-    (changes_in c.args.volumes.now _ _ _ c.args.serial c.in-Some.at _ _ c.args.key.now c.as_slice.ensures (c.into_vec-all.ensures ∙ c.replace.ensures.value) c.index_mut.ensures.value c.new.ensures
-    (grown_by c.args.tracks) c.in-Some.ensures.there w.0,
-    subst (λ o. holds_more (Some c.args.key.now) o c.args.tracks ≡ true) (sym at) w.1)) c.grow_on-grown.ensures.ok
+    ok_by c.grow_on-grown.result (λ w. (
+      changes_in c.args.volumes.now _ _ _ c.args.serial c.in-Some.at _ _ c.args.key.now c.as_slice.ensures (c.into_vec-all.ensures ∙ c.replace.ensures.value) c.index_mut.ensures.value c.new.ensures
+          (grown_by c.args.tracks) c.in-Some.ensures.there w.0,
+      subst (λ o. holds_more (Some c.args.key.now) o c.args.tracks ≡ true) (sym at) w.1,
+    )) c.grow_on-grown.ensures.ok
 
 pub returns-clause-refused : goal.returns-clause-refused
 returns-clause-refused c =

@@ -8,9 +8,10 @@ use Rattle.shared_core.proofs.store.SharedStoreJobStore.grow.Goals as goal
 
 pub returns-in-Some-clause-ok : goal.returns-in-Some-clause-ok
 returns-in-Some-clause-ok c =
-    ok_by c.grow_set.result (λ w.
-    (seen_changed c.args.job c.args.self.now c.grow_set.new.volumes c.args.key.now c.in-Some.key c.args.serial c.in-Some.ensures (grown_by c.args.tracks) w.0,
-    subst (λ o. holds_more o (volume_in c.args.self.now.volumes c.args.serial) c.args.tracks ≡ true) c.in-Some.ensures w.1))
+    ok_by c.grow_set.result (λ w. (
+      seen_changed c.args.job c.args.self.now c.grow_set.new.volumes c.args.key.now c.in-Some.key c.args.serial c.in-Some.ensures (grown_by c.args.tracks) w.0,
+      subst (λ o. holds_more o (volume_in c.args.self.now.volumes c.args.serial) c.args.tracks ≡ true) c.in-Some.ensures w.1,
+    ))
     c.grow_set.ensures.ok
 
 pub returns-in-Some-clause-rest : goal.returns-in-Some-clause-rest

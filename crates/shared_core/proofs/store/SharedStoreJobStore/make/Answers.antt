@@ -9,10 +9,11 @@ use Rattle.shared_core.proofs.store.SharedStoreJobStore.make.Goals as goal
 
 pub returns-in-Some-clause-ok : goal.returns-in-Some-clause-ok
 returns-in-Some-clause-ok c =
-    ok_by c.make_set.result (λ w.
-    (seen_written c.args.job c.args.self.now c.make_set.new.volumes c.args.key.now c.in-Some.key c.args.place.now.serial c.in-Some.ensures (Some (new_set_of c.args.tracks c.args.expires)) w.0,
-    others_written c.args.job c.args.self.now c.make_set.new.volumes c.args.key.now c.in-Some.key c.args.place.now.serial c.in-Some.ensures (Some (new_set_of c.args.tracks c.args.expires)) w.0,
-    subst (λ o. holds_new o (volume_in c.args.self.now.volumes c.args.place.now.serial) c.args.tracks ≡ true) c.in-Some.ensures w.1))
+    ok_by c.make_set.result (λ w. (
+      seen_written c.args.job c.args.self.now c.make_set.new.volumes c.args.key.now c.in-Some.key c.args.place.now.serial c.in-Some.ensures (Some (new_set_of c.args.tracks c.args.expires)) w.0,
+      others_written c.args.job c.args.self.now c.make_set.new.volumes c.args.key.now c.in-Some.key c.args.place.now.serial c.in-Some.ensures (Some (new_set_of c.args.tracks c.args.expires)) w.0,
+      subst (λ o. holds_new o (volume_in c.args.self.now.volumes c.args.place.now.serial) c.args.tracks ≡ true) c.in-Some.ensures w.1,
+    ))
     c.make_set.ensures.ok
 
 pub returns-in-Some-clause-err : goal.returns-in-Some-clause-err
