@@ -1,0 +1,6 @@
+mod WorldKeys
+mod Places
+mod Written
+mod Planned
+mod Entries
+mod SeenSets

@@ -1,0 +1,23 @@
+use Rattle.std.proofs.Common.{◌≡◌, Some, true, subst, ap}
+use Rattle.store_core.specs.Actions.{new_set_of}
+use Rattle.world_meaning.specs.Lenses.{seen}
+use Rattle.shared_core.specs.Rooms.{holds_new, others_of}
+use Rattle.shared_core.specs.Shown.{volume_in, world_of}
+use Rattle.shared_core.proofs.Entries.{err_by, ok_by}
+use Rattle.shared_core.proofs.SeenSets.{others_written, seen_written, with_volumes}
+use Rattle.shared_core.proofs.store.SharedStoreJobStore.make.Goals as goal
+
+pub returns-in-Some-clause-ok : goal.returns-in-Some-clause-ok
+returns-in-Some-clause-ok c =
+    ok_by c.make_set.result (λ w. (
+      seen_written c.args.job c.args.self.now c.make_set.new.volumes c.args.key.now c.in-Some.key c.args.place.now.serial c.in-Some.ensures (Some (new_set_of c.args.tracks c.args.expires)) w.0,
+      others_written c.args.job c.args.self.now c.make_set.new.volumes c.args.key.now c.in-Some.key c.args.place.now.serial c.in-Some.ensures (Some (new_set_of c.args.tracks c.args.expires)) w.0,
+      subst (λ o. holds_new o (volume_in c.args.self.now.volumes c.args.place.now.serial) c.args.tracks ≡ true) c.in-Some.ensures w.1,
+    ))
+    c.make_set.ensures.ok
+
+pub returns-in-Some-clause-err : goal.returns-in-Some-clause-err
+returns-in-Some-clause-err c =
+    err_by c.make_set.result (λ e.
+    (ap (λ l. seen c.args.job (world_of (with_volumes c.args.self.now l))) e, ap (λ l. others_of c.args.job (with_volumes c.args.self.now l)) e))
+    c.make_set.ensures.err

@@ -1,0 +1,3 @@
+pub mod Shown
+pub mod Rooms
+pub mod Writes

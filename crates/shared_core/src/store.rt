@@ -1,0 +1,190 @@
+//! The store of all jobs.
+ghost use Rattle.std.specs.Prelude.{◌≡◌, ◌≤◌, length, refl};
+ghost use Rattle.std.specs.Option.{option_copied, option_map};
+ghost use Rattle.vtoc_core.specs.Extents.{tracks_in};
+ghost use Rattle.store_core.specs.Actions.{facts_of};
+ghost use Rattle.world_meaning.specs.Lenses.{seen, seen_set};
+ghost use Rattle.shared_core.specs.Rooms.{Others, grants_growth, grants_new, others_of};
+ghost use Rattle.shared_core.specs.Shown.{data_of, world_of};
+
+use crate::key::world_key;
+use crate::volumes::{append_to, empty_set, grow_set, make_set, place_of, scratch_set, trim_set};
+use cat_core::catalog::Catalog;
+use group_core::group::{Group, Rolled};
+use jcl_meaning::state::Place;
+use jcl_plan::plan::Record;
+use jname_core::ds_name::DsName;
+use jname_core::key::Key;
+use jname_core::serial::Serial;
+use plain::listed::Listed;
+use std::alloc::{AllocError, Global};
+use store_core::job_store::{JobStore, RoomFault, SetFacts};
+use vtoc_core::entry::{Extent, SetEntry};
+use vtoc_core::volume::Volume;
+
+/// A volume, and the serial under which it is mounted.
+#[derive(Debug, Drop)]
+pub struct Mounted {
+    pub serial: Serial,
+    pub volume: Volume,
+}
+
+/// The catalog, and the volumes with their sets.
+#[derive(Drop)]
+pub struct SharedStore {
+    pub alloc: Global,
+    pub catalog: Catalog,
+    pub volumes: Listed<Mounted>,
+}
+
+/// How many tracks these extents have.
+fn tracks_of(extents: &[Extent]) -> u64
+    requires { length extents.now ≤ 16 }
+    ensures { result ≡ tracks_in extents.now }
+{
+    extents.iter().map(|e| u64::from(e.tracks)).sum()
+}
+
+/// What is known of a set.
+fn facts_of(entry: &SetEntry) -> SetFacts
+    ensures { result ≡ facts_of (data_of entry.now) }
+{
+    SetFacts {
+        tracks: tracks_of(entry.extents.as_slice()),
+        expires: entry.expires,
+        records: entry.records.len(),
+    }
+}
+
+impl SharedStore {
+    /// The set that a job sees under a key on the volume of a serial.
+    fn entry_of(&self, job: u16, key: &Key, serial: Serial) -> Option<&SetEntry>
+        ensures { option_map data_of (option_copied result) ≡ seen_set job (world_of self.now) key.now serial }
+    {
+        let Some(key) = world_key(job, key) else {
+            return None;
+        };
+        let Some(at) = place_of(self.volumes.as_slice(), serial) else {
+            return None;
+        };
+        self.volumes.as_slice()[at].volume.find(&key)
+    }
+}
+
+impl JobStore for SharedStore {
+    ghost seen = { λ job s. seen job (world_of s) };
+
+    ghost Rest = { Others };
+
+    ghost rest = { λ job s. others_of job s };
+
+    ghost spent = { λ _ _ rest. rest };
+
+    ghost grants_new = { λ job s key place tracks. grants_new job s key place tracks };
+
+    ghost grants_growth = { λ job s key serial tracks. grants_growth job s key serial tracks };
+
+    ghost spent_nothing = { λ _ _. refl };
+
+    fn set(&self, job: u16, key: &Key, serial: Serial) -> Option<SetFacts> {
+        match self.entry_of(job, key, serial) {
+            Some(entry) => Some(facts_of(entry)),
+            None => None,
+        }
+    }
+
+    fn record(&self, job: u16, key: &Key, serial: Serial, place: usize) -> Option<Record> {
+        match self.entry_of(job, key, serial) {
+            Some(entry) => entry.records.read_at(place).copied(),
+            None => None,
+        }
+    }
+
+    fn group(&self, _job: u16, base: &DsName) -> Option<&Group> {
+        self.catalog.group(base)
+    }
+
+    fn volume(&self, _job: u16, name: &DsName) -> Option<Serial> {
+        self.catalog.find(name)
+    }
+
+    fn make(
+        &mut self,
+        job: u16,
+        key: &Key,
+        place: &Place,
+        tracks: u16,
+        expires: Option<u32>,
+    ) -> Result<(), RoomFault> {
+        match world_key(job, key) {
+            Some(key) => make_set(
+                self.alloc,
+                &mut self.volumes,
+                place.serial,
+                &key,
+                tracks,
+                expires,
+            ),
+            None => Err(RoomFault::NotGranted),
+        }
+    }
+
+    fn grow(&mut self, job: u16, key: &Key, serial: Serial, tracks: u16) -> Result<(), RoomFault> {
+        match world_key(job, key) {
+            Some(key) => grow_set(self.alloc, &mut self.volumes, serial, &key, tracks),
+            None => Ok(()),
+        }
+    }
+
+    fn empty(&mut self, job: u16, key: &Key, serial: Serial) {
+        if let Some(key) = world_key(job, key) {
+            empty_set(self.alloc, &mut self.volumes, serial, &key);
+        }
+    }
+
+    fn append(
+        &mut self,
+        job: u16,
+        key: &Key,
+        serial: Serial,
+        text: &Record,
+    ) -> Result<(), AllocError> {
+        match world_key(job, key) {
+            Some(key) => append_to(self.alloc, &mut self.volumes, serial, &key, text),
+            None => Ok(()),
+        }
+    }
+
+    fn trim(&mut self, job: u16, key: &Key, serial: Serial) {
+        if let Some(key) = world_key(job, key) {
+            trim_set(self.alloc, &mut self.volumes, serial, &key);
+        }
+    }
+
+    fn scratch(&mut self, job: u16, key: &Key, serial: Serial) {
+        if let Some(key) = world_key(job, key) {
+            scratch_set(self.alloc, &mut self.volumes, serial, &key);
+        }
+    }
+
+    fn enter(&mut self, _job: u16, name: &DsName, serial: Serial) -> Result<(), AllocError> {
+        self.catalog.put(*name, serial)
+    }
+
+    fn uncatalog(&mut self, _job: u16, name: &DsName) {
+        self.catalog.clear(name);
+    }
+
+    fn enter_number(
+        &mut self,
+        _job: u16,
+        base: &DsName,
+        number: u16,
+        serial: Serial,
+    ) -> Result<Rolled, AllocError> {
+        match self.catalog.enter_generation(base, number, serial) {
+            Ok(rolled) => Ok(rolled),
+            Err(_) => Err(AllocError),
+        }
+    }
+}

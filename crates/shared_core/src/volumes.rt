@@ -1,0 +1,226 @@
+//! The volume of a serial, and what is done to its sets.
+ghost use Rattle.std.specs.Prelude.{◌≡◌, None, Some, Err, IfNone, IfSome, OnErr, OnOk, true, false};
+ghost use Rattle.std.specs.List.{position};
+ghost use Rattle.jcl_meaning.specs.Programs.{appended, emptied, grown_by};
+ghost use Rattle.jcl_meaning.specs.Stores.{cut};
+ghost use Rattle.store_core.specs.Actions.{new_set_of};
+ghost use Rattle.shared_core.specs.Rooms.{holds_more, holds_new};
+ghost use Rattle.shared_core.specs.Shown.{set_on, volume_in};
+ghost use Rattle.shared_core.specs.Writes.{Changes, ChangesOn, IsFirstMounted, Writes, WritesOn, is_mounted};
+
+use crate::store::Mounted;
+use jcl_plan::plan::Record;
+use jname_core::serial::Serial;
+use plain::listed::Listed;
+use std::alloc::{AllocError, Global};
+use std::mem;
+use store_core::job_store::RoomFault;
+use vtoc_core::entry::SetKey;
+use vtoc_core::fault::VolumeFault;
+use vtoc_core::volume::Volume;
+
+fn position_of(volumes: &[Mounted], serial: Serial) -> Option<usize>
+    ensures { result ≡ position (is_mounted serial) volumes.now }
+{
+    volumes
+        .iter()
+        .position(|m| m.serial.as_slice() == serial.as_slice())
+}
+
+/// Where the volume of a serial stands, from 0.
+pub(crate) fn place_of(volumes: &[Mounted], serial: Serial) -> Option<usize>
+    ensures there { IfSome result (IsFirstMounted volumes.now serial) }
+    ensures missing { IfNone result (volume_in volumes.now serial ≡ None) }
+{
+    position_of(volumes, serial)
+}
+
+/// Takes the records of a set away.
+fn empty_on(volume: &mut Volume, key: &SetKey)
+    ensures { ChangesOn (emptied true) volume.old volume.new key.now }
+{
+    match volume.clear(key) {
+        Ok(()) => {}
+        Err(_) => {}
+    }
+}
+
+/// Takes the records of a set on the volume of a serial away.
+pub(crate) fn empty_set(alloc: Global, volumes: &mut Listed<Mounted>, serial: Serial, key: &SetKey)
+    ensures { Changes (emptied true) volumes.old volumes.new key.now serial }
+{
+    let Some(at) = place_of(volumes.as_slice(), serial) else {
+        return;
+    };
+    let mut all = mem::replace(volumes, Listed::empty(alloc)).into_vec();
+    empty_on(&mut all[at].volume, key);
+    *volumes = Listed::new(all);
+}
+
+/// Puts a record behind those of a set, where it is there. An `Err` changes nothing.
+fn append_on(volume: &mut Volume, key: &SetKey, text: &Record) -> Result<(), AllocError>
+    ensures ok { OnOk result (ChangesOn (appended text.now) volume.old volume.new key.now) }
+    ensures err { OnErr result (volume.new ≡ volume.old) }
+{
+    match volume.append(key, *text) {
+        Ok(()) => Ok(()),
+        Err(VolumeFault::NameMissing) => Ok(()),
+        Err(_) => Err(AllocError),
+    }
+}
+
+/// Puts a record behind those of a set on the volume of a serial, where it is there. An `Err` changes nothing.
+pub(crate) fn append_to(
+    alloc: Global,
+    volumes: &mut Listed<Mounted>,
+    serial: Serial,
+    key: &SetKey,
+    text: &Record,
+) -> Result<(), AllocError>
+    ensures ok { OnOk result (Changes (appended text.now) volumes.old volumes.new key.now serial) }
+    ensures err { OnErr result (volumes.new ≡ volumes.old) }
+{
+    let Some(at) = place_of(volumes.as_slice(), serial) else {
+        return Ok(());
+    };
+    let mut all = mem::replace(volumes, Listed::empty(alloc)).into_vec();
+    let done = append_on(&mut all[at].volume, key, text);
+    *volumes = Listed::new(all);
+    done
+}
+
+/// Takes a set off its volume.
+fn scratch_on(volume: &mut Volume, key: &SetKey)
+    ensures { WritesOn volume.old volume.new key.now None }
+{
+    match volume.scratch(key) {
+        Ok(()) => {}
+        Err(_) => {}
+    }
+}
+
+/// Takes a set off the volume of a serial.
+pub(crate) fn scratch_set(
+    alloc: Global,
+    volumes: &mut Listed<Mounted>,
+    serial: Serial,
+    key: &SetKey,
+)
+    ensures { Writes volumes.old volumes.new key.now serial None }
+{
+    let Some(at) = place_of(volumes.as_slice(), serial) else {
+        return;
+    };
+    let mut all = mem::replace(volumes, Listed::empty(alloc)).into_vec();
+    scratch_on(&mut all[at].volume, key);
+    *volumes = Listed::new(all);
+}
+
+/// Cuts a set to the tracks that its records fill.
+fn trim_on(volume: &mut Volume, key: &SetKey)
+    ensures { ChangesOn cut volume.old volume.new key.now }
+{
+    let Some(entry) = volume.find(key) else {
+        return;
+    };
+    let used = entry.records.tracks_used();
+    match volume.trim(key, used) {
+        Ok(()) => {}
+        Err(_) => {}
+    }
+}
+
+/// Cuts a set on the volume of a serial to the tracks that its records fill.
+pub(crate) fn trim_set(alloc: Global, volumes: &mut Listed<Mounted>, serial: Serial, key: &SetKey)
+    ensures { Changes cut volumes.old volumes.new key.now serial }
+{
+    let Some(at) = place_of(volumes.as_slice(), serial) else {
+        return;
+    };
+    let mut all = mem::replace(volumes, Listed::empty(alloc)).into_vec();
+    trim_on(&mut all[at].volume, key);
+    *volumes = Listed::new(all);
+}
+
+/// Makes a set without records where there is none. An `Err` changes nothing.
+fn make_on(
+    alloc: Global,
+    volume: &mut Volume,
+    key: &SetKey,
+    tracks: u16,
+    expires: Option<u32>,
+) -> Result<(), RoomFault>
+    requires { set_on (Some volume.old) key.now ≡ None }
+    ensures ok { OnOk result (WritesOn volume.old volume.new key.now (Some (new_set_of tracks expires))
+        × (holds_new (Some key.now) (Some volume.old) tracks ≡ true)) }
+    ensures refused { result ≡ Err RoomFault.NotGranted → holds_new (Some key.now) (Some volume.old) tracks ≡ false }
+    ensures err { OnErr result (volume.new ≡ volume.old) }
+{
+    match volume.make_set(alloc, *key, tracks, expires) {
+        Ok(()) => Ok(()),
+        Err(VolumeFault::NoSpace) => Err(RoomFault::NotGranted),
+        Err(_) => Err(RoomFault::Memory),
+    }
+}
+
+/// Makes a set without records on the volume of a serial where there is none. An `Err` changes nothing.
+pub(crate) fn make_set(
+    alloc: Global,
+    volumes: &mut Listed<Mounted>,
+    serial: Serial,
+    key: &SetKey,
+    tracks: u16,
+    expires: Option<u32>,
+) -> Result<(), RoomFault>
+    requires { set_on (volume_in volumes.old serial) key.now ≡ None }
+    ensures ok { OnOk result (Writes volumes.old volumes.new key.now serial (Some (new_set_of tracks expires))
+        × (holds_new (Some key.now) (volume_in volumes.old serial) tracks ≡ true)) }
+    ensures refused { result ≡ Err RoomFault.NotGranted → holds_new (Some key.now) (volume_in volumes.old serial) tracks ≡ false }
+    ensures err { OnErr result (volumes.new ≡ volumes.old) }
+{
+    let Some(at) = place_of(volumes.as_slice(), serial) else {
+        return Err(RoomFault::NotGranted);
+    };
+    let mut all = mem::replace(volumes, Listed::empty(alloc)).into_vec();
+    let made = make_on(alloc, &mut all[at].volume, key, tracks, expires);
+    *volumes = Listed::new(all);
+    made
+}
+
+/// Adds tracks to a set, where it is there. An `Err` changes nothing.
+fn grow_on(volume: &mut Volume, key: &SetKey, tracks: u16) -> Result<(), RoomFault>
+    ensures ok { OnOk result (ChangesOn (grown_by tracks) volume.old volume.new key.now
+        × (holds_more (Some key.now) (Some volume.old) tracks ≡ true)) }
+    ensures refused { result ≡ Err RoomFault.NotGranted → holds_more (Some key.now) (Some volume.old) tracks ≡ false }
+    ensures err { OnErr result (volume.new ≡ volume.old) }
+{
+    match volume.grow(key, tracks) {
+        Ok(()) => Ok(()),
+        Err(VolumeFault::NameMissing) => Ok(()),
+        Err(VolumeFault::NoSpace) => Err(RoomFault::NotGranted),
+        Err(VolumeFault::TooManyExtents) => Err(RoomFault::NotGranted),
+        Err(_) => Err(RoomFault::Memory),
+    }
+}
+
+/// Adds tracks to a set on the volume of a serial, where it is there. An `Err` changes nothing.
+pub(crate) fn grow_set(
+    alloc: Global,
+    volumes: &mut Listed<Mounted>,
+    serial: Serial,
+    key: &SetKey,
+    tracks: u16,
+) -> Result<(), RoomFault>
+    ensures ok { OnOk result (Changes (grown_by tracks) volumes.old volumes.new key.now serial
+        × (holds_more (Some key.now) (volume_in volumes.old serial) tracks ≡ true)) }
+    ensures refused { result ≡ Err RoomFault.NotGranted → holds_more (Some key.now) (volume_in volumes.old serial) tracks ≡ false }
+    ensures err { OnErr result (volumes.new ≡ volumes.old) }
+{
+    let Some(at) = place_of(volumes.as_slice(), serial) else {
+        return Ok(());
+    };
+    let mut all = mem::replace(volumes, Listed::empty(alloc)).into_vec();
+    let grown = grow_on(&mut all[at].volume, key, tracks);
+    *volumes = Listed::new(all);
+    grown
+}
