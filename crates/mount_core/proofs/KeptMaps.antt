@@ -50,7 +50,7 @@ equal Less h = absurd cc
 equal Equal h = refl
 equal Greater h = absurd cc
 
-tied_equal : (a b : KeptPlace) → eq_by_cmp place_cmp a b ≡ true → a ≡ b
+pub tied_equal : (a b : KeptPlace) → eq_by_cmp place_cmp a b ≡ true → a ≡ b
 tied_equal a b h = places_tie a b (equal (place_cmp a b) h)
 
 same_step : (b : Bool) (m : Kept) (k q : KeptPlace) (v : Entry) → eq_by_cmp place_cmp q k ≡ b → get m k ≡ Some v → cond b (Some v) (get m q) ≡ get m q

@@ -4,3 +4,4 @@ mod Written
 mod Planned
 mod Entries
 mod SeenSets
+mod Making

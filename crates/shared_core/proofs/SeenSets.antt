@@ -1,5 +1,5 @@
 -- What a job sees, and what others alone see, once one set or one entry of the catalog is written.
-use Rattle.std.proofs.Common.{◌≡◌, ℕ, Bool, true, false, ◌&&◌, ◌==◌, cond, List, map, Option, Some, None, refl, sym, ap, ◌∙◌}
+use Rattle.std.proofs.Common.{◌≡◌, ℕ, Bool, true, false, ◌&&◌, ◌==◌, cond, List, [], ◌∷◌, map, Option, Some, None, refl, sym, ap, ◌∙◌}
 use Rattle.std.proofs.lemmas.Bool.{eq-eqb}
 use Rattle.std.specs.FinMap.{get, insert, remove}
 use Rattle.std.specs.Option.{option_map}
@@ -11,6 +11,7 @@ use Rattle.group_core.specs.Entries.{Member}
 use Rattle.group_core.specs.Groups.{GroupState, with_entered, without}
 use Rattle.jname_core.specs.declared.key.Key.{Key}
 use Rattle.jname_core.specs.declared.key.Key.TheVariants.{Named, Relative, Temporary, Unnamed}
+use Rattle.jcl_meaning.specs.declared.state.Place.{Place}
 use Rattle.jcl_meaning.specs.declared.store.DataSet.{DataSet}
 use Rattle.jcl_meaning.specs.Names.{same_key}
 use Rattle.jcl_meaning.specs.Programs.{or_nothing}
@@ -22,11 +23,11 @@ use Rattle.vtoc_core.specs.declared.entry.SetKey.{SetKey}
 use Rattle.vtoc_core.specs.declared.entry.SetKey.TheVariants as world
 use Rattle.vtoc_core.specs.Entries.{same_key as same_world_key}
 use Rattle.world_meaning.specs.Lenses.{WorldStore, seen, seen_set, world_key}
-use Rattle.shared_core.specs.declared.store.Mounted.{Mounted}
+use Rattle.mount_core.specs.Mounts.{MountedState}
 use Rattle.shared_core.specs.declared.store.SharedStore.{SharedStore}
-use Rattle.shared_core.specs.Rooms.{Others, others_of, room_of, set_of_others}
-use Rattle.shared_core.specs.Shown.{set_on, volume_in, world_of}
-use Rattle.shared_core.specs.Writes.{Changes, Writes}
+use Rattle.shared_core.specs.Rooms.{Others, kept_place, others_of, room_of, set_of_others, spent}
+use Rattle.shared_core.specs.Shown.{set_on, mounted_in, world_of}
+use Rattle.shared_core.specs.Writes.{Changes, Keeps, KeepsOthers, Writes}
 use Rattle.shared_core.proofs.WorldKeys.{name_put, name_taken}
 use Rattle.shared_core.proofs.Written.{at_its_place}
 
@@ -125,10 +126,10 @@ seen_at job w (Temporary a) k v e = let p : k ≡ world.Temporary job a = cc in 
 seen_at job w (Unnamed t d) k v e = let p : k ≡ world.Unnamed job t d = cc in ap (λ l. w.set l v) (sym p)
 
 -- volumes with one set written, under a job's key
-abbrev pub with_volumes : SharedStore → List Mounted → SharedStore
+abbrev pub with_volumes : SharedStore → List MountedState → SharedStore
 with_volumes s volumes = record { alloc = s.alloc; catalog = s.catalog; volumes = volumes }
 
-module _ (job : ℕ) (s : SharedStore) (volumes : List Mounted) (key : Key) (k : SetKey) (serial : List ℕ) (own : Some k ≡ world_key job key) where
+module _ (job : ℕ) (s : SharedStore) (volumes : List MountedState) (key : Key) (k : SetKey) (serial : List ℕ) (own : Some k ≡ world_key job key) where
   pub seen_written : (there : Option DataSet) → Writes s.volumes volumes k serial there →
       seen job (world_of (with_volumes s volumes)) ≡ with_set (seen job (world_of s)) key serial there
   seen_written there w = λ i. record {
@@ -136,10 +137,19 @@ module _ (job : ℕ) (s : SharedStore) (volumes : List Mounted) (key : Key) (k :
     catalog = λ n. get s.catalog n;
   }
 
-  pub others_written : (there : Option DataSet) → Writes s.volumes volumes k serial there → others_of job (with_volumes s volumes) ≡ others_of job s
-  others_written there w = λ i. record {
+  pub others_written : (there : Option DataSet) → Writes s.volumes volumes k serial there → Keeps s.volumes volumes → others_of job (with_volumes s volumes) ≡ others_of job s
+  others_written there w kept = λ i. record {
     set = λ q v. others_step job (world_of s) (world_of (with_volumes s volumes)) serial there q key k v w.set own i;
     rooms = w.rooms i;
+    kept = λ v at. kept v at i;
+  }
+
+  pub others_made : (place : Place) (there : Option DataSet) → Writes s.volumes volumes k serial there → KeepsOthers s.volumes volumes place.serial (kept_place job place) →
+      others_of job (with_volumes s volumes) ≡ spent job (place ∷ []) (others_of job s)
+  others_made place there w kept = λ i. record {
+    set = λ q v. others_step job (world_of s) (world_of (with_volumes s volumes)) serial there q key k v w.set own i;
+    rooms = w.rooms i;
+    kept = λ v at. kept v at i;
   }
 
   -- a set that is there is changed, and else nothing
@@ -147,15 +157,15 @@ module _ (job : ℕ) (s : SharedStore) (volumes : List Mounted) (key : Key) (k :
   none_there true x h = sym (h refl)
   none_there false x h = refl
 
-  not_written : set_on (volume_in s.volumes serial) k ≡ None → Writes s.volumes volumes k serial None →
+  not_written : set_on (mounted_in s.volumes serial) k ≡ None → Writes s.volumes volumes k serial None →
       seen job (world_of (with_volumes s volumes)) ≡ seen job (world_of s)
   not_written n w = λ i. seen job (record {
     set = λ q v.
-        (w.set q v ∙ none_there (same_world_key q k && bytes_eq v serial) (set_on (volume_in s.volumes v) q) (λ e. at_its_place s.volumes q k v serial e ∙ n)) i;
+        (w.set q v ∙ none_there (same_world_key q k && bytes_eq v serial) (set_on (mounted_in s.volumes v) q) (λ e. at_its_place s.volumes q k v serial e ∙ n)) i;
     catalog = λ n. get s.catalog n;
   })
 
-  by_what_is_there : (f : DataSet → DataSet) (o : Option DataSet) → set_on (volume_in s.volumes serial) k ≡ o → Writes s.volumes volumes k serial (option_map f o) →
+  by_what_is_there : (f : DataSet → DataSet) (o : Option DataSet) → set_on (mounted_in s.volumes serial) k ≡ o → Writes s.volumes volumes k serial (option_map f o) →
       seen job (world_of (with_volumes s volumes)) ≡ with_set_there o (f (or_nothing o)) (seen job (world_of s)) key serial
   by_what_is_there f None e w = not_written e w
   by_what_is_there f (Some set) e w = seen_written (Some (f set)) w
@@ -163,11 +173,11 @@ module _ (job : ℕ) (s : SharedStore) (volumes : List Mounted) (key : Key) (k :
   pub seen_changed : (f : DataSet → DataSet) → Changes f s.volumes volumes k serial →
       seen job (world_of (with_volumes s volumes)) ≡ changed_at f (seen job (world_of s)) key serial
   seen_changed f w =
-      by_what_is_there f (set_on (volume_in s.volumes serial) k) refl w
+      by_what_is_there f (set_on (mounted_in s.volumes serial) k) refl w.0
       ∙ ap (λ o. with_set_there o (f (or_nothing o)) (seen job (world_of s)) key serial) (sym (seen_at job (world_of s) key k serial own))
 
   pub others_changed : (f : DataSet → DataSet) → Changes f s.volumes volumes k serial → others_of job (with_volumes s volumes) ≡ others_of job s
-  others_changed f w = others_written (option_map f (set_on (volume_in s.volumes serial) k)) w
+  others_changed f w = others_written (option_map f (set_on (mounted_in s.volumes serial) k)) w.0 w.1
 
   cut_there : (o : Option DataSet) (t : Store) → with_set_there o (cut (or_nothing o)) t key serial ≡ cut_at o t key serial
   cut_there None t = refl

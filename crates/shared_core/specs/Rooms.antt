@@ -1,6 +1,7 @@
 -- What stays of the store when one job writes what it sees, and which tracks it is granted.
-use Rattle.std.specs.Prelude.{ℕ, ◌+◌, ◌==◌, Bool, true, false, nat_le, length, List, map, Option, Some, None, if◌then◌else◌}
+use Rattle.std.specs.Prelude.{ℕ, ◌+◌, ◌==◌, ◌&&◌, Bool, true, false, nat_le, length, List, [], ◌∷◌, map, Option, Some, None, if◌then◌else◌}
 use Rattle.std.specs.FinMap.{get}
+use Rattle.std.specs.Str.{bytes_eq}
 use Rattle.extent_core.specs.declared.extent.Extent.{Extent}
 use Rattle.jname_core.specs.declared.key.Key.{Key}
 use Rattle.vtoc_core.specs.declared.entry.SetEntry.{SetEntry}
@@ -8,14 +9,15 @@ use Rattle.vtoc_core.specs.declared.entry.SetKey.{SetKey}
 use Rattle.vtoc_core.specs.declared.entry.SetKey.TheVariants.{Named, Temporary, Unnamed}
 use Rattle.vtoc_core.specs.declared.volume.Track.{Track}
 use Rattle.vtoc_core.specs.declared.volume.Track.TheVariants.{Free, Aside, InSet}
-use Rattle.vtoc_core.specs.Extents.{five_largest, free_extents, planned}
+use Rattle.vtoc_core.specs.Extents.{free_extents, planned}
 use Rattle.vtoc_core.specs.Volumes.{VolumeState, count_of}
 use Rattle.jcl_meaning.specs.declared.state.Place.{Place}
 use Rattle.jcl_meaning.specs.declared.store.DataSet.{DataSet}
 use Rattle.world_meaning.specs.Lenses.{WorldStore, world_key}
-use Rattle.shared_core.specs.declared.store.Mounted.{Mounted}
+use Rattle.mount_core.specs.declared.place.KeptPlace.{KeptPlace}
+use Rattle.mount_core.specs.Mounts.{MountedState, holds}
 use Rattle.shared_core.specs.declared.store.SharedStore.{SharedStore}
-use Rattle.shared_core.specs.Shown.{volume_in, world_of}
+use Rattle.shared_core.specs.Shown.{kept_on, mounted_in, world_of}
 
 -- the sets that others than a job alone see
 abbrev pub set_of_others : ℕ → WorldStore → SetKey → List ℕ → Option DataSet
@@ -23,34 +25,53 @@ set_of_others job w (Named name) serial = None
 set_of_others job w (Temporary owner name) serial = if owner == job then None else w.set (Temporary owner name) serial
 set_of_others job w (Unnamed owner step dd) serial = if owner == job then None else w.set (Unnamed owner step dd) serial
 
--- a volume's tracks that are kept aside, and those that are free, aside or in sets
+-- a volume's tracks that are free, aside or in sets
 pub record Room : Type 0 where
   pub serial : List ℕ
-  pub aside : ℕ
   pub all : ℕ
 
 abbrev pub all_tracks : List Track → ℕ
 all_tracks tracks = count_of Free tracks + (count_of Aside tracks + count_of InSet tracks)
 
-abbrev pub room_of : Mounted → Room
-room_of m = record { serial = m.serial; aside = count_of Aside m.volume.tracks; all = all_tracks m.volume.tracks }
+abbrev pub room_of : MountedState → Room
+room_of m = record { serial = m.serial; all = all_tracks m.volume.tracks }
 
--- what no action of a job changes
+-- what else is known of the store: the sets that others alone see, how many tracks each volume has for sets, and which are kept
 pub record Others : Type 0 where
   pub set : SetKey → List ℕ → Option DataSet
   pub rooms : List Room
+  pub kept : List ℕ → KeptPlace → Option (List Extent)
 
 abbrev pub others_of : ℕ → SharedStore → Others
-others_of job s = record { set = λ k serial. set_of_others job (world_of s) k serial; rooms = map room_of s.volumes }
+others_of job s = record {
+  set = λ k serial. set_of_others job (world_of s) k serial;
+  rooms = map room_of s.volumes;
+  kept = λ serial at. kept_on (mounted_in s.volumes serial) at;
+}
 
--- a primary is granted where the five largest free extents of its volume hold it
-abbrev pub holds_new : Option SetKey → Option VolumeState → ℕ → Bool
-holds_new None v n = false
-holds_new (Some k) None n = false
-holds_new (Some k) (Some v) n = nat_le n (five_largest (free_extents v.tracks))
+-- a set that is made uses up the tracks that are kept for it on its volume
+abbrev pub kept_place : ℕ → Place → KeptPlace
+kept_place job p = record { job = job; step = p.step; dd = p.dd }
+
+abbrev pub is_same_place : KeptPlace → KeptPlace → Bool
+is_same_place a b = a.job == b.job && a.step == b.step && a.dd == b.dd
+
+abbrev pub without_kept : ℕ → List Place → (List ℕ → KeptPlace → Option (List Extent)) → List ℕ → KeptPlace → Option (List Extent)
+without_kept job [] kept = kept
+without_kept job (p ∷ places) kept =
+    without_kept job places (λ serial at. if is_same_place at (kept_place job p) && bytes_eq serial p.serial then None else kept serial at)
+
+abbrev pub spent : ℕ → List Place → Others → Others
+spent job places rest = record { set = rest.set; rooms = rest.rooms; kept = without_kept job places rest.kept }
+
+-- a primary is granted where it is kept, or where none is kept and the five largest free extents of its volume hold it
+abbrev pub holds_new : Option SetKey → Option MountedState → KeptPlace → ℕ → Bool
+holds_new None m at n = false
+holds_new (Some k) None at n = false
+holds_new (Some k) (Some m) at n = holds (get m.kept at) m.volume n
 
 abbrev pub grants_new : ℕ → SharedStore → Key → Place → ℕ → Bool
-grants_new job s key place n = holds_new (world_key job key) (volume_in s.volumes place.serial) n
+grants_new job s key place n = holds_new (world_key job key) (mounted_in s.volumes place.serial) (kept_place job place) n
 
 -- further tracks are granted where the five largest hold them and the set then has sixteen extents at most; what is not there does not grow
 abbrev pub fits_behind : SetEntry → Option (List Extent) → Bool
@@ -61,10 +82,10 @@ abbrev pub entry_grows : Option SetEntry → VolumeState → ℕ → Bool
 entry_grows None v n = true
 entry_grows (Some e) v n = fits_behind e (planned (free_extents v.tracks) n)
 
-abbrev pub holds_more : Option SetKey → Option VolumeState → ℕ → Bool
-holds_more None v n = true
+abbrev pub holds_more : Option SetKey → Option MountedState → ℕ → Bool
+holds_more None m n = true
 holds_more (Some k) None n = true
-holds_more (Some k) (Some v) n = entry_grows (get v.sets k) v n
+holds_more (Some k) (Some m) n = entry_grows (get m.volume.sets k) m.volume n
 
 abbrev pub grants_growth : ℕ → SharedStore → Key → List ℕ → ℕ → Bool
-grants_growth job s key serial n = holds_more (world_key job key) (volume_in s.volumes serial) n
+grants_growth job s key serial n = holds_more (world_key job key) (mounted_in s.volumes serial) n

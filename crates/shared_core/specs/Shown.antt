@@ -3,13 +3,14 @@ use Rattle.std.specs.Prelude.{ℕ, List, [], ◌∷◌, Option, Some, None, if�
 use Rattle.std.specs.FinMap.{get}
 use Rattle.std.specs.Option.{option_map}
 use Rattle.std.specs.Str.{bytes_eq}
+use Rattle.extent_core.specs.declared.extent.Extent.{Extent}
 use Rattle.vtoc_core.specs.declared.entry.SetEntry.{SetEntry}
 use Rattle.vtoc_core.specs.declared.entry.SetKey.{SetKey}
 use Rattle.vtoc_core.specs.Extents.{tracks_in}
-use Rattle.vtoc_core.specs.Volumes.{VolumeState}
 use Rattle.jcl_meaning.specs.declared.store.DataSet.{DataSet}
 use Rattle.world_meaning.specs.Lenses.{WorldStore}
-use Rattle.shared_core.specs.declared.store.Mounted.{Mounted}
+use Rattle.mount_core.specs.declared.place.KeptPlace.{KeptPlace}
+use Rattle.mount_core.specs.Mounts.{MountedState}
 use Rattle.shared_core.specs.declared.store.SharedStore.{SharedStore}
 
 -- an entry of a volume's table of contents as a set
@@ -17,13 +18,18 @@ abbrev pub data_of : SetEntry → DataSet
 data_of e = record { tracks = tracks_in e.extents.items; expires = e.expires; records = e.records }
 
 -- the volume of a serial: of two the first counts
-abbrev pub volume_in : List Mounted → List ℕ → Option VolumeState
-volume_in [] serial = None
-volume_in (m ∷ ms) serial = if bytes_eq m.serial serial then Some m.volume else volume_in ms serial
+abbrev pub mounted_in : List MountedState → List ℕ → Option MountedState
+mounted_in [] serial = None
+mounted_in (m ∷ ms) serial = if bytes_eq m.serial serial then Some m else mounted_in ms serial
 
-abbrev pub set_on : Option VolumeState → SetKey → Option DataSet
+abbrev pub set_on : Option MountedState → SetKey → Option DataSet
 set_on None k = None
-set_on (Some v) k = option_map data_of (get v.sets k)
+set_on (Some m) k = option_map data_of (get m.volume.sets k)
+
+-- the tracks that are kept on a volume for the set of a DD
+abbrev pub kept_on : Option MountedState → KeptPlace → Option (List Extent)
+kept_on None place = None
+kept_on (Some m) place = get m.kept place
 
 abbrev pub world_of : SharedStore → WorldStore
-world_of s = record { set = λ k serial. set_on (volume_in s.volumes serial) k; catalog = λ name. get s.catalog name }
+world_of s = record { set = λ k serial. set_on (mounted_in s.volumes serial) k; catalog = λ name. get s.catalog name }

@@ -1,51 +1,59 @@
 -- Where a volume is mounted, and what is written on one volume of all.
-use Rattle.std.specs.Prelude.{◌≡◌, ℕ, ◌<◌, ◌&&◌, Bool, List, length, map, Option, Some, slice_get, slice_set, if◌then◌else◌}
+use Rattle.std.specs.Prelude.{◌≡◌, ℕ, ◌<◌, ◌&&◌, Bool, List, length, map, Option, Some, None, slice_get, slice_set, if◌then◌else◌}
 use Rattle.std.specs.FinMap.{get}
 use Rattle.std.specs.Option.{option_map}
 use Rattle.std.specs.Str.{bytes_eq}
 use Rattle.vtoc_core.specs.declared.entry.SetKey.{SetKey}
-use Rattle.vtoc_core.specs.declared.volume.Track.TheVariants.{Aside}
 use Rattle.vtoc_core.specs.Entries.{same_key}
-use Rattle.vtoc_core.specs.Volumes.{VolumeState, count_of}
 use Rattle.jcl_meaning.specs.declared.store.DataSet.{DataSet}
-use Rattle.shared_core.specs.declared.store.Mounted.{Mounted}
-use Rattle.shared_core.specs.Rooms.{all_tracks, room_of}
-use Rattle.shared_core.specs.Shown.{data_of, set_on, volume_in}
+use Rattle.mount_core.specs.declared.place.KeptPlace.{KeptPlace}
+use Rattle.mount_core.specs.Mounts.{MountedState}
+use Rattle.shared_core.specs.Rooms.{all_tracks, is_same_place, room_of}
+use Rattle.shared_core.specs.Shown.{kept_on, mounted_in, set_on}
 
 -- a volume is mounted under a serial
-abbrev pub is_mounted : List ℕ → Mounted → Bool
+abbrev pub is_mounted : List ℕ → MountedState → Bool
 is_mounted serial m = bytes_eq m.serial serial
 
--- a volume whose tracks and sets are now these
-abbrev pub holding : Mounted → VolumeState → Mounted
-holding m v = record { serial = m.serial; volume = v }
-
 -- The volume of a serial is the one at this place, and whatever stands there in its stead is that of this serial alone.
-pub record IsFirstMounted (volumes : List Mounted) (serial : List ℕ) (place : ℕ) : Type 0 where
+pub record IsFirstMounted (volumes : List MountedState) (serial : List ℕ) (place : ℕ) : Type 0 where
   pub within : place < length volumes
-  pub its_volume : Mounted
+  pub its_volume : MountedState
   pub stands : slice_get volumes place ≡ Some its_volume
-  pub found : volume_in volumes serial ≡ Some its_volume.volume
-  pub changed : (other : VolumeState) (v : List ℕ) →
-      volume_in (slice_set volumes place (holding its_volume other)) v ≡ if bytes_eq v serial then Some other else volume_in volumes v
-  pub rooms : (other : VolumeState) → room_of (holding its_volume other) ≡ room_of its_volume →
-      map room_of (slice_set volumes place (holding its_volume other)) ≡ map room_of volumes
+  pub found : mounted_in volumes serial ≡ Some its_volume
+  pub changed : (other : MountedState) (v : List ℕ) → other.serial ≡ its_volume.serial →
+      mounted_in (slice_set volumes place other) v ≡ if bytes_eq v serial then Some other else mounted_in volumes v
+  pub rooms : (other : MountedState) → room_of other ≡ room_of its_volume → map room_of (slice_set volumes place other) ≡ map room_of volumes
 
--- One set of a volume is now this, or none, and as many tracks as before are aside, and are free, aside or in sets.
-pub record WritesOn (old new : VolumeState) (k : SetKey) (there : Option DataSet) : Type 0 where
+-- One set of a volume is now this, or none, and as many tracks as before are free, aside or in sets.
+pub record WritesOn (old new : MountedState) (k : SetKey) (there : Option DataSet) : Type 0 where
   pub set : (q : SetKey) → set_on (Some new) q ≡ if same_key q k then there else set_on (Some old) q
-  pub aside : count_of Aside new.tracks ≡ count_of Aside old.tracks
-  pub all : all_tracks new.tracks ≡ all_tracks old.tracks
+  pub serial : new.serial ≡ old.serial
+  pub all : all_tracks new.volume.tracks ≡ all_tracks old.volume.tracks
+
+-- what is kept stays, or but for one place
+abbrev pub KeepsOn : MountedState → MountedState → Type 0
+KeepsOn old new = new.kept ≡ old.kept
+
+abbrev pub KeepsOthersOn : MountedState → MountedState → KeptPlace → Type 0
+KeepsOthersOn old new place = (at : KeptPlace) → get new.kept at ≡ if is_same_place at place then None else get old.kept at
 
 -- the set that is there, if one is, is changed
-abbrev pub ChangesOn : (DataSet → DataSet) → VolumeState → VolumeState → SetKey → Type 0
-ChangesOn f old new k = WritesOn old new k (option_map f (set_on (Some old) k))
+abbrev pub ChangesOn : (DataSet → DataSet) → MountedState → MountedState → SetKey → Type 0
+ChangesOn f old new k = WritesOn old new k (option_map f (set_on (Some old) k)) × KeepsOn old new
 
 -- The same among all volumes, on that of a serial.
-pub record Writes (old new : List Mounted) (k : SetKey) (serial : List ℕ) (there : Option DataSet) : Type 0 where
+pub record Writes (old new : List MountedState) (k : SetKey) (serial : List ℕ) (there : Option DataSet) : Type 0 where
   pub set : (q : SetKey) (v : List ℕ) →
-      set_on (volume_in new v) q ≡ if same_key q k && bytes_eq v serial then there else set_on (volume_in old v) q
+      set_on (mounted_in new v) q ≡ if same_key q k && bytes_eq v serial then there else set_on (mounted_in old v) q
   pub rooms : map room_of new ≡ map room_of old
 
-abbrev pub Changes : (DataSet → DataSet) → List Mounted → List Mounted → SetKey → List ℕ → Type 0
-Changes f old new k serial = Writes old new k serial (option_map f (set_on (volume_in old serial) k))
+abbrev pub Keeps : List MountedState → List MountedState → Type 0
+Keeps old new = (v : List ℕ) (at : KeptPlace) → kept_on (mounted_in new v) at ≡ kept_on (mounted_in old v) at
+
+abbrev pub KeepsOthers : List MountedState → List MountedState → List ℕ → KeptPlace → Type 0
+KeepsOthers old new serial place = (v : List ℕ) (at : KeptPlace) →
+    kept_on (mounted_in new v) at ≡ if is_same_place at place && bytes_eq v serial then None else kept_on (mounted_in old v) at
+
+abbrev pub Changes : (DataSet → DataSet) → List MountedState → List MountedState → SetKey → List ℕ → Type 0
+Changes f old new k serial = Writes old new k serial (option_map f (set_on (mounted_in old serial) k)) × Keeps old new

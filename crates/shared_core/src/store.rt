@@ -4,7 +4,7 @@ ghost use Rattle.std.specs.Option.{option_copied, option_map};
 ghost use Rattle.vtoc_core.specs.Extents.{tracks_in};
 ghost use Rattle.store_core.specs.Actions.{facts_of};
 ghost use Rattle.world_meaning.specs.Lenses.{seen, seen_set};
-ghost use Rattle.shared_core.specs.Rooms.{Others, grants_growth, grants_new, others_of};
+ghost use Rattle.shared_core.specs.Rooms.{Others, grants_growth, grants_new, kept_place, others_of, spent};
 ghost use Rattle.shared_core.specs.Shown.{data_of, world_of};
 
 use crate::key::world_key;
@@ -16,18 +16,12 @@ use jcl_plan::plan::Record;
 use jname_core::ds_name::DsName;
 use jname_core::key::Key;
 use jname_core::serial::Serial;
+use mount_core::mounted::Mounted;
+use mount_core::place::KeptPlace;
 use plain::listed::Listed;
 use std::alloc::{AllocError, Global};
 use store_core::job_store::{JobStore, RoomFault, SetFacts};
 use vtoc_core::entry::{Extent, SetEntry};
-use vtoc_core::volume::Volume;
-
-/// A volume, and the serial under which it is mounted.
-#[derive(Debug, Drop)]
-pub struct Mounted {
-    pub serial: Serial,
-    pub volume: Volume,
-}
 
 /// The catalog, and the volumes with their sets.
 #[derive(Drop)]
@@ -35,6 +29,17 @@ pub struct SharedStore {
     pub alloc: Global,
     pub catalog: Catalog,
     pub volumes: Listed<Mounted>,
+}
+
+/// Where tracks are kept for a set that is to be made.
+fn kept_place(job: u16, place: &Place) -> KeptPlace
+    ensures { result ≡ kept_place job place.now }
+{
+    KeptPlace {
+        job,
+        step: place.step,
+        dd: place.dd,
+    }
 }
 
 /// How many tracks these extents have.
@@ -67,7 +72,7 @@ impl SharedStore {
         let Some(at) = place_of(self.volumes.as_slice(), serial) else {
             return None;
         };
-        self.volumes.as_slice()[at].volume.find(&key)
+        self.volumes.as_slice()[at].volume().find(&key)
     }
 }
 
@@ -78,7 +83,7 @@ impl JobStore for SharedStore {
 
     ghost rest = { λ job s. others_of job s };
 
-    ghost spent = { λ _ _ rest. rest };
+    ghost spent = { λ job places rest. spent job places rest };
 
     ghost grants_new = { λ job s key place tracks. grants_new job s key place tracks };
 
@@ -121,6 +126,7 @@ impl JobStore for SharedStore {
                 self.alloc,
                 &mut self.volumes,
                 place.serial,
+                &kept_place(job, place),
                 &key,
                 tracks,
                 expires,

@@ -5,41 +5,41 @@ ghost use Rattle.jcl_meaning.specs.Programs.{appended, emptied, grown_by};
 ghost use Rattle.jcl_meaning.specs.Stores.{cut};
 ghost use Rattle.store_core.specs.Actions.{new_set_of};
 ghost use Rattle.shared_core.specs.Rooms.{holds_more, holds_new};
-ghost use Rattle.shared_core.specs.Shown.{set_on, volume_in};
-ghost use Rattle.shared_core.specs.Writes.{Changes, ChangesOn, IsFirstMounted, Writes, WritesOn, is_mounted};
+ghost use Rattle.shared_core.specs.Shown.{set_on, mounted_in};
+ghost use Rattle.shared_core.specs.Writes.{Changes, ChangesOn, IsFirstMounted, Keeps, KeepsOn, KeepsOthers, KeepsOthersOn, Writes, WritesOn, is_mounted};
 
-use crate::store::Mounted;
 use jcl_plan::plan::Record;
 use jname_core::serial::Serial;
+use mount_core::mounted::Mounted;
+use mount_core::place::KeptPlace;
 use plain::listed::Listed;
 use std::alloc::{AllocError, Global};
 use std::mem;
 use store_core::job_store::RoomFault;
 use vtoc_core::entry::SetKey;
 use vtoc_core::fault::VolumeFault;
-use vtoc_core::volume::Volume;
 
 fn position_of(volumes: &[Mounted], serial: Serial) -> Option<usize>
     ensures { result ≡ position (is_mounted serial) volumes.now }
 {
     volumes
         .iter()
-        .position(|m| m.serial.as_slice() == serial.as_slice())
+        .position(|m| m.serial().as_slice() == serial.as_slice())
 }
 
 /// Where the volume of a serial stands, from 0.
 pub(crate) fn place_of(volumes: &[Mounted], serial: Serial) -> Option<usize>
     ensures there { IfSome result (IsFirstMounted volumes.now serial) }
-    ensures missing { IfNone result (volume_in volumes.now serial ≡ None) }
+    ensures missing { IfNone result (mounted_in volumes.now serial ≡ None) }
 {
     position_of(volumes, serial)
 }
 
 /// Takes the records of a set away.
-fn empty_on(volume: &mut Volume, key: &SetKey)
-    ensures { ChangesOn (emptied true) volume.old volume.new key.now }
+fn empty_on(mounted: &mut Mounted, key: &SetKey)
+    ensures { ChangesOn (emptied true) mounted.old mounted.new key.now }
 {
-    match volume.clear(key) {
+    match mounted.clear(key) {
         Ok(()) => {}
         Err(_) => {}
     }
@@ -53,16 +53,16 @@ pub(crate) fn empty_set(alloc: Global, volumes: &mut Listed<Mounted>, serial: Se
         return;
     };
     let mut all = mem::replace(volumes, Listed::empty(alloc)).into_vec();
-    empty_on(&mut all[at].volume, key);
+    empty_on(&mut all[at], key);
     *volumes = Listed::new(all);
 }
 
 /// Puts a record behind those of a set, where it is there. An `Err` changes nothing.
-fn append_on(volume: &mut Volume, key: &SetKey, text: &Record) -> Result<(), AllocError>
-    ensures ok { OnOk result (ChangesOn (appended text.now) volume.old volume.new key.now) }
-    ensures err { OnErr result (volume.new ≡ volume.old) }
+fn append_on(mounted: &mut Mounted, key: &SetKey, text: &Record) -> Result<(), AllocError>
+    ensures ok { OnOk result (ChangesOn (appended text.now) mounted.old mounted.new key.now) }
+    ensures err { OnErr result (mounted.new ≡ mounted.old) }
 {
-    match volume.append(key, *text) {
+    match mounted.append(key, *text) {
         Ok(()) => Ok(()),
         Err(VolumeFault::NameMissing) => Ok(()),
         Err(_) => Err(AllocError),
@@ -84,16 +84,16 @@ pub(crate) fn append_to(
         return Ok(());
     };
     let mut all = mem::replace(volumes, Listed::empty(alloc)).into_vec();
-    let done = append_on(&mut all[at].volume, key, text);
+    let done = append_on(&mut all[at], key, text);
     *volumes = Listed::new(all);
     done
 }
 
 /// Takes a set off its volume.
-fn scratch_on(volume: &mut Volume, key: &SetKey)
-    ensures { WritesOn volume.old volume.new key.now None }
+fn scratch_on(mounted: &mut Mounted, key: &SetKey)
+    ensures { WritesOn mounted.old mounted.new key.now None × KeepsOn mounted.old mounted.new }
 {
-    match volume.scratch(key) {
+    match mounted.scratch(key) {
         Ok(()) => {}
         Err(_) => {}
     }
@@ -106,25 +106,25 @@ pub(crate) fn scratch_set(
     serial: Serial,
     key: &SetKey,
 )
-    ensures { Writes volumes.old volumes.new key.now serial None }
+    ensures { Writes volumes.old volumes.new key.now serial None × Keeps volumes.old volumes.new }
 {
     let Some(at) = place_of(volumes.as_slice(), serial) else {
         return;
     };
     let mut all = mem::replace(volumes, Listed::empty(alloc)).into_vec();
-    scratch_on(&mut all[at].volume, key);
+    scratch_on(&mut all[at], key);
     *volumes = Listed::new(all);
 }
 
 /// Cuts a set to the tracks that its records fill.
-fn trim_on(volume: &mut Volume, key: &SetKey)
-    ensures { ChangesOn cut volume.old volume.new key.now }
+fn trim_on(mounted: &mut Mounted, key: &SetKey)
+    ensures { ChangesOn cut mounted.old mounted.new key.now }
 {
-    let Some(entry) = volume.find(key) else {
+    let Some(entry) = mounted.volume().find(key) else {
         return;
     };
     let used = entry.records.tracks_used();
-    match volume.trim(key, used) {
+    match mounted.trim(key, used) {
         Ok(()) => {}
         Err(_) => {}
     }
@@ -138,63 +138,66 @@ pub(crate) fn trim_set(alloc: Global, volumes: &mut Listed<Mounted>, serial: Ser
         return;
     };
     let mut all = mem::replace(volumes, Listed::empty(alloc)).into_vec();
-    trim_on(&mut all[at].volume, key);
+    trim_on(&mut all[at], key);
     *volumes = Listed::new(all);
 }
 
 /// Makes a set without records where there is none. An `Err` changes nothing.
 fn make_on(
     alloc: Global,
-    volume: &mut Volume,
+    mounted: &mut Mounted,
+    place: &KeptPlace,
     key: &SetKey,
     tracks: u16,
     expires: Option<u32>,
 ) -> Result<(), RoomFault>
-    requires { set_on (Some volume.old) key.now ≡ None }
-    ensures ok { OnOk result (WritesOn volume.old volume.new key.now (Some (new_set_of tracks expires))
-        × (holds_new (Some key.now) (Some volume.old) tracks ≡ true)) }
-    ensures refused { result ≡ Err RoomFault.NotGranted → holds_new (Some key.now) (Some volume.old) tracks ≡ false }
-    ensures err { OnErr result (volume.new ≡ volume.old) }
+    requires { set_on (Some mounted.old) key.now ≡ None }
+    ensures ok { OnOk result (WritesOn mounted.old mounted.new key.now (Some (new_set_of tracks expires)) × KeepsOthersOn mounted.old mounted.new place.now
+        × (holds_new (Some key.now) (Some mounted.old) place.now tracks ≡ true)) }
+    ensures refused { result ≡ Err RoomFault.NotGranted → holds_new (Some key.now) (Some mounted.old) place.now tracks ≡ false }
+    ensures err { OnErr result (mounted.new ≡ mounted.old) }
 {
-    match volume.make_set(alloc, *key, tracks, expires) {
+    match mounted.make(alloc, place, *key, tracks, expires) {
         Ok(()) => Ok(()),
         Err(VolumeFault::NoSpace) => Err(RoomFault::NotGranted),
         Err(_) => Err(RoomFault::Memory),
     }
 }
 
-/// Makes a set without records on the volume of a serial where there is none. An `Err` changes nothing.
+/// Makes a set without records on the volume of a serial where there is none: of the tracks that are kept at a place, or of free ones. An `Err` changes
+/// nothing.
 pub(crate) fn make_set(
     alloc: Global,
     volumes: &mut Listed<Mounted>,
     serial: Serial,
+    place: &KeptPlace,
     key: &SetKey,
     tracks: u16,
     expires: Option<u32>,
 ) -> Result<(), RoomFault>
-    requires { set_on (volume_in volumes.old serial) key.now ≡ None }
-    ensures ok { OnOk result (Writes volumes.old volumes.new key.now serial (Some (new_set_of tracks expires))
-        × (holds_new (Some key.now) (volume_in volumes.old serial) tracks ≡ true)) }
-    ensures refused { result ≡ Err RoomFault.NotGranted → holds_new (Some key.now) (volume_in volumes.old serial) tracks ≡ false }
+    requires { set_on (mounted_in volumes.old serial) key.now ≡ None }
+    ensures ok { OnOk result (Writes volumes.old volumes.new key.now serial (Some (new_set_of tracks expires)) × KeepsOthers volumes.old volumes.new serial place.now
+        × (holds_new (Some key.now) (mounted_in volumes.old serial) place.now tracks ≡ true)) }
+    ensures refused { result ≡ Err RoomFault.NotGranted → holds_new (Some key.now) (mounted_in volumes.old serial) place.now tracks ≡ false }
     ensures err { OnErr result (volumes.new ≡ volumes.old) }
 {
     let Some(at) = place_of(volumes.as_slice(), serial) else {
         return Err(RoomFault::NotGranted);
     };
     let mut all = mem::replace(volumes, Listed::empty(alloc)).into_vec();
-    let made = make_on(alloc, &mut all[at].volume, key, tracks, expires);
+    let made = make_on(alloc, &mut all[at], place, key, tracks, expires);
     *volumes = Listed::new(all);
     made
 }
 
 /// Adds tracks to a set, where it is there. An `Err` changes nothing.
-fn grow_on(volume: &mut Volume, key: &SetKey, tracks: u16) -> Result<(), RoomFault>
-    ensures ok { OnOk result (ChangesOn (grown_by tracks) volume.old volume.new key.now
-        × (holds_more (Some key.now) (Some volume.old) tracks ≡ true)) }
-    ensures refused { result ≡ Err RoomFault.NotGranted → holds_more (Some key.now) (Some volume.old) tracks ≡ false }
-    ensures err { OnErr result (volume.new ≡ volume.old) }
+fn grow_on(mounted: &mut Mounted, key: &SetKey, tracks: u16) -> Result<(), RoomFault>
+    ensures ok { OnOk result (ChangesOn (grown_by tracks) mounted.old mounted.new key.now
+        × (holds_more (Some key.now) (Some mounted.old) tracks ≡ true)) }
+    ensures refused { result ≡ Err RoomFault.NotGranted → holds_more (Some key.now) (Some mounted.old) tracks ≡ false }
+    ensures err { OnErr result (mounted.new ≡ mounted.old) }
 {
-    match volume.grow(key, tracks) {
+    match mounted.grow(key, tracks) {
         Ok(()) => Ok(()),
         Err(VolumeFault::NameMissing) => Ok(()),
         Err(VolumeFault::NoSpace) => Err(RoomFault::NotGranted),
@@ -212,15 +215,15 @@ pub(crate) fn grow_set(
     tracks: u16,
 ) -> Result<(), RoomFault>
     ensures ok { OnOk result (Changes (grown_by tracks) volumes.old volumes.new key.now serial
-        × (holds_more (Some key.now) (volume_in volumes.old serial) tracks ≡ true)) }
-    ensures refused { result ≡ Err RoomFault.NotGranted → holds_more (Some key.now) (volume_in volumes.old serial) tracks ≡ false }
+        × (holds_more (Some key.now) (mounted_in volumes.old serial) tracks ≡ true)) }
+    ensures refused { result ≡ Err RoomFault.NotGranted → holds_more (Some key.now) (mounted_in volumes.old serial) tracks ≡ false }
     ensures err { OnErr result (volumes.new ≡ volumes.old) }
 {
     let Some(at) = place_of(volumes.as_slice(), serial) else {
         return Ok(());
     };
     let mut all = mem::replace(volumes, Listed::empty(alloc)).into_vec();
-    let grown = grow_on(&mut all[at].volume, key, tracks);
+    let grown = grow_on(&mut all[at], key, tracks);
     *volumes = Listed::new(all);
     grown
 }

@@ -2,7 +2,7 @@ use Rattle.std.proofs.Common.{◌≡◌, Some, false, true, sym, subst, ◌∙�
 use Rattle.store_core.specs.Actions.{new_set_of}
 use Rattle.shared_core.specs.Rooms.{holds_new}
 use Rattle.shared_core.proofs.Entries.{ok_by}
-use Rattle.shared_core.proofs.Written.{its_state, writes_in}
+use Rattle.shared_core.proofs.Written.{its_state, keeps_others_in, writes_in}
 use Rattle.shared_core.proofs.volumes.make_set.Goals as goal
 
 pub returns-clause-ok : goal.returns-clause-ok
@@ -11,10 +11,12 @@ returns-clause-ok c =
     ok_by c.make_on-made.result (λ w. (
       writes_in c.args.volumes.now _ _ _ c.args.serial c.in-Some.at _ _ c.args.key.now c.as_slice.ensures (c.into_vec-all.ensures ∙ c.replace.ensures.value) c.index_mut.ensures.value c.new.ensures
           (Some (new_set_of c.args.tracks c.args.expires)) c.in-Some.ensures.there w.0,
-      subst (λ o. holds_new (Some c.args.key.now) o c.args.tracks ≡ true) (sym at) w.1,
+      keeps_others_in c.args.volumes.now _ _ _ c.args.serial c.in-Some.at _ _ c.args.key.now c.as_slice.ensures (c.into_vec-all.ensures ∙ c.replace.ensures.value) c.index_mut.ensures.value c.new.ensures
+          c.args.place.now c.in-Some.ensures.there w.0.serial w.1,
+      subst (λ o. holds_new (Some c.args.key.now) o c.args.place.now c.args.tracks ≡ true) (sym at) w.2,
     )) c.make_on-made.ensures.ok
 
 pub returns-clause-refused : goal.returns-clause-refused
 returns-clause-refused c =
     let at = its_state c.args.volumes.now _ _ _ c.args.serial c.in-Some.at _ _ c.args.key.now c.as_slice.ensures (c.into_vec-all.ensures ∙ c.replace.ensures.value) c.index_mut.ensures.value c.new.ensures c.in-Some.ensures.there in
-    λ h. subst (λ o. holds_new (Some c.args.key.now) o c.args.tracks ≡ false) (sym at) (c.make_on-made.ensures.refused h)
+    λ h. subst (λ o. holds_new (Some c.args.key.now) o c.args.place.now c.args.tracks ≡ false) (sym at) (c.make_on-made.ensures.refused h)

@@ -1,5 +1,5 @@
 use Rattle.std.proofs.Common.{◌≡◌, IfSome, IfNone, None, sym, subst}
-use Rattle.shared_core.specs.Shown.{volume_in}
+use Rattle.shared_core.specs.Shown.{mounted_in}
 use Rattle.shared_core.specs.Writes.{IsFirstMounted}
 use Rattle.shared_core.proofs.Places.{missing, there}
 use Rattle.shared_core.proofs.volumes.place_of.Goals as goal
@@ -10,4 +10,4 @@ returns-clause-there c =
 
 pub returns-clause-missing : goal.returns-clause-missing
 returns-clause-missing c =
-    subst (λ o. IfNone o (volume_in c.args.volumes.now c.args.serial ≡ None)) (sym c.position_of.ensures) (missing c.args.serial c.args.volumes.now)
+    subst (λ o. IfNone o (mounted_in c.args.volumes.now c.args.serial ≡ None)) (sym c.position_of.ensures) (missing c.args.serial c.args.volumes.now)

@@ -1,18 +1,21 @@
 use Rattle.std.proofs.Common.{◌≡◌, Some, true, subst, ap}
 use Rattle.store_core.specs.Actions.{new_set_of}
 use Rattle.world_meaning.specs.Lenses.{seen}
-use Rattle.shared_core.specs.Rooms.{holds_new, others_of}
-use Rattle.shared_core.specs.Shown.{volume_in, world_of}
+use Rattle.shared_core.specs.Rooms.{holds_new, kept_place, others_of}
+use Rattle.shared_core.specs.Writes.{KeepsOthers}
+use Rattle.shared_core.specs.Shown.{mounted_in, world_of}
 use Rattle.shared_core.proofs.Entries.{err_by, ok_by}
-use Rattle.shared_core.proofs.SeenSets.{others_written, seen_written, with_volumes}
+use Rattle.shared_core.proofs.SeenSets.{others_made, seen_written, with_volumes}
 use Rattle.shared_core.proofs.store.SharedStoreJobStore.make.Goals as goal
 
 pub returns-in-Some-clause-ok : goal.returns-in-Some-clause-ok
 returns-in-Some-clause-ok c =
     ok_by c.make_set.result (λ w. (
       seen_written c.args.job c.args.self.now c.make_set.new.volumes c.args.key.now c.in-Some.key c.args.place.now.serial c.in-Some.ensures (Some (new_set_of c.args.tracks c.args.expires)) w.0,
-      others_written c.args.job c.args.self.now c.make_set.new.volumes c.args.key.now c.in-Some.key c.args.place.now.serial c.in-Some.ensures (Some (new_set_of c.args.tracks c.args.expires)) w.0,
-      subst (λ o. holds_new o (volume_in c.args.self.now.volumes c.args.place.now.serial) c.args.tracks ≡ true) c.in-Some.ensures w.1,
+      others_made c.args.job c.args.self.now c.make_set.new.volumes c.args.key.now c.in-Some.key c.args.place.now.serial c.in-Some.ensures c.args.place.now
+      (Some (new_set_of c.args.tracks c.args.expires)) w.0 (subst (KeepsOthers c.args.self.now.volumes c.make_set.new.volumes c.args.place.now.serial) c.kept_place.ensures w.1),
+      subst (λ o. holds_new o (mounted_in c.args.self.now.volumes c.args.place.now.serial) (kept_place c.args.job c.args.place.now) c.args.tracks ≡ true) c.in-Some.ensures
+      (subst (λ at. holds_new (Some c.in-Some.key) (mounted_in c.args.self.now.volumes c.args.place.now.serial) at c.args.tracks ≡ true) c.kept_place.ensures w.2),
     ))
     c.make_set.ensures.ok
 
