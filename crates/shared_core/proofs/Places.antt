@@ -1,13 +1,12 @@
 -- Where the volume of a serial stands in a list.
-use Rattle.std.proofs.Common.{◌≡◌, ◌<◌, ◌≤◌, ℕ, suc, ◌+◌, Bool, true, false, not, nat_lt, cond, map, IfSome, IfNone, List, [], ◌∷◌, Option, Some, None, length, slice_set, refl, sym, subst, ap, ◌∙◌, arith}
+use Rattle.std.proofs.Common.{◌≡◌, ◌<◌, ◌≤◌, ℕ, suc, ◌+◌, Bool, true, false, not, nat_lt, cond, map, IfSome, IfNone, List, [], ◌∷◌, Some, None, length, refl, sym, subst, ap, ◌∙◌, arith}
 use Rattle.std.specs.List.{position, position_or_len}
 use Rattle.std.proofs.lemmas.Bool.{ltb-true, ltb-false, true≢false}
 use Rattle.std.specs.Str.{bytes_eq}
-use Rattle.vtoc_core.specs.Volumes.{VolumeState}
 use Rattle.shared_core.specs.declared.store.Mounted.{Mounted}
 use Rattle.shared_core.specs.Rooms.{room_of}
 use Rattle.shared_core.specs.Shown.{volume_in}
-use Rattle.shared_core.specs.Writes.{IsFirstMounted, holding, is_mounted}
+use Rattle.shared_core.specs.Writes.{IsFirstMounted, is_mounted}
 use Rattle.shared_core.proofs.WorldKeys.{names_same, names_turned}
 
 twice : {Y : Type 0} (b : Bool) (x y r : Y) → cond b x r ≡ cond b x (cond b y r)

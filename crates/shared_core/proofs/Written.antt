@@ -1,5 +1,5 @@
 -- One set of a volume written, and what it is among all volumes.
-use Rattle.std.proofs.Common.{◌≡◌, ◌≢◌, ℕ, ◌+◌, Bool, true, false, ◌&&◌, cond, List, map, Option, Some, None, get_or, slice_set, refl, sym, subst, ap, ◌∙◌, arith}
+use Rattle.std.proofs.Common.{◌≡◌, ◌≢◌, ℕ, Bool, true, false, ◌&&◌, cond, List, Option, Some, None, get_or, slice_set, refl, sym, subst, ap, ◌∙◌, arith}
 use Rattle.std.specs.FinMap.{get, insert, remove}
 use Rattle.std.specs.Option.{option_map}
 use Rattle.std.specs.Str.{bytes_eq}
@@ -12,7 +12,7 @@ use Rattle.vtoc_core.specs.Entries.{Sets, changed, changed_by, same_key}
 use Rattle.vtoc_core.specs.Volumes.{Moves, VolumeState, count_of}
 use Rattle.jcl_meaning.specs.declared.store.DataSet.{DataSet}
 use Rattle.shared_core.specs.declared.store.Mounted.{Mounted}
-use Rattle.shared_core.specs.Rooms.{all_tracks, room_of}
+use Rattle.shared_core.specs.Rooms.{all_tracks}
 use Rattle.shared_core.specs.Shown.{data_of, set_on, volume_in}
 use Rattle.shared_core.specs.Writes.{Changes, ChangesOn, IsFirstMounted, Writes, WritesOn, holding}
 use Rattle.shared_core.proofs.WorldKeys.{keys_same, names_same, set_put, set_taken}

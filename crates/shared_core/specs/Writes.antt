@@ -1,6 +1,5 @@
 -- Where a volume is mounted, and what is written on one volume of all.
 use Rattle.std.specs.Prelude.{◌≡◌, ℕ, ◌<◌, ◌&&◌, Bool, List, length, map, Option, Some, slice_get, slice_set, if◌then◌else◌}
-use Rattle.std.specs.FinMap.{get}
 use Rattle.std.specs.Option.{option_map}
 use Rattle.std.specs.Str.{bytes_eq}
 use Rattle.vtoc_core.specs.declared.entry.SetKey.{SetKey}
@@ -10,7 +9,7 @@ use Rattle.vtoc_core.specs.Volumes.{VolumeState, count_of}
 use Rattle.jcl_meaning.specs.declared.store.DataSet.{DataSet}
 use Rattle.shared_core.specs.declared.store.Mounted.{Mounted}
 use Rattle.shared_core.specs.Rooms.{all_tracks, room_of}
-use Rattle.shared_core.specs.Shown.{data_of, set_on, volume_in}
+use Rattle.shared_core.specs.Shown.{set_on, volume_in}
 
 -- a volume is mounted under a serial
 abbrev pub is_mounted : List ℕ → Mounted → Bool

@@ -1,4 +1,4 @@
-use Rattle.std.proofs.Common.{ap, sym, ◌∙◌}
+use Rattle.std.proofs.Common.{ap}
 use Rattle.jcl_meaning.specs.Stores.{cut}
 use Rattle.vtoc_core.specs.Entries.{with_extents}
 use Rattle.vtoc_core.specs.Extents.{kept_front}
