@@ -1,6 +1,6 @@
 -- An entry that is cut or grows, as a set, and when tracks are granted.
-use Rattle.std.proofs.Common.{◌≡◌, ℕ, ◌+◌, ◌<◌, ◌≤◌, min, nat_le, Bool, true, false, List, ◌++◌, length, Option, Some, None, Result, Ok, Err, OnErr, OnOk, IsSome, refl, sym, ap, subst, ◌∙◌, arith}
-use Rattle.std.proofs.lemmas.Bool.{le-leb, lt-leb}
+use Rattle.std.proofs.Common.{◌≡◌, ℕ, ◌+◌, ◌<◌, ◌≤◌, min, nat_le, true, false, List, ◌++◌, length, Option, Some, None, Result, Ok, Err, OnErr, OnOk, IsSome, refl, ap, ◌∙◌, arith}
+use Rattle.std.proofs.lemmas.Bool.{le-leb}
 use Rattle.std.specs.FinMap.{get}
 use Rattle.extent_core.specs.declared.extent.Extent.{Extent}
 use Rattle.jcl_plan.specs.Tracks.{tracks_for}

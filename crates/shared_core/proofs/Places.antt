@@ -1,5 +1,5 @@
 -- Where the volume of a serial stands in a list.
-use Rattle.std.proofs.Common.{◌≡◌, ◌<◌, ◌≤◌, ℕ, suc, ◌+◌, Bool, true, false, not, nat_lt, cond, map, IfSome, IfNone, List, [], ◌∷◌, Option, Some, None, length, slice_set, refl, sym, subst, ap, ◌∙◌, arith}
+use Rattle.std.proofs.Common.{◌≡◌, ◌<◌, ◌≤◌, ℕ, suc, ◌+◌, Bool, true, false, not, nat_lt, cond, map, IfSome, IfNone, List, [], ◌∷◌, Some, None, length, refl, sym, subst, ap, ◌∙◌, arith}
 use Rattle.std.specs.List.{position, position_or_len}
 use Rattle.std.proofs.lemmas.Bool.{ltb-true, ltb-false, true≢false}
 use Rattle.std.specs.Str.{bytes_eq}

@@ -1,12 +1,12 @@
 -- What a job sees, and what others alone see, once one set or one entry of the catalog is written.
-use Rattle.std.proofs.Common.{◌≡◌, ℕ, Bool, true, false, ◌&&◌, ◌==◌, cond, List, [], ◌∷◌, map, Option, Some, None, refl, sym, ap, ◌∙◌}
+use Rattle.std.proofs.Common.{◌≡◌, ℕ, Bool, true, false, ◌&&◌, ◌==◌, cond, List, [], ◌∷◌, Option, Some, None, refl, sym, ap, ◌∙◌}
 use Rattle.std.proofs.lemmas.Bool.{eq-eqb}
 use Rattle.std.specs.FinMap.{get, insert, remove}
 use Rattle.std.specs.Option.{option_map}
 use Rattle.std.specs.Str.{bytes_eq}
-use Rattle.cat_core.specs.Catalogs.{Contents, with_generation, with_generation_by, without_name_by}
+use Rattle.cat_core.specs.Catalogs.{Contents, with_generation_by, without_name_by}
 use Rattle.group_core.specs.declared.entry.CatEntry.{CatEntry}
-use Rattle.group_core.specs.declared.entry.CatEntry.TheVariants.{Group, Volume}
+use Rattle.group_core.specs.declared.entry.CatEntry.TheVariants.{Group}
 use Rattle.group_core.specs.Entries.{Member}
 use Rattle.group_core.specs.Groups.{GroupState, with_entered, without}
 use Rattle.jname_core.specs.declared.key.Key.{Key}
@@ -25,7 +25,7 @@ use Rattle.vtoc_core.specs.Entries.{same_key as same_world_key}
 use Rattle.world_meaning.specs.Lenses.{WorldStore, seen, seen_set, world_key}
 use Rattle.mount_core.specs.Mounts.{MountedState}
 use Rattle.shared_core.specs.declared.store.SharedStore.{SharedStore}
-use Rattle.shared_core.specs.Rooms.{Others, kept_place, others_of, room_of, set_of_others, spent}
+use Rattle.shared_core.specs.Rooms.{kept_place, others_of, set_of_others, spent}
 use Rattle.shared_core.specs.Shown.{set_on, mounted_in, world_of}
 use Rattle.shared_core.specs.Writes.{Changes, Keeps, KeepsOthers, Writes}
 use Rattle.shared_core.proofs.WorldKeys.{name_put, name_taken}

@@ -1,5 +1,5 @@
 -- One set of a volume written, and what it is among all volumes.
-use Rattle.std.proofs.Common.{◌≡◌, ◌≢◌, ℕ, ◌+◌, Bool, true, false, ◌&&◌, cond, List, map, Option, Some, None, get_or, slice_set, refl, sym, subst, ap, ◌∙◌, arith}
+use Rattle.std.proofs.Common.{◌≡◌, ◌≢◌, ℕ, Bool, true, false, ◌&&◌, cond, List, Option, Some, None, get_or, slice_set, refl, sym, subst, ap, ◌∙◌, arith}
 use Rattle.std.specs.FinMap.{get, insert, remove}
 use Rattle.std.specs.Option.{option_map}
 use Rattle.std.specs.Str.{bytes_eq}
@@ -14,7 +14,7 @@ use Rattle.jcl_meaning.specs.declared.store.DataSet.{DataSet}
 use Rattle.mount_core.specs.declared.place.KeptPlace.{KeptPlace}
 use Rattle.mount_core.specs.Kept.{Kept}
 use Rattle.mount_core.specs.Mounts.{MountedState}
-use Rattle.shared_core.specs.Rooms.{all_tracks, is_same_place, room_of}
+use Rattle.shared_core.specs.Rooms.{all_tracks, is_same_place}
 use Rattle.shared_core.specs.Shown.{data_of, kept_on, mounted_in, set_on}
 use Rattle.shared_core.specs.Writes.{Changes, ChangesOn, IsFirstMounted, Keeps, KeepsOn, KeepsOthers, KeepsOthersOn, Writes, WritesOn}
 use Rattle.shared_core.proofs.WorldKeys.{keys_same, names_same, set_put, set_taken}
@@ -25,11 +25,14 @@ nothing_changed true f x r n h = h refl ∙ n ∙ sym (ap (option_map f) n)
 nothing_changed false f x r n h = refl
 
 pub not_there_on : (f : DataSet → DataSet) (m : MountedState) (k : SetKey) → get m.volume.sets k ≡ None → ChangesOn f m m k
-not_there_on f m k n = (record {
-  set = λ q. nothing_changed (same_key q k) f (set_on (Some m) k) (set_on (Some m) q) (ap (option_map data_of) n) (λ e. ap (set_on (Some m)) (keys_same q k e));
-  serial = refl;
-  all = refl;
-}, refl)
+not_there_on f m k n = (
+  record {
+    set = λ q. nothing_changed (same_key q k) f (set_on (Some m) k) (set_on (Some m) q) (ap (option_map data_of) n) (λ e. ap (set_on (Some m)) (keys_same q k e));
+    serial = refl;
+    all = refl;
+  },
+  refl,
+)
 
 pub at_its_place : (volumes : List MountedState) (q k : SetKey) (v serial : List ℕ) → (same_key q k && bytes_eq v serial) ≡ true →
     set_on (mounted_in volumes v) q ≡ set_on (mounted_in volumes serial) k
@@ -42,12 +45,15 @@ at_its_place volumes q k v serial e = parted (same_key q k) (bytes_eq v serial) 
 
 pub not_there : (f : DataSet → DataSet) (volumes : List MountedState) (k : SetKey) (serial : List ℕ) → set_on (mounted_in volumes serial) k ≡ None →
     Changes f volumes volumes k serial
-not_there f volumes k serial n = (record {
-  set = λ q v.
-      nothing_changed (same_key q k && bytes_eq v serial) f (set_on (mounted_in volumes serial) k) (set_on (mounted_in volumes v) q) n
-      (at_its_place volumes q k v serial);
-  rooms = refl;
-}, λ v at. refl)
+not_there f volumes k serial n = (
+  record {
+    set = λ q v.
+        nothing_changed (same_key q k && bytes_eq v serial) f (set_on (mounted_in volumes serial) k) (set_on (mounted_in volumes v) q) n
+        (at_its_place volumes q k v serial);
+    rooms = refl;
+  },
+  λ v at. refl,
+)
 
 -- the map with one entry put, taken out or changed
 shown_if : (b : Bool) (x r : Option SetEntry) → option_map data_of (cond b x r) ≡ cond b (option_map data_of x) (option_map data_of r)
@@ -87,11 +93,14 @@ module _ (old new : MountedState) (k : SetKey) (serial : new.serial ≡ old.seri
 
   pub changed_on : (f : SetEntry → SetEntry) (g : DataSet → DataSet) → new.volume.sets ≡ changed old.volume.sets k f →
       ((e : SetEntry) → get old.volume.sets k ≡ Some e → data_of (f e) ≡ g (data_of e)) → new.kept ≡ old.kept → ChangesOn g old new k
-  changed_on f g p h kept = (record {
-    set = λ q. ap (λ (m : Sets). option_map data_of (get m q)) p ∙ changed_step f g (get old.volume.sets k) refl h q;
-    serial = serial;
-    all = all;
-  }, kept)
+  changed_on f g p h kept = (
+    record {
+      set = λ q. ap (λ (m : Sets). option_map data_of (get m q)) p ∙ changed_step f g (get old.volume.sets k) refl h q;
+      serial = serial;
+      all = all;
+    },
+    kept,
+  )
 
 -- tracks that move between free, aside and in sets are as many
 module _ (n : ℕ) (old new : List Track) where

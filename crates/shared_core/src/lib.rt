@@ -3,6 +3,8 @@
 
 pub mod key;
 pub mod laws;
+#[cfg(test)]
+mod refused;
 pub mod store;
 #[cfg(test)]
 mod tests;

@@ -1,7 +1,7 @@
 //! What jobs do to one store, each to what it sees.
 ghost use Rattle.std.specs.Prelude.{◌≤◌, ◌<◌};
 
-use crate::store::{Mounted, SharedStore};
+use crate::store::SharedStore;
 use cat_core::catalog::Catalog;
 use group_core::group::Rolled;
 use jcl_meaning::state::Place;
@@ -9,13 +9,13 @@ use jname_core::ds_name::{DsName, read_ds_name};
 use jname_core::key::{Key, Sign};
 use jname_core::name8::Name8;
 use jname_core::serial::Serial;
+use mount_core::mounted::Mounted;
 use plain::listed::Listed;
 use std::alloc::{AllocError, Global};
 use std::process::Abort;
 use std::test::Fail;
 use store_core::job_store::{JobStore, RoomFault, SetFacts};
 use vtoc_core::entry::Extent;
-use vtoc_core::volume::Volume;
 
 fn name(text: &str) -> Result<DsName, Fail> {
     Ok(read_ds_name(text.as_bytes())?)
@@ -42,14 +42,8 @@ fn store(alloc: Global) -> Result<SharedStore, Fail> {
         combed[usize::from(i)] = one_at(2 * i + 1);
     }
     let mut volumes = Listed::empty(alloc);
-    volumes.push(Mounted {
-        serial: serial("111111")?,
-        volume: Volume::new(alloc, 21, &holed)?,
-    })?;
-    volumes.push(Mounted {
-        serial: serial("222222")?,
-        volume: Volume::new(alloc, 40, &combed)?,
-    })?;
+    volumes.push(Mounted::new(alloc, serial("111111")?, 21, &holed)?)?;
+    volumes.push(Mounted::new(alloc, serial("222222")?, 40, &combed)?)?;
     Ok(SharedStore {
         alloc,
         catalog: Catalog::new(alloc),

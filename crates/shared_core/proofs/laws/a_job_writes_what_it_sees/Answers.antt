@@ -1,12 +1,11 @@
-use Rattle.std.proofs.Common.{◌≡◌, ℕ, ◌==◌, Bool, true, false, cond, List, Option, None, refl, ap, sym, ◌∙◌}
+use Rattle.std.proofs.Common.{◌≡◌, ℕ, ◌==◌, Bool, true, false, cond, List, Option, None, refl, ap}
 use Rattle.std.proofs.lemmas.Bool.{eqb-true}
 use Rattle.jcl_meaning.specs.declared.store.DataSet.{DataSet}
 use Rattle.vtoc_core.specs.declared.entry.SetKey.{SetKey}
 use Rattle.vtoc_core.specs.declared.entry.SetKey.TheVariants.{Named, Temporary, Unnamed}
-use Rattle.world_meaning.specs.Lenses.{WorldStore, put_back, seen, written_set}
-use Rattle.shared_core.specs.Rooms.{Others, others_of, set_of_others}
+use Rattle.world_meaning.specs.Lenses.{WorldStore, seen, written_set}
+use Rattle.shared_core.specs.Rooms.{Others, set_of_others}
 use Rattle.shared_core.specs.Shown.{world_of}
-use Rattle.shared_core.specs.declared.store.SharedStore.{SharedStore}
 use Rattle.shared_core.proofs.laws.a_job_writes_what_it_sees.Goals as goal
 
 -- what is the job's own, and what is not

@@ -4,7 +4,7 @@ use Rattle.vtoc_core.specs.Entries.{with_records}
 use Rattle.vtoc_core.specs.Volumes.{VolumeState}
 use Rattle.mount_core.specs.Mounts.{MountedState}
 use Rattle.shared_core.specs.Rooms.{all_tracks}
-use Rattle.shared_core.proofs.Written.{changed_on, not_there_on}
+use Rattle.shared_core.proofs.Written.{changed_on}
 use Rattle.shared_core.proofs.volumes.empty_on.Goals as goal
 
 pub returns-in-Ok : goal.returns-in-Ok

@@ -1,4 +1,4 @@
-use Rattle.std.proofs.Common.{◌≡◌, Some, true, ap, subst}
+use Rattle.std.proofs.Common.{◌≡◌, true, ap, subst}
 use Rattle.jcl_meaning.specs.Programs.{grown_by}
 use Rattle.shared_core.specs.Rooms.{holds_more, others_of}
 use Rattle.shared_core.specs.Shown.{mounted_in}
