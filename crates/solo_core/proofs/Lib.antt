@@ -1,5 +1,4 @@
-mod Backs
-mod Moves
-mod Passes
+mod Answered
+mod Carried
 mod Runs
 mod Starts

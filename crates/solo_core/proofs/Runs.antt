@@ -10,32 +10,29 @@ use Rattle.solo_core.specs.declared.runner.Runner.{Runner}
 use Rattle.jcl_meaning.specs.Acts.{act}
 use Rattle.jcl_meaning.specs.Agendas.{Action, Take, Ask, Receive, Dispose, Left, disposes_from, left_by, lefts_from, lefts_in, moves_from, step_actions, steps_from, takes_from}
 use Rattle.jcl_meaning.specs.Plans.{passes}
-use Rattle.solo_core.specs.Runners.{Acts, Does, fixed_by, state_by}
+use Rattle.disp_core.specs.Courses.{fixed_by}
+use Rattle.solo_core.specs.Runners.{Acts, Does, done_by, ran_by, state_by}
+use Rattle.solo_core.proofs.Carried.{still}
 use Rattle.jcl_meaning.specs.Solo.{Met, Ran, is_clean, later, met_first, run}
 use Rattle.jcl_meaning.specs.States.{Fixed, State, no_fault}
 
 -- no action
 pub acts_none : (a : Runner) → Acts [] a a
 unfolding run
-acts_none a = record { state = refl; lines = sym (append-nil a.lines); clean = still a.clean; fixed = refl; volumes = refl }
-  where
-    still : (b : Bool) → b ≡ (b && true)
-    still true = refl
-    still false = refl
+acts_none a = record { state = refl; lines = sym (append-nil a.course.lines); clean = still a.clean; keeps = record { given = refl; volumes = refl } }
 
 clean_one : (m : Option Fault) → (length (met_first m []) == 0) ≡ no_fault m
 clean_one None = refl
 clean_one (Some f) = refl
 
 -- one action
-pub acts_one : (x : Action) (a b : Runner) → Does (act (fixed_by a) x (state_by a)) a b → Acts (x ∷ []) a b
+pub acts_one : (x : Action) (a b : Runner) → Does x a b → Acts (x ∷ []) a b
 unfolding run
 acts_one x a b h = record {
   state = h.state;
-  lines = h.lines ∙ ap (λ l. a.lines ++ l) (sym (append-nil (act (fixed_by a) x (state_by a)).lines));
-  clean = h.clean ∙ ap (λ c. a.clean && c) (sym (clean_one (act (fixed_by a) x (state_by a)).meets));
-  fixed = h.fixed;
-  volumes = h.volumes;
+  lines = h.lines ∙ ap (λ l. a.course.lines ++ l) (sym (append-nil (done_by a x).lines));
+  clean = h.clean ∙ ap (λ c. a.clean && c) (sym (clean_one (done_by a x).meets));
+  keeps = h.keeps;
 }
 
 -- a run of more actions
@@ -71,17 +68,16 @@ run_clean-append f (x ∷ xs) ys s =
 -- these actions, and then those
 pub acts_more : (xs ys : List Action) (a b c : Runner) → Acts xs a b → Acts ys b c → Acts (xs ++ ys) a c
 acts_more xs ys a b c p q =
-    let f : Fixed = fixed_by a in
+    let f : Fixed = fixed_by a.given in
     let s : State = state_by a in
-    let moved : run (fixed_by b) ys (state_by b) ≡ run f ys (run f xs s).state = λ i. run (p.fixed i) ys (p.state i) in
+    let moved : ran_by b ys ≡ run f ys (run f xs s).state = λ i. run (fixed_by (p.keeps.given i)) ys (p.state i) in
     record {
       state = q.state ∙ ap (λ (r : Ran). r.state) moved ∙ sym (run_state-append f xs ys s);
       lines = q.lines ∙ (λ i. p.lines i ++ (moved i).lines)
-          ∙ append_assoc a.lines (run f xs s).lines (run f ys (run f xs s).state).lines ∙ ap (λ l. a.lines ++ l) (sym (run_lines-append f xs ys s));
+          ∙ append_assoc a.course.lines (run f xs s).lines (run f ys (run f xs s).state).lines ∙ ap (λ l. a.course.lines ++ l) (sym (run_lines-append f xs ys s));
       clean = q.clean ∙ (λ i. p.clean i && is_clean (moved i))
           ∙ sym (and_assoc a.clean (is_clean (run f xs s)) (is_clean (run f ys (run f xs s).state))) ∙ ap (λ x. a.clean && x) (sym (run_clean-append f xs ys s));
-      fixed = q.fixed ∙ p.fixed;
-      volumes = q.volumes ∙ p.volumes;
+      keeps = record { given = q.keeps.given ∙ p.keeps.given; volumes = q.keeps.volumes ∙ p.keeps.volumes };
     }
 
 -- one DD more

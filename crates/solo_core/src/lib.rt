@@ -1,15 +1,15 @@
 //! A job alone, carried out: the plain runners, by its programs or along given outcomes.
 #![tactic(auto)]
 
-mod ends;
-mod requests;
 mod runner;
 mod steps;
 
-ghost use Rattle.std.specs.Prelude.{◌≡◌, IfOk};
-ghost use Rattle.jcl_meaning.specs.Solo.{IsRun, solo_of, solo_path_of};
+ghost use Rattle.std.specs.Prelude.{IfOk, true};
+ghost use Rattle.jcl_meaning.specs.Agendas.{agenda};
+ghost use Rattle.jcl_meaning.specs.Solo.{IsRun, fixed_of, fresh, run, solo_of, solo_path_of};
 
 use crate::runner::Runner;
+use disp_core::course::{Course, Given};
 use jcl_meaning::program::{SoloProgram, endings};
 use jcl_meaning::solo::{SoloAnswers, SoloRun};
 use jcl_meaning::state::{Place, nothing_own};
@@ -19,7 +19,58 @@ use jcl_plan::outcome::Outcome;
 use jcl_plan::plan::JobPlan;
 use plain::listed::Listed;
 use std::alloc::{AllocError, Global};
+use store_core::alone::Alone;
 use store_core::meanings::meanings_of;
+
+/// A job alone, with these programs and answers, of which each list is used up in order.
+fn run<'a>(
+    alloc: Global,
+    plan: &'a JobPlan,
+    store: &'a SoloStore,
+    places: &'a [Place],
+    programs: &[SoloProgram],
+    outcomes: &'a [Outcome],
+    cancels: &'a [Option<u32>],
+    grants: &'a [bool],
+    date: Day,
+) -> Result<SoloRun, AllocError>
+    ensures { IfOk result (λ r. IsRun r store.now (run (fixed_of plan.now store.now places.now date) (agenda plan.now programs.now)
+        (fresh store.now (record { outcomes = outcomes.now; cancels = cancels.now; grants = grants.now; primary = true })))) }
+{
+    let meanings = meanings_of(alloc, plan, store)?;
+    let mut runner = Runner {
+        alloc,
+        given: Given {
+            job_tests: plan.tests.as_slice(),
+            volumes: store.volumes.as_slice(),
+            places,
+            meanings: meanings.as_slice(),
+            date,
+        },
+        outcomes,
+        cancels,
+        grants,
+        store: Alone {
+            alloc,
+            store: store.copy_of(alloc)?,
+            growth: true,
+        },
+        course: Course {
+            own: nothing_own(alloc),
+            lines: Listed::empty(alloc),
+        },
+        clean: true,
+    };
+    runner.run_agenda(plan, programs)?;
+    let clean = runner.clean;
+    let course = runner.course;
+    let alone = runner.store;
+    Ok(SoloRun {
+        lines: course.lines,
+        store: alone.store,
+        clean,
+    })
+}
 
 /// The solo meaning of a job: the lines that it writes alone, after its admission, in this store, with these places for its sets to be
 /// made, these programs, answers and date.
@@ -35,28 +86,17 @@ pub fn solo(
     ensures { IfOk result (λ r. IsRun r store.now (solo_of plan.now store.now places.now programs.now answers.now date)) }
 {
     let outcomes = endings(alloc, plan.steps.as_slice(), programs)?;
-    let meanings = meanings_of(alloc, plan, store)?;
-    let mut runner = Runner {
+    run(
         alloc,
-        job_tests: plan.tests.as_slice(),
-        volumes: store.volumes.as_slice(),
+        plan,
+        store,
         places,
-        meanings: meanings.as_slice(),
+        programs,
+        outcomes.as_slice(),
+        answers.cancels.as_slice(),
+        answers.grants.as_slice(),
         date,
-        outcomes: outcomes.as_slice(),
-        cancels: answers.cancels.as_slice(),
-        grants: answers.grants.as_slice(),
-        store: store.copy_of(alloc)?,
-        own: nothing_own(alloc),
-        lines: Listed::empty(alloc),
-        clean: true,
-    };
-    runner.run_agenda(plan, programs)?;
-    Ok(SoloRun {
-        lines: runner.lines,
-        store: runner.store,
-        clean: runner.clean,
-    })
+    )
 }
 
 /// The solo meaning of a job along given outcomes, one a step: those of steps that do not run are not looked at, and a step past the end of
@@ -71,26 +111,5 @@ pub fn solo_path(
 ) -> Result<SoloRun, AllocError>
     ensures { IfOk result (λ r. IsRun r store.now (solo_path_of plan.now store.now places.now outcomes.now date)) }
 {
-    let meanings = meanings_of(alloc, plan, store)?;
-    let mut runner = Runner {
-        alloc,
-        job_tests: plan.tests.as_slice(),
-        volumes: store.volumes.as_slice(),
-        places,
-        meanings: meanings.as_slice(),
-        date,
-        outcomes,
-        cancels: &[],
-        grants: &[],
-        store: store.copy_of(alloc)?,
-        own: nothing_own(alloc),
-        lines: Listed::empty(alloc),
-        clean: true,
-    };
-    runner.run_agenda(plan, &[])?;
-    Ok(SoloRun {
-        lines: runner.lines,
-        store: runner.store,
-        clean: runner.clean,
-    })
+    run(alloc, plan, store, places, &[], outcomes, &[], &[], date)
 }

@@ -1,343 +1,195 @@
-//! A job on its way: what each action of its agenda does.
-ghost use Rattle.std.specs.Prelude.{◌≡◌, ◌<◌, ◌∷◌, [], OnOk, IfSome, IfNone, length, remove};
-ghost use Rattle.solo_core.specs.Runners.{Does, GivesBack, fixed_by, is_received, state_by, take_of, take_of_key, take_of_set};
-ghost use Rattle.jcl_meaning.specs.Resolutions.{meaning_at, place_of};
-ghost use Rattle.jcl_meaning.specs.States.{if_runs};
-ghost use Rattle.jcl_meaning.specs.Stores.{store_of};
-ghost use Rattle.jcl_meaning.specs.TakeActs.{decided, decision_at, new_dd, refused, started, store_made, take_word, takes, takes_no_set, takes_set, target_at};
-ghost use Rattle.jcl_meaning.specs.Takes.{primary_of, without_passed};
-ghost use Rattle.jcl_meaning.specs.declared.take.Decision.TheVariants.{Takes};
+//! A job on its way: each action of its agenda carried out.
+ghost use Rattle.std.specs.Prelude.{◌≡◌, ◌<◌, ◌&&◌, true, OnOk};
+ghost use Rattle.jcl_plan.specs.declared.outcome.Outcome.TheVariants as outcome;
+ghost use Rattle.jcl_meaning.specs.Agendas.{Ask, Dispose, Finish, Left, Over, Receive, Start, Take};
+ghost use Rattle.jcl_meaning.specs.RequestActs.{head_or};
+ghost use Rattle.jcl_meaning.specs.States.{cancel_due, no_fault, others};
+ghost use Rattle.solo_core.specs.Runners.{Does};
 
-use jcl_meaning::history::{abended, fate, is_run, some_satisfied};
-use jcl_meaning::names::{is_temporary, same_key};
-use jcl_meaning::state::{DdState, DdVolume, KeyMeaning, Own, Passed, Place, Resolution, TakenSet};
-use jcl_meaning::store::{DataSet, SoloStore};
-use jcl_meaning::take::{Decision, How, Target};
-use jcl_plan::day::Day;
-use jcl_plan::entry::JobLine;
+use disp_core::course::{Course, Given};
+use disp_core::{ask, dispose, request, step, take};
+use jcl_meaning::program::Move;
 use jcl_plan::fault::Fault;
-use jcl_plan::outcome::Outcome;
-use jcl_plan::plan::{DdKind, DdPlan, SetPlan, Space, StepPlan, Test};
-use jcl_plan::words::TakeWord;
-use jname_core::key::Key;
-use jname_core::name8::Name8;
-use jname_core::serial::Serial;
-use plain::listed::Listed;
+use jcl_plan::outcome::{Code, Outcome};
+use jcl_plan::plan::{DdPlan, StepPlan};
 use std::alloc::{AllocError, Global};
-use std::mem;
-use store_core::disposition::{back_word, is_deleted_back};
-use store_core::meanings::meaning_at;
-use store_core::store::{catalogued, is_there, put_set, scratch};
-use store_core::take::{
-    day_of, decide, first_passed, is_known, looked_at, taken, target_of, where_of,
-};
+use store_core::alone::Alone;
+
+/// The number of a job that has its store alone.
+const JOB: u16 = 1;
 
 /// A job on its way: what is fixed for it, the answers that are left, and what it has done.
 #[derive(Drop)]
 pub(crate) struct Runner<'a> {
     pub(crate) alloc: Global,
-    pub(crate) job_tests: &'a [Test],
-    pub(crate) volumes: &'a [Serial],
-    pub(crate) places: &'a [Place],
-    pub(crate) meanings: &'a [KeyMeaning],
-    pub(crate) date: Day,
+    pub(crate) given: Given<'a>,
     pub(crate) outcomes: &'a [Outcome],
     pub(crate) cancels: &'a [Option<u32>],
     pub(crate) grants: &'a [bool],
-    pub(crate) store: SoloStore,
-    pub(crate) own: Own,
-    pub(crate) lines: Listed<JobLine>,
+    pub(crate) store: Alone,
+    pub(crate) course: Course,
     pub(crate) clean: bool,
 }
 
+/// Answers without the first.
+fn others<T>(answers: &[T]) -> &[T]
+    ensures { result.now ≡ others answers.now }
+{
+    match answers.split_first() {
+        None => answers,
+        Some((_, others)) => others,
+    }
+}
+
+/// Whether a cancel stands in the place of the next program line.
+fn cancel_due(cancels: &[Option<u32>], lines: usize) -> bool
+    ensures { result ≡ cancel_due cancels.now lines }
+{
+    match cancels.first() {
+        Some(Some(after)) => *after as usize == lines,
+        Some(None) => false,
+        None => false,
+    }
+}
+
+/// The outcome that is given for a step.
+fn next_outcome(outcomes: &[Outcome]) -> Outcome
+    ensures { result ≡ head_or (outcome.Code 0) outcomes.now }
+{
+    match outcomes.first() {
+        None => Outcome::Code(Code::zero()),
+        Some(outcome) => *outcome,
+    }
+}
+
+/// Whether the next growth is granted; a missing answer grants it.
+fn next_grant(grants: &[bool]) -> bool
+    ensures { result ≡ head_or true grants.now }
+{
+    match grants.first() {
+        None => true,
+        Some(granted) => *granted,
+    }
+}
+
 impl<'a> Runner<'a> {
+    /// Enters the fault that an action met, if it met one.
+    fn met(&mut self, fault: Option<Fault>)
+        ensures { self.new ≡ record self.old { clean = self.old.clean && no_fault fault } }
+    {
+        if fault.is_some() {
+            self.clean = false;
+        }
+    }
+
     /// A step begins, or is passed over.
     pub(crate) fn begin(&mut self, n: usize, step: &StepPlan) -> Result<(), AllocError>
-        ensures { OnOk result (Does (started (fixed_by self.old) n step.now (state_by self.old)) self.old self.new) }
+        ensures { OnOk result (Does (Start n step.now) self.old self.new) }
     {
-        let ended = self.own.ended.as_slice();
-        let fate = fate(
-            self.own.faulted,
-            some_satisfied(ended, self.job_tests),
-            step.after_abend,
-            abended(ended),
-            some_satisfied(ended, step.tests.as_slice()),
-        );
-        self.own.runs = is_run(fate);
-        self.own.over = None;
-        self.own.dds.clear();
-        self.own.due = None;
-        self.own.lines = 0;
-        self.lines.push(JobLine::Step {
-            step: n,
-            name: step.name,
-            procedure_step: step.procedure_step,
-            fate,
-        })?;
+        step::begin(&self.given, &mut self.course, n, step)?;
         Ok(())
     }
 
     /// A DD taken. A step that does not run passes it over.
     pub(crate) fn take(&mut self, n: usize, dd: usize, d: &DdPlan) -> Result<(), AllocError>
-        ensures { OnOk result (Does (take_of self.old n dd d.now) self.old self.new) }
+        ensures { OnOk result (Does (Take n dd d.now) self.old self.new) }
     {
-        if !self.own.runs {
-            return Ok(());
-        }
-        match &d.kind {
-            DdKind::Sysout(class) => self.take_no_set(dd, &d.name, TakeWord::Sysout(*class)),
-            DdKind::Dummy => self.take_no_set(dd, &d.name, TakeWord::Dummy),
-            DdKind::Cards(cards) => self.take_no_set(dd, &d.name, TakeWord::Cards(cards.len())),
-            DdKind::Set(p) => self.take_set(n, dd, &d.name, p),
-        }
-    }
-
-    fn new_dd(&self, dd: usize, name: &Option<Name8>, taken: Option<TakenSet>) -> DdState
-        ensures { result ≡ new_dd dd name.now taken }
-    {
-        DdState {
-            number: dd,
-            name: *name,
-            taken,
-            member: 0,
-            position: 0,
-            written: false,
-            spooled: Listed::empty(self.alloc),
-        }
-    }
-
-    fn take_no_set(
-        &mut self,
-        dd: usize,
-        name: &Option<Name8>,
-        word: TakeWord,
-    ) -> Result<(), AllocError>
-        ensures { OnOk result (Does (takes_no_set dd name.now word (state_by self.old)) self.old self.new) }
-    {
-        let line = JobLine::Take {
+        let taken = take::take(
+            self.alloc,
+            &mut self.store,
+            JOB,
+            &self.given,
+            &mut self.course,
+            n,
             dd,
-            name: *name,
-            word,
-        };
-        let state = self.new_dd(dd, name, None);
-        self.own.dds.push(state)?;
-        self.lines.push(line)?;
+            d,
+        )?;
+        self.met(taken.meets);
         Ok(())
     }
 
-    fn take_set(
-        &mut self,
-        n: usize,
-        dd: usize,
-        name: &Option<Name8>,
-        p: &SetPlan,
-    ) -> Result<(), AllocError>
-        ensures { OnOk result (Does (take_of_set self.old n dd name.now p.now) self.old self.new) }
+    /// The end of a step, which uses its answers up.
+    pub(crate) fn finish(&mut self, n: usize) -> Result<(), AllocError>
+        ensures { OnOk result (Does (Finish n) self.old self.new) }
     {
-        match meaning_at(self.meanings, n, dd) {
-            Resolution::Fails(fault) => self.refuse(n, dd, fault),
-            Resolution::Means(key) => self.take_key(n, dd, name, p, &key),
-        }
+        let outcome = next_outcome(self.outcomes);
+        let cancelled = cancel_due(self.cancels, self.course.own.lines);
+        step::finish(self.alloc, &mut self.course, n, &outcome, cancelled)?;
+        self.outcomes = others(self.outcomes);
+        self.cancels = others(self.cancels);
+        Ok(())
     }
 
-    fn target(&self, n: usize, dd: usize, p: &SetPlan, key: &Key) -> Target
-        ensures { result ≡ target_at (fixed_by self.now) n dd p.now key.now (state_by self.now) }
+    /// The disposition of a DD. A step that does not run passes it over.
+    pub(crate) fn dispose(&mut self, n: usize, dd: usize, d: &DdPlan) -> Result<(), AllocError>
+        requires { 0 < dd }
+        ensures { OnOk result (Does (Dispose n dd d.now) self.old self.new) }
     {
-        let passed = self.own.passed.as_slice();
-        target_of(
-            p.status,
-            where_of(&p.volume, &self.store, passed, self.own.volumes.as_slice()),
-            first_passed(passed, key),
-            catalogued(&self.store, key),
-            place_of(self.places, n, dd),
-        )
-    }
-
-    fn decision(&self, p: &SetPlan, key: &Key, target: &Target) -> Decision
-        ensures { result ≡ decision_at (fixed_by self.now) p.now key.now (state_by self.now) target.now }
-    {
-        let serial = looked_at(target);
-        let known = is_known(self.volumes, &serial);
-        let there = is_there(&self.store, key, &serial);
-        let space = p.space.is_some();
-        decide(target, known, there, space, true)
-    }
-
-    fn take_key(
-        &mut self,
-        n: usize,
-        dd: usize,
-        name: &Option<Name8>,
-        p: &SetPlan,
-        key: &Key,
-    ) -> Result<(), AllocError>
-        ensures { OnOk result (Does (take_of_key self.old n dd name.now p.now key.now) self.old self.new) }
-    {
-        let target = self.target(n, dd, p, key);
-        match self.decision(p, key, &target) {
-            Decision::Refuses(fault) => self.refuse(n, dd, fault),
-            Decision::Takes(serial, how) => self.accept(n, dd, name, p, key, serial, how),
-        }
-    }
-
-    /// A set taken.
-    fn accept(
-        &mut self,
-        n: usize,
-        dd: usize,
-        name: &Option<Name8>,
-        p: &SetPlan,
-        key: &Key,
-        serial: Serial,
-        how: How,
-    ) -> Result<(), AllocError>
-        ensures { OnOk result (Does (decided (fixed_by self.old) n dd name.now p.now key.now (state_by self.old) (Takes serial how)) self.old self.new) }
-    {
-        let line = JobLine::Take {
+        let meets = dispose::dispose(
+            &mut self.store,
+            JOB,
+            &self.given,
+            &mut self.course,
+            n,
             dd,
-            name: *name,
-            word: take_word(how, serial),
-        };
-        let set = taken(key, serial, how);
-        self.make(p, key, serial, how)?;
-        if is_received(how) {
-            drop_passed(&mut self.own.passed, key);
-        }
-        self.own.volumes.push(DdVolume {
-            step: n,
+            d,
+        )?;
+        self.met(meets);
+        Ok(())
+    }
+
+    /// The job's end for what a DD passed and no DD received.
+    pub(crate) fn leave(&mut self, n: usize, dd: usize, d: &DdPlan) -> Result<(), AllocError>
+        ensures { OnOk result (Does (Left n dd d.now) self.old self.new) }
+    {
+        let meets = dispose::leave(
+            &mut self.store,
+            JOB,
+            &self.given,
+            &mut self.course,
+            n,
             dd,
-            serial,
-        })?;
-        let state = self.new_dd(dd, name, Some(set));
-        self.own.dds.push(state)?;
-        self.lines.push(line)?;
+            d,
+        )?;
+        self.met(meets);
         Ok(())
     }
 
-    /// Puts a set that is made on its volume.
-    fn make(&mut self, p: &SetPlan, key: &Key, serial: Serial, how: How) -> Result<(), AllocError>
-        ensures store { OnOk result (store_of self.new.store ≡ store_made how (fixed_by self.old) p.now key.now serial (store_of self.old.store)) }
-        ensures others { OnOk result (self.new ≡ record self.old { store = self.new.store }) }
-        ensures volumes { OnOk result (self.new.store.volumes ≡ self.old.store.volumes) }
+    /// The job's end.
+    pub(crate) fn end(&mut self) -> Result<(), AllocError>
+        ensures { OnOk result (Does Over self.old self.new) }
     {
-        match how {
-            How::Made => {
-                let set = DataSet {
-                    tracks: u64::from(primary_of(&p.space)),
-                    expires: day_of(p.expiry, is_temporary(key), self.date),
-                    records: Listed::empty(self.alloc),
-                };
-                put_set(self.alloc, &mut self.store, key, serial, set)
-            }
-            How::Found => Ok(()),
-            How::FoundByCatalog => Ok(()),
-            How::Received { .. } => Ok(()),
-        }
-    }
-
-    /// A fault ends the job's running: the sets that the step had taken are given back.
-    fn refuse(&mut self, n: usize, dd: usize, fault: Fault) -> Result<(), AllocError>
-        ensures { OnOk result (Does (refused n dd fault (state_by self.old)) self.old self.new) }
-    {
-        self.lines.push(JobLine::Fault { fault, step: n, dd })?;
-        let dds = mem::replace(&mut self.own.dds, Listed::empty(self.alloc));
-        self.give_back(dds.as_slice())?;
-        self.own.faulted = true;
-        self.own.runs = false;
-        self.clean = false;
+        step::end(&mut self.course)?;
         Ok(())
     }
 
-    /// Gives back what DDs had taken.
-    fn give_back(&mut self, dds: &[DdState]) -> Result<(), AllocError>
-        ensures { OnOk result (GivesBack dds.now self.old self.new) }
+    /// A request's first action; where it asks for tracks, an answer is used up.
+    pub(crate) fn ask(&mut self, step: &StepPlan, wants: &Move) -> Result<(), AllocError>
+        ensures { OnOk result (Does (Ask step.now wants.now) self.old self.new) }
     {
-        for x in dds {
-            self.give_one_back(x)?;
+        self.store.growth = next_grant(self.grants);
+        let cancelled = cancel_due(self.cancels, self.course.own.lines);
+        let asked = ask::ask(
+            self.alloc,
+            &mut self.store,
+            JOB,
+            &mut self.course,
+            step,
+            wants,
+            cancelled,
+        )?;
+        if asked {
+            self.grants = others(self.grants);
         }
         Ok(())
     }
 
-    fn give_one_back(&mut self, x: &DdState) -> Result<(), AllocError>
-        ensures { OnOk result (GivesBack (x.now ∷ []) self.old self.new) }
+    /// What is due of a request.
+    pub(crate) fn receive(&mut self) -> Result<(), AllocError>
+        ensures { OnOk result (Does Receive self.old self.new) }
     {
-        let Some(t) = x.taken else {
-            return Ok(());
-        };
-        let deleted = is_deleted_back(&t);
-        if deleted {
-            scratch(self.alloc, &mut self.store, &t.key, t.serial);
-        }
-        self.lines.push(JobLine::Back {
-            dd: x.number,
-            name: x.name,
-            word: back_word(deleted),
-        })?;
+        let cancelled = cancel_due(self.cancels, self.course.own.lines);
+        request::receive(&mut self.store, JOB, &mut self.course, cancelled)?;
         Ok(())
     }
-}
-
-/// The place of a DD; of two the first counts.
-fn place_of(places: &[Place], step: usize, dd: usize) -> Option<Serial>
-    ensures { result ≡ place_of places.now step dd }
-{
-    for p in places {
-        if p.step == step && p.dd == dd {
-            return Some(p.serial);
-        }
-    }
-    None
-}
-
-fn is_received(how: How) -> bool
-    ensures { result ≡ is_received how }
-{
-    match how {
-        How::Received { .. } => true,
-        How::Made => false,
-        How::Found => false,
-        How::FoundByCatalog => false,
-    }
-}
-
-fn take_word(how: How, serial: Serial) -> TakeWord
-    ensures { result ≡ take_word how serial }
-{
-    match how {
-        How::Made => TakeWord::Made(serial),
-        How::Found => TakeWord::Found(serial),
-        How::FoundByCatalog => TakeWord::Found(serial),
-        How::Received { .. } => TakeWord::Received(serial),
-    }
-}
-
-fn primary_of(space: &Option<Space>) -> u16
-    ensures { result ≡ primary_of space.now }
-{
-    match space {
-        None => 0,
-        Some(space) => space.primary,
-    }
-}
-
-/// Takes the first passed set of a key off the list.
-fn drop_passed(passed: &mut Listed<Passed>, key: &Key)
-    ensures { passed.new ≡ without_passed passed.old key.now }
-{
-    if let Some(place) = passed_place(passed.as_slice(), key) {
-        passed.remove(place);
-    }
-}
-
-/// The place of the first passed set of a key, from 0.
-fn passed_place(passed: &[Passed], key: &Key) -> Option<usize>
-    ensures found { IfSome result (λ i. (i < length passed.now) × (remove passed.now i ≡ without_passed passed.now key.now)) }
-    ensures nowhere { IfNone result (without_passed passed.now key.now ≡ passed.now) }
-{
-    for (i, p) in passed.iter().enumerate() {
-        if same_key(&p.key, key) {
-            return Some(i);
-        }
-    }
-    None
 }

@@ -83,25 +83,9 @@ module _ (key : Key) (serial : List ℕ) where
       store_of (record s { sets = s.sets ++ record { serial = serial; key = key; set = y } ∷ [] }) ≡ with_set (store_of s) key serial (Some y)
   store-made s y h = λ i. record { set = λ k v. set_in-last s.sets y h k v i; catalog = λ name. entry_in s.catalog name }
 
-  put_step : (b : Bool) (y : DataSet) (r : Option DataSet) → or_else (cond b None r) (cond b (Some y) None) ≡ cond b (Some y) r
-  put_step true y r = refl
-  put_step false y None = refl
-  put_step false y (Some z) = refl
-
-  pub set_in-put : (xs : List SoloSet) (y : DataSet) (k : Key) (v : List ℕ) →
-      set_in (without_sets xs key serial ++ record { serial = serial; key = key; set = y } ∷ []) k v ≡ cond (same_place k v key serial) (Some y) (set_in xs k v)
-  set_in-put xs y k v =
-      set_in-append (without_sets xs key serial) y k v
-      ∙ ap (λ o. or_else o (cond (same_place k v key serial) (Some y) None)) (set_in-without xs k v)
-      ∙ put_step (same_place k v key serial) y (set_in xs k v)
-
-  -- the store without the set of a key on a volume, and with another there
+  -- the store without the set of a key on a volume
   pub store-without_sets : (s : SoloStore) → store_of (record s { sets = without_sets s.sets key serial }) ≡ with_set (store_of s) key serial None
   store-without_sets s = λ i. record { set = λ k v. set_in-without s.sets k v i; catalog = λ name. entry_in s.catalog name }
-
-  pub store-put_set : (s : SoloStore) (y : DataSet) →
-      store_of (record s { sets = without_sets s.sets key serial ++ record { serial = serial; key = key; set = y } ∷ [] }) ≡ with_set (store_of s) key serial (Some y)
-  store-put_set s y = λ i. record { set = λ k v. set_in-put s.sets y k v i; catalog = λ name. entry_in s.catalog name }
 
 -- the same for entries
 pub apart_names : (n name : List ℕ) (x : SoloEntry) → is_of name x ≡ false → bytes_eq n x.name ≡ true → bytes_eq n name ≡ true → ⊥

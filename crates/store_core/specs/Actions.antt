@@ -1,11 +1,9 @@
--- What an action of a job did to the store as the job sees it, to what is the job's own, and to its lines.
-use Rattle.std.specs.Prelude.{◌≡◌, ℕ, List, [], ◌++◌, length, Option}
+-- The state of a job, what is known of a set, and a set changed.
+use Rattle.std.specs.Prelude.{ℕ, List, [], length, Option}
 use Rattle.jname_core.specs.declared.key.Key.{Key}
-use Rattle.jcl_plan.specs.declared.entry.JobLine.{JobLine}
-use Rattle.jcl_plan.specs.declared.fault.Fault.{Fault}
 use Rattle.jcl_meaning.specs.declared.state.Own.{Own}
 use Rattle.jcl_meaning.specs.declared.store.DataSet.{DataSet}
-use Rattle.jcl_meaning.specs.States.{Answers, Done, State}
+use Rattle.jcl_meaning.specs.States.{Answers, State}
 use Rattle.jcl_meaning.specs.Programs.{or_nothing}
 use Rattle.jcl_meaning.specs.Stores.{Store, with_set_there}
 use Rattle.store_core.specs.declared.job_store.SetFacts.{SetFacts}
@@ -24,10 +22,3 @@ new_set_of tracks expires = record { tracks = tracks; expires = expires; records
 -- the store with the set of a key changed, where it is there
 abbrev pub changed_at : (DataSet → DataSet) → Store → Key → List ℕ → Store
 changed_at f s key serial = with_set_there (s.set key serial) (f (or_nothing (s.set key serial))) s key serial
-
--- An action did what it means: it left this store, this own part and these answers, wrote these lines behind the others, and met this fault or
--- none.
-pub record Did (done : Done) (seen : Store) (own : Own) (answers : Answers) (before after : List JobLine) (meets : Option Fault) : Type 0 where
-  pub its_state : done.state ≡ state_at seen own answers
-  pub its_lines : after ≡ before ++ done.lines
-  pub its_fault : done.meets ≡ meets

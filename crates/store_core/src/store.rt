@@ -2,12 +2,10 @@
 ghost use Rattle.std.specs.Prelude.{◌≡◌, ◌<◌, ◌≤◌, ◌++◌, ◌∷◌, [], Some, None, IfSome, OnErr, OnOk, OnSome, length, vec_capacity, vec_len};
 ghost use Rattle.std.specs.Option.{option_copied};
 ghost use Rattle.group_core.specs.Entries.{volume_in};
-ghost use Rattle.group_core.specs.Groups.{without};
 ghost use Rattle.jname_core.specs.Generations.{base_of};
 ghost use Rattle.jname_core.specs.declared.key.Key.TheVariants as key;
 ghost use Rattle.jcl_meaning.specs.Lists.{is_at, is_of, member_copied, without_entries, without_sets};
-ghost use Rattle.jcl_meaning.specs.Stores.{catalogued, entry_in, group_of, is_later, is_unexpired, member_of, name_entered, resolution_of, set_in, store_of, uncatalogued, volume_of, with_entry, with_set, with_set_there};
-ghost use Rattle.jcl_meaning.specs.Takes.{is_there};
+ghost use Rattle.jcl_meaning.specs.Stores.{entry_in, group_of, is_later, member_of, resolution_of, set_in, store_of, volume_of, with_entry, with_set};
 
 use group_core::entry::CatEntry;
 use group_core::group::{Group, GroupFault};
@@ -55,26 +53,6 @@ pub fn set_in<'a>(store: &'a SoloStore, key: &Key, serial: Serial) -> Option<&'a
         }
     }
     None
-}
-
-/// Whether the set of a key is on a volume; on no volume there is none.
-pub fn is_there(store: &SoloStore, key: &Key, serial: &Option<Serial>) -> bool
-    ensures { result ≡ is_there (store_of store.now) key.now serial.now }
-{
-    match serial {
-        None => false,
-        Some(serial) => set_in(store, key, *serial).is_some(),
-    }
-}
-
-/// Whether the day of a set, if it has one, is later than today.
-pub(crate) fn is_unexpired(store: &SoloStore, key: &Key, serial: Serial, date: Day) -> bool
-    ensures { result ≡ is_unexpired (set_in store.now.sets key.now serial) date }
-{
-    match set_in(store, key, serial) {
-        None => false,
-        Some(set) => is_later(set.expires, date),
-    }
 }
 
 /// What the catalog has for a name.
@@ -135,20 +113,8 @@ pub(crate) fn volume_of(store: &SoloStore, name: &DsName) -> Option<Serial>
     }
 }
 
-/// The volume that the catalog has for a key; temporary sets are in no catalog.
-pub fn catalogued(store: &SoloStore, key: &Key) -> Option<Serial>
-    ensures { result ≡ catalogued (store_of store.now) key.now }
-{
-    match key {
-        Key::Named(name) => volume_of(store, name),
-        Key::Relative { .. } => None,
-        Key::Temporary(_) => None,
-        Key::Unnamed { .. } => None,
-    }
-}
-
 /// What a key means: a relative number by the generations of its group.
-pub fn resolution_of(store: &SoloStore, key: &Key) -> Resolution
+pub(crate) fn resolution_of(store: &SoloStore, key: &Key) -> Resolution
     ensures { result ≡ resolution_of (store_of store.now) key.now }
 {
     match key {
@@ -221,64 +187,14 @@ fn replace_entry(
     Ok(())
 }
 
-/// A group without a number.
-fn without_number(mut group: Group, number: u16) -> Group
-    ensures { result ≡ record group { generations = without group.generations number } }
-{
-    match group.remove(number) {
-        Ok(()) => group,
-        Err(_) => group,
-    }
-}
-
 /// Takes the set of a key off a volume.
-pub fn scratch(alloc: Global, store: &mut SoloStore, key: &Key, serial: Serial)
+pub(crate) fn scratch(alloc: Global, store: &mut SoloStore, key: &Key, serial: Serial)
     ensures sets { store_of store.new ≡ with_set (store_of store.old) key.now serial None }
     ensures others { store.new ≡ record store.old { sets = without_sets store.old.sets key.now serial } }
 {
     let mut sets = mem::replace(&mut store.sets, Listed::empty(alloc)).into_vec();
     drop_sets(&mut sets, key, serial);
     store.sets = Listed::new(sets);
-}
-
-/// Puts a set of a key on a volume, in place of any there. The error is want of memory.
-pub fn put_set(
-    alloc: Global,
-    store: &mut SoloStore,
-    key: &Key,
-    serial: Serial,
-    set: DataSet,
-) -> Result<(), AllocError>
-    ensures sets { OnOk result (store_of store.new ≡ with_set (store_of store.old) key.now serial (Some set)) }
-    ensures others { OnOk result (store.new.volumes ≡ store.old.volumes) }
-{
-    scratch(alloc, store, key, serial);
-    store.sets.push(SoloSet {
-        serial,
-        key: *key,
-        set,
-    })?;
-    Ok(())
-}
-
-/// Puts a set in the place of the one that is there; where there is none, nothing is put. The error is want of memory.
-pub fn change_set(
-    alloc: Global,
-    store: &mut SoloStore,
-    key: &Key,
-    serial: Serial,
-    set: DataSet,
-) -> Result<(), AllocError>
-    ensures sets { OnOk result (store_of store.new ≡ with_set_there (set_in store.old.sets key.now serial) set (store_of store.old) key.now serial) }
-    ensures others { OnOk result (store.new.volumes ≡ store.old.volumes) }
-{
-    match set_in(store, key, serial) {
-        None => Ok(()),
-        Some(_) => {
-            put_set(alloc, store, key, serial, set)?;
-            Ok(())
-        }
-    }
 }
 
 /// Takes the entry of a name out of the catalog.
@@ -306,38 +222,4 @@ pub(crate) fn put_entry(
     store.catalog = Listed::new(entries);
     put?;
     Ok(())
-}
-
-/// Takes the entry of a key out of the catalog.
-pub(crate) fn uncatalog(alloc: Global, store: &mut SoloStore, key: &Key) -> Result<(), AllocError>
-    ensures entry { OnOk result (store_of store.new ≡ uncatalogued (store_of store.old) key.now) }
-    ensures others { OnOk result (store.new.volumes ≡ store.old.volumes) }
-{
-    let Key::Named(name) = key else {
-        return Ok(());
-    };
-    let Some((number, group)) = member_of(store, name) else {
-        remove_entry(alloc, store, name);
-        return Ok(());
-    };
-    let group = without_number(group.clone()?, number);
-    put_entry(alloc, store, &name.base_of(), CatEntry::Group(group))
-}
-
-/// Enters a key for a volume.
-pub(crate) fn catalog(
-    alloc: Global,
-    store: &mut SoloStore,
-    key: &Key,
-    serial: Serial,
-) -> Result<(), AllocError>
-    ensures entry { OnOk result (store_of store.new ≡ name_entered (store_of store.old) key.now serial) }
-    ensures others { OnOk result (store.new.volumes ≡ store.old.volumes) }
-{
-    match key {
-        Key::Named(name) => put_entry(alloc, store, name, CatEntry::Volume(serial)),
-        Key::Relative { .. } => Ok(()),
-        Key::Temporary(_) => Ok(()),
-        Key::Unnamed { .. } => Ok(()),
-    }
 }

@@ -1,19 +1,16 @@
-//! What a DD goes for in a store, and what taking it decides.
+//! What a DD goes for, and what taking it decides.
 ghost use Rattle.std.specs.Prelude.{◌≡◌, Some};
 ghost use Rattle.std.specs.List.{list_any};
 ghost use Rattle.std.specs.Str.{bytes_eq};
-ghost use Rattle.jcl_meaning.specs.Stores.{store_of};
-ghost use Rattle.jcl_meaning.specs.Takes.{at_or_lost, day_of, dd_volume, decide, first_passed, found_or_made, is_known, looked_at, on_volume, taken, target_of, there_or, where_of};
+ghost use Rattle.jcl_meaning.specs.Takes.{at_or_lost, day_of, dd_volume, decide, first_passed, found_or_made, is_known, looked_at, on_volume, taken, target_of, there_or};
 ghost use Rattle.jcl_meaning.specs.declared.take.Target.TheVariants as target;
 
-use crate::store::volume_of;
 use jcl_meaning::names::same_key;
 use jcl_meaning::state::{DdVolume, Passed, TakenSet};
-use jcl_meaning::store::SoloStore;
 use jcl_meaning::take::{Decision, How, Target, Where};
 use jcl_plan::day::Day;
 use jcl_plan::fault::Fault;
-use jcl_plan::plan::{Expiry, Status, VolumePlan};
+use jcl_plan::plan::{Expiry, Status};
 use jname_core::key::Key;
 use jname_core::serial::Serial;
 
@@ -49,28 +46,6 @@ pub fn dd_volume(volumes: &[DdVolume], step: usize, dd: usize) -> Option<Serial>
         }
     }
     None
-}
-
-/// The volume that VOL names, in this store, after these passes and takes.
-pub fn where_of(
-    volume: &VolumePlan,
-    store: &SoloStore,
-    passed: &[Passed],
-    volumes: &[DdVolume],
-) -> Where
-    ensures { result ≡ where_of volume.now (store_of store.now) passed.now volumes.now }
-{
-    match volume {
-        VolumePlan::NotCoded => Where::Anywhere,
-        VolumePlan::Serial(serial) => Where::At(*serial),
-        VolumePlan::OfName(name) => match first_passed(passed, &Key::Named(*name)) {
-            Some(p) => Where::At(p.serial),
-            None => at_or_lost(volume_of(store, name)),
-        },
-        VolumePlan::OfDd { step, dd } => {
-            at_or_lost(dd_volume(volumes, usize::from(*step), usize::from(*dd)))
-        }
-    }
 }
 
 fn on_volume(status: Status, serial: Serial) -> Target

@@ -1,7 +1,0 @@
-use Rattle.std.proofs.Common.{◌≡◌, ◌++◌, take, drop}
-use Rattle.jcl_meaning.specs.EndActs.{without_pass}
-use Rattle.solo_core.proofs.ends.pass_place.Given as goal
-
--- those so far stay
-abbrev pub invariant-loop-i : goal.invariant-loop-i
-invariant-loop-i l = take l.i l.passed ++ without_pass (drop l.i l.passed) l.n l.dd ≡ without_pass l.passed l.n l.dd

@@ -1,0 +1,14 @@
+use Rattle.std.proofs.Common.{refl}
+use Rattle.jcl_meaning.specs.Acts.{act}
+use Rattle.jcl_meaning.specs.Agendas.{Start}
+use Rattle.jcl_meaning.specs.Stores.{store_of}
+use Rattle.solo_core.specs.Runners.{answers_by}
+use Rattle.solo_core.proofs.Carried.{does_cleanly}
+use Rattle.solo_core.proofs.runner.Runner.begin.Goals as goal
+
+pub returns : goal.returns
+unfolding act
+returns c =
+    let old = c.args.self.now in
+    does_cleanly (Start c.args.n c.args.step.now) old (record old { course = c.begin.new.course })
+    (c.in_ok-begin.ensures.ok (store_of old.store.store) (answers_by old)) refl (record { given = refl; volumes = refl })

@@ -1,7 +1,0 @@
-use Rattle.std.proofs.Common.{◌≡◌, ◌++◌, take, drop}
-use Rattle.jcl_meaning.specs.Takes.{without_passed}
-use Rattle.solo_core.proofs.runner.passed_place.Given as goal
-
--- those so far stay
-abbrev pub invariant-loop-i : goal.invariant-loop-i
-invariant-loop-i l = take l.i l.passed ++ without_passed (drop l.i l.passed) l.key ≡ without_passed l.passed l.key
