@@ -190,8 +190,7 @@ fn after_rolling<S: JobStore>(
     }
 }
 
-/// Enters a number in a group that takes it; the set of one that rolls off is scratched where the group says so and it is expired. An `Err` changes
-/// nothing.
+/// Enters a number in a group that takes it; the set of one that rolls off is scratched where the group says so and it is expired.
 fn enter_number<S: JobStore>(
     store: &mut S,
     job: u16,
@@ -200,44 +199,34 @@ fn enter_number<S: JobStore>(
     serial: Serial,
     scratches: bool,
     date: Day,
-) -> Result<(), AllocError>
+)
     requires base { length base.now ≤ 35 }
     requires range { (0 < number) × (number ≤ 9999) }
     requires group { TakesNumber (group_of (S.seen job store.old) base.now) number serial }
-    ensures ok { OnOk result ((g : GroupState) → group_of (S.seen job store.old) base.now ≡ Some g → g.scratch ≡ scratches →
-        S.seen job store.new ≡ generation_entered_by (Some (number, g)) base.now serial date (S.seen job store.old)) }
-    ensures err { OnErr result (S.seen job store.new ≡ S.seen job store.old) }
+    ensures seen { (g : GroupState) → group_of (S.seen job store.old) base.now ≡ Some g → g.scratch ≡ scratches →
+        S.seen job store.new ≡ generation_entered_by (Some (number, g)) base.now serial date (S.seen job store.old) }
     ensures rest { S.rest job store.new ≡ S.rest job store.old }
 {
-    let rolled = store.enter_number(job, base, number, serial)?;
+    let rolled = store.enter_number(job, base, number, serial);
     after_rolling(store, job, base, rolled, scratches, date);
-    Ok(())
 }
 
-/// Enters a generation in its group. An `Err` changes nothing.
-fn enter_generation<S: JobStore>(
-    store: &mut S,
-    job: u16,
-    key: &Key,
-    serial: Serial,
-    date: Day,
-) -> Result<(), AllocError>
-    ensures ok { OnOk result (S.seen job store.new ≡ generation_entered (S.seen job store.old) key.now serial date) }
-    ensures err { OnErr result (S.seen job store.new ≡ S.seen job store.old) }
+/// Enters a generation in its group.
+fn enter_generation<S: JobStore>(store: &mut S, job: u16, key: &Key, serial: Serial, date: Day)
+    ensures seen { S.seen job store.new ≡ generation_entered (S.seen job store.old) key.now serial date }
     ensures rest { S.rest job store.new ≡ S.rest job store.old }
 {
     let Key::Named(name) = key else {
-        return Ok(());
+        return;
     };
     let Some((number, group)) = member(store, job, name) else {
-        return Ok(());
+        return;
     };
     if group.would_enter(number, serial).is_err() {
-        return Ok(());
+        return;
     }
     let scratches = group.scratches();
-    enter_number(store, job, &name.base_of(), number, serial, scratches, date)?;
-    Ok(())
+    enter_number(store, job, &name.base_of(), number, serial, scratches, date);
 }
 
 /// Enters a key for a volume. An `Err` changes nothing.
@@ -288,6 +277,9 @@ pub fn change<S: JobStore>(
             uncatalog(store, job, key);
             Ok(())
         }
-        Change::EnterGeneration => enter_generation(store, job, key, serial, date),
+        Change::EnterGeneration => {
+            enter_generation(store, job, key, serial, date);
+            Ok(())
+        }
     }
 }

@@ -181,16 +181,10 @@ impl JobStore for SharedStore {
         self.catalog.clear(name);
     }
 
-    fn enter_number(
-        &mut self,
-        _job: u16,
-        base: &DsName,
-        number: u16,
-        serial: Serial,
-    ) -> Result<Rolled, AllocError> {
+    fn enter_number(&mut self, _job: u16, base: &DsName, number: u16, serial: Serial) -> Rolled {
         match self.catalog.enter_generation(base, number, serial) {
-            Ok(rolled) => Ok(rolled),
-            Err(_) => Err(AllocError),
+            Ok(rolled) => rolled,
+            Err(_) => unreachable!(),
         }
     }
 }

@@ -11,7 +11,7 @@ use jname_core::name8::Name8;
 use jname_core::serial::Serial;
 use mount_core::mounted::Mounted;
 use plain::listed::Listed;
-use std::alloc::{AllocError, Global};
+use std::alloc::Global;
 use std::process::Abort;
 use std::test::Fail;
 use store_core::job_store::{JobStore, RoomFault, SetFacts};
@@ -78,7 +78,7 @@ fn enter_number(
     base: &DsName,
     number: u16,
     serial: Serial,
-) -> Result<Rolled, AllocError>
+) -> Rolled
     requires { (0 < number) × (number ≤ 9999) }
 {
     match store.group(1, base) {
@@ -215,17 +215,17 @@ fn a_generation_rolls_off(rt: HostRuntime) -> Result<(), Fail> {
     assert_eq!(rt; store.catalog.make_group(rt.alloc(), base, 2, true), Ok(()));
     assert_eq!(rt;
         enter_number(&rt, &mut store, &base, 1, second),
-        Ok(Rolled::Entered)
+        Rolled::Entered
     );
     assert_eq!(rt;
         enter_number(&rt, &mut store, &base, 2, first),
-        Ok(Rolled::Entered)
+        Rolled::Entered
     );
     let removed = Rolled::Removed {
         number: 1,
         serial: second,
     };
-    assert_eq!(rt; enter_number(&rt, &mut store, &base, 3, first), Ok(removed));
+    assert_eq!(rt; enter_number(&rt, &mut store, &base, 3, first), removed);
     assert_eq!(rt; store.volume(1, &name("PAY.G.G0001V00")?), None);
     assert_eq!(rt; store.volume(1, &name("PAY.G.G0003V00")?), Some(first));
     store.uncatalog(1, &name("PAY.G.G0003V00")?);

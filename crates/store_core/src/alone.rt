@@ -143,13 +143,7 @@ impl JobStore for Alone {
         uncatalog_name(self.alloc, &mut self.store, name);
     }
 
-    fn enter_number(
-        &mut self,
-        _job: u16,
-        base: &DsName,
-        number: u16,
-        serial: Serial,
-    ) -> Result<Rolled, AllocError> {
+    fn enter_number(&mut self, _job: u16, base: &DsName, number: u16, serial: Serial) -> Rolled {
         enter_number_of(self.alloc, &mut self.store, base, number, serial)
     }
 }
@@ -298,41 +292,39 @@ pub(crate) fn drop_number_of(alloc: Global, store: &mut SoloStore, base: &DsName
 }
 
 /// Enters a number in a group. An `Err` changes nothing.
-fn enter_in(entry: &mut CatEntry, number: u16, serial: Serial) -> Result<Rolled, AllocError>
+fn enter_in(entry: &mut CatEntry, number: u16, serial: Serial) -> Rolled
     requires range { (0 < number) × (number ≤ 9999) }
     requires group { TakesNumber (group_in (Some entry.old)) number serial }
-    ensures answer { IfOk result (λ rolled. EntersNumber (group_in (Some entry.old)) number serial rolled) }
-    ensures range { IfOk result RollsInRange }
-    ensures ok { OnOk result (entry.new ≡ entry_with entry.old number serial) }
-    ensures err { OnErr result (entry.new ≡ entry.old) }
+    ensures answer { EntersNumber (group_in (Some entry.old)) number serial result }
+    ensures range { RollsInRange result }
+    ensures entry { entry.new ≡ entry_with entry.old number serial }
 {
     match entry {
         CatEntry::Group(group) => match group.enter(number, serial) {
-            Ok(rolled) => Ok(rolled),
-            Err(_) => Err(AllocError),
+            Ok(rolled) => rolled,
+            Err(_) => unreachable!(),
         },
-        CatEntry::Volume(_) => Err(AllocError),
+        CatEntry::Volume(_) => unreachable!(),
     }
 }
 
-/// Enters a number in the group of a base. An `Err` changes nothing.
+/// Enters a number in the group of a base.
 pub(crate) fn enter_number_of(
     alloc: Global,
     store: &mut SoloStore,
     base: &DsName,
     number: u16,
     serial: Serial,
-) -> Result<Rolled, AllocError>
+) -> Rolled
     requires range { (0 < number) × (number ≤ 9999) }
     requires group { TakesNumber (group_of (store_of store.old) base.now) number serial }
-    ensures answer { IfOk result (λ rolled. EntersNumber (group_of (store_of store.old) base.now) number serial rolled) }
-    ensures range { IfOk result RollsInRange }
-    ensures ok { OnOk result (store_of store.new ≡ with_number (store_of store.old) base.now number serial) }
-    ensures err { OnErr result (store_of store.new ≡ store_of store.old) }
+    ensures answer { EntersNumber (group_of (store_of store.old) base.now) number serial result }
+    ensures range { RollsInRange result }
+    ensures seen { store_of store.new ≡ with_number (store_of store.old) base.now number serial }
     ensures volumes { store.new.volumes ≡ store.old.volumes }
 {
     let Some(at) = entry_place_of(store.catalog.as_slice(), base) else {
-        return Err(AllocError);
+        unreachable!();
     };
     let mut entries = mem::replace(&mut store.catalog, Listed::empty(alloc)).into_vec();
     let rolled = enter_in(&mut entries[at].entry, number, serial);

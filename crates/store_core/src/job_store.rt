@@ -135,19 +135,12 @@ pub trait JobStore {
         ensures seen { seen job self.new ≡ uncatalogued_by (member_of (seen job self.old) name.now) (seen job self.old) name.now }
         ensures rest { rest job self.new ≡ rest job self.old };
 
-    /// Enters a number that a group takes, in a full group in place of the lowest, whose set is left to the caller. The error is want of memory.
-    fn enter_number(
-        &mut self,
-        job: u16,
-        base: &DsName,
-        number: u16,
-        serial: Serial,
-    ) -> Result<Rolled, AllocError>
+    /// Enters a number that a group takes, in a full group in place of the lowest, whose set is left to the caller.
+    fn enter_number(&mut self, job: u16, base: &DsName, number: u16, serial: Serial) -> Rolled
         requires range { (0 < number) × (number ≤ 9999) }
         requires group { TakesNumber (group_of (seen job self.old) base.now) number serial }
-        ensures answer { IfOk result (λ rolled. EntersNumber (group_of (seen job self.old) base.now) number serial rolled) }
-        ensures range { IfOk result RollsInRange }
-        ensures ok { OnOk result (seen job self.new ≡ with_number (seen job self.old) base.now number serial) }
-        ensures err { OnErr result (seen job self.new ≡ seen job self.old) }
+        ensures answer { EntersNumber (group_of (seen job self.old) base.now) number serial result }
+        ensures range { RollsInRange result }
+        ensures seen { seen job self.new ≡ with_number (seen job self.old) base.now number serial }
         ensures rest { rest job self.new ≡ rest job self.old };
 }

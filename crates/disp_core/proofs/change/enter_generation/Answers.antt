@@ -5,8 +5,8 @@ use Rattle.store_core.specs.Numbers.{TakesNumber}
 use Rattle.disp_core.proofs.Entering.{group_of_member, refused_number, takes_number}
 use Rattle.disp_core.proofs.change.enter_generation.Goals as goal
 
-pub returns-then-is_err-clause-ok : goal.returns-then-is_err-clause-ok
-returns-then-is_err-clause-ok g c =
+pub returns-then-is_err-clause-seen : goal.returns-then-is_err-clause-seen
+returns-then-is_err-clause-seen g c =
     let s : Store = g.S.JobStore.seen c.args.job c.args.store.now in
     subst (λ k. s ≡ generation_entered s k c.args.serial c.args.date) (sym c.in-Named.is)
     (subst (λ m. s ≡ generation_entered_by m (base_of c.in-Named.name) c.args.serial c.args.date s) c.in-Some.ensures.member
@@ -22,13 +22,13 @@ enter_number-requires-clause-group g c =
     (sym (group_of_member (generation_of c.in-Named.name) (group_of s (base_of c.in-Named.name)) (c.in-Some.number, c.in-Some.group.now) c.in-Some.ensures.member))
     (takes_number c.would_enter.result c.in-Some.group.now c.in-Some.number c.args.serial c.would_enter.ensures c.if-is_err.ensures.value))
 
-pub returns-clause-ok : goal.returns-clause-ok
-returns-clause-ok g c =
+pub returns-clause-seen : goal.returns-clause-seen
+returns-clause-seen g c =
     let s : Store = g.S.JobStore.seen c.args.job c.args.store.now in
     subst (λ k. g.S.JobStore.seen c.args.job c.enter_number.new.store ≡ generation_entered s k c.args.serial c.args.date) (sym c.in-Named.is)
     (subst (λ m. g.S.JobStore.seen c.args.job c.enter_number.new.store ≡ generation_entered_by m (base_of c.in-Named.name) c.args.serial c.args.date s) c.in-Some.ensures.member
     (subst (λ b. g.S.JobStore.seen c.args.job c.enter_number.new.store ≡ generation_entered_by (Some (c.in-Some.number, c.in-Some.group.now)) b c.args.serial c.args.date s) c.base_of.ensures.base
-    (c.in_ok-enter_number.ensures.ok c.in-Some.group.now
+    (c.enter_number.ensures.seen c.in-Some.group.now
     (subst (λ b. group_of s b ≡ Some c.in-Some.group.now) (sym c.base_of.ensures.base)
     (group_of_member (generation_of c.in-Named.name) (group_of s (base_of c.in-Named.name)) (c.in-Some.number, c.in-Some.group.now) c.in-Some.ensures.member))
     (sym c.scratches-scratches.ensures))))
