@@ -17,7 +17,7 @@ use Rattle.mount_core.specs.Kept.{AreKept, Kept, extents_kept, place_cmp}
 use Rattle.mount_core.proofs.KeptMaps.{Entry}
 use Rattle.mount_core.proofs.KeptTracks.{size_fewer, size_more}
 
-tracks_in-append : (es fs : List Extent) → tracks_in (es ++ fs) ≡ tracks_in es + tracks_in fs
+pub tracks_in-append : (es fs : List Extent) → tracks_in (es ++ fs) ≡ tracks_in es + tracks_in fs
 tracks_in-append [] fs = omega arith
 tracks_in-append (e ∷ es) fs =
     let i : tracks_in (es ++ fs) ≡ tracks_in es + tracks_in fs = tracks_in-append es fs in

@@ -1,5 +1,5 @@
 -- An entry that is cut or grows, as a set, and when tracks are granted.
-use Rattle.std.proofs.Common.{◌≡◌, ℕ, ◌+◌, ◌<◌, ◌≤◌, min, nat_le, true, false, List, ◌++◌, length, Option, Some, None, Result, Ok, Err, OnErr, OnOk, IsSome, refl, ap, ◌∙◌, arith}
+use Rattle.std.proofs.Common.{◌≡◌, ℕ, ◌+◌, ◌<◌, ◌≤◌, min, true, false, List, ◌++◌, length, Option, Some, None, Result, Ok, Err, OnErr, OnOk, IsSome, refl, ap, ◌∙◌, arith}
 use Rattle.std.proofs.lemmas.Bool.{le-leb}
 use Rattle.std.specs.FinMap.{get}
 use Rattle.extent_core.specs.declared.extent.Extent.{Extent}
@@ -13,7 +13,9 @@ use Rattle.vtoc_core.specs.Extents.{five_largest, free_extents, kept_front, plan
 use Rattle.vtoc_core.specs.Volumes.{VolumeState}
 use Rattle.shared_core.specs.Rooms.{entry_grows, fits_behind}
 use Rattle.shared_core.specs.Shown.{data_of}
-use Rattle.shared_core.proofs.Planned.{kept_size, planned_facts, tracks_behind}
+use Rattle.vtoc_core.proofs.PlanLemmas.{planned_is, planned_some}
+use Rattle.mount_core.proofs.Keeping.{tracks_in-append}
+use Rattle.shared_core.proofs.CutSets.{kept_size}
 
 pub ok_by : {X E P Q : Type 0} (r : Result X E) → (P → Q) → OnOk r P → OnOk r Q
 ok_by (Ok x) f p = f p
@@ -38,18 +40,12 @@ trimmed used x e p u =
     kept_size used e.extents.items ∙ omega (arith, q) in
     λ i. record { tracks = r i; expires = e.expires; records = e.records }
 
-pub planned_size : (es : List Extent) (n : ℕ) (list : List Extent) → planned es n ≡ Some list → tracks_in list ≡ n
-planned_size es n list h = (planned_facts es n list h).0
-
-pub planned_held : (es : List Extent) (n : ℕ) (list : List Extent) → planned es n ≡ Some list → nat_le n (five_largest es) ≡ true
-planned_held es n list h = le-leb n (five_largest es) (planned_facts es n list h).1
-
 -- a set that grows
 pub grown : (v : VolumeState) (n : ℕ) (e : SetEntry) (more : List Extent) → planned (free_extents v.tracks) n ≡ Some more →
     data_of (with_extents (λ all. all ++ more) e) ≡ grown_by n (data_of e)
 grown v n e more h =
     let r : tracks_in (e.extents.items ++ more) ≡ tracks_in e.extents.items + n =
-    tracks_behind e.extents.items more ∙ ap (λ k. tracks_in e.extents.items + k) (planned_size (free_extents v.tracks) n more h) in
+    tracks_in-append e.extents.items more ∙ ap (λ k. tracks_in e.extents.items + k) (planned_is v.tracks n more h).tracks in
     λ i. record { tracks = r i; expires = e.expires; records = e.records }
 
 module _ (v : VolumeState) (k : SetKey) (n : ℕ) where
@@ -60,7 +56,7 @@ module _ (v : VolumeState) (k : SetKey) (n : ℕ) where
 
   lacks : (e : SetEntry) (o : Option (List Extent)) → planned (free_extents v.tracks) n ≡ o → five_largest (free_extents v.tracks) < n → fits_behind e o ≡ false
   lacks e None p l = refl
-  lacks e (Some more) p l = absurd (omega (arith, l, (planned_facts (free_extents v.tracks) n more p).1))
+  lacks e (Some more) p l = absurd (omega (arith, l, planned_some (free_extents v.tracks) n more p))
 
   lacks_by : (o : Option SetEntry) → IsSome o → five_largest (free_extents v.tracks) < n → entry_grows o v n ≡ false
   lacks_by None s l = absurd cc

@@ -1,7 +1,7 @@
 mod WorldKeys
 mod Places
 mod Written
-mod Planned
+mod CutSets
 mod Entries
 mod SeenSets
 mod Making

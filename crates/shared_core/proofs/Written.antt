@@ -17,7 +17,8 @@ use Rattle.mount_core.specs.Mounts.{MountedState}
 use Rattle.shared_core.specs.Rooms.{all_tracks, is_same_place}
 use Rattle.shared_core.specs.Shown.{data_of, kept_on, mounted_in, set_on}
 use Rattle.shared_core.specs.Writes.{Changes, ChangesOn, IsFirstMounted, Keeps, KeepsOn, KeepsOthers, KeepsOthersOn, Writes, WritesOn}
-use Rattle.shared_core.proofs.WorldKeys.{keys_same, names_same, set_put, set_taken}
+use Rattle.shared_core.proofs.WorldKeys.{names_same, set_put, set_taken}
+use Rattle.vtoc_core.proofs.PlaceLemmas.{keys_same}
 
 -- where there is nothing a change writes nothing
 nothing_changed : (b : Bool) (f : DataSet → DataSet) (x r : Option DataSet) → x ≡ None → (b ≡ true → r ≡ x) → r ≡ cond b (option_map f x) r
