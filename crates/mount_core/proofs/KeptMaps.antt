@@ -75,3 +75,17 @@ insert-remove m k v = same_map place_total places_tie (insert (remove m k) k v) 
 
 pub get_removed : (m : Kept) (k : KeptPlace) → get (remove m k) k ≡ None
 get_removed m k = get-remove place_total m k k ∙ ap (λ b. cond b None (get m k)) ((eq_by_cmp_equiv place_total).refl k)
+
+pub get_inserted : (m : Kept) (k : KeptPlace) (v : Entry) → get (insert m k v) k ≡ Some v
+get_inserted m k v = get-insert place_total m k v k ∙ ap (λ b. cond b (Some v) (get m k)) ((eq_by_cmp_equiv place_total).refl k)
+
+absent_step : (b : Bool) (m : Kept) (k q : KeptPlace) (v : Entry) → eq_by_cmp place_cmp q k ≡ b → get m k ≡ None → cond b None (cond b (Some v) (get m q)) ≡ get m q
+absent_step true m k q v e h = sym h ∙ ap (get m) (sym (tied_equal q k e))
+absent_step false m k q v e h = refl
+
+-- what is put where nothing was and taken out again
+pub remove-insert : (m : Kept) (k : KeptPlace) (v : Entry) → get m k ≡ None → remove (insert m k v) k ≡ m
+remove-insert m k v h = same_map place_total places_tie (remove (insert m k v) k) m (λ q.
+    get-remove place_total (insert m k v) k q
+    ∙ ap (cond (eq_by_cmp place_cmp q k) None) (get-insert place_total m k v q)
+    ∙ absent_step (eq_by_cmp place_cmp q k) m k q v refl h)

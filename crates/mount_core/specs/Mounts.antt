@@ -22,6 +22,10 @@ coded_mounted =
     code_by (List ℕ × (VolumeState × Kept)) (coded× (coded_list coded_ℕ) (coded× coded_volume coded_kept))
     (λ m. (m.serial, (m.volume, m.kept))) (λ p. record { serial = p.0; volume = p.1.0; kept = p.1.1 }) (λ _. refl)
 
+-- tracks kept at a place
+abbrev pub kept_for : MountedState → KeptPlace → List Extent → MountedState
+kept_for m place list = record m { volume = record m.volume { tracks = marked Aside list m.volume.tracks }; kept = insert m.kept place list }
+
 -- the tracks of a place given back
 abbrev pub given_back : Option (List Extent) → MountedState → KeptPlace → MountedState
 given_back None m place = m

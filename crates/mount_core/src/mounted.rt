@@ -8,7 +8,7 @@ ghost use Rattle.vtoc_core.specs.Volumes.{AnswersGrow, AnswersWrite, Moves, coun
 ghost use Rattle.vtoc_core.specs.declared.entry.SetEntry.{SetEntry};
 ghost use Rattle.vtoc_core.specs.declared.volume.Track.TheVariants.{Aside, Free, InSet, Unusable};
 ghost use Rattle.mount_core.specs.Kept.{extents_kept};
-ghost use Rattle.mount_core.specs.Mounts.{WasMade, given_back, holds};
+ghost use Rattle.mount_core.specs.Mounts.{WasMade, given_back, holds, kept_for};
 
 use crate::lists::{self, Lists, copy_of, drop_place, extents_at, is_taken};
 use crate::place::KeptPlace;
@@ -76,10 +76,7 @@ impl Mounted {
 
     /// Keeps so many tracks at a place where none are kept. A refusal changes nothing: `NameThere` where some are.
     pub fn keep(&mut self, place: KeptPlace, tracks: u16) -> Result<(), VolumeFault>
-        ensures ok { OnOk result ((list : List Extent) × (planned (free_extents self.old.volume.tracks) tracks ≡ Some list) × (self.new ≡ record self.old {
-          volume = record self.old.volume { tracks = marked Aside list self.old.volume.tracks };
-          kept = map.insert self.old.kept place list;
-        })) }
+        ensures ok { OnOk result ((list : List Extent) × (planned (free_extents self.old.volume.tracks) tracks ≡ Some list) × (self.new ≡ kept_for self.old place list)) }
         ensures there { (result ≡ Err VolumeFault.NameThere) → IsSome (map.get self.old.kept place) }
         ensures space { (result ≡ Err VolumeFault.NoSpace) → five_largest (free_extents self.old.volume.tracks) < tracks }
         ensures err { OnErr result (self.new ≡ self.old) }
