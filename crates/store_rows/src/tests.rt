@@ -1,0 +1,3 @@
+mod both;
+mod refused;
+mod rows;
