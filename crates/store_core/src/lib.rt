@@ -1,5 +1,5 @@
-//! What a job does to its store alone: a DD's set is looked for and taken, read, and disposed of. (GC28-6704: DISP, VOLUME, the catalog;
-//! the order of faults is this profile's)
+//! What is asked of a store, a store of lists, and what the take of a DD's set and its disposition decide. (GC28-6704: DISP, VOLUME, the
+//! catalog; the order of faults is this profile's)
 #![tactic(auto)]
 
 pub mod alone;
