@@ -52,12 +52,7 @@ fn mounted(alloc: Global, volume: &CaseVolume) -> Result<Mounted, Unmounted> {
         return Err(Unmounted::Wrong);
     }
     let unusable = unusable_of(alloc, volume.used.as_slice())?;
-    Ok(Mounted::new(
-        alloc,
-        volume.serial,
-        volume.tracks,
-        unusable.as_slice(),
-    )?)
+    Ok(Mounted::new(alloc, volume.serial, volume.tracks, unusable.as_slice())?)
 }
 
 fn mounted_all(alloc: Global, case: &Case<'_>) -> Result<Listed<Mounted>, Unmounted> {

@@ -8,8 +8,8 @@ use jcl_plan::plan::Record;
 use jname_core::ds_name::DsName;
 use jname_core::key::Key;
 use jname_core::serial::Serial;
-use plain::draft::Draft;
 use mount_core::mounted::Mounted;
+use plain::draft::Draft;
 use std::alloc::AllocError;
 use store_core::job_store::{JobStore, SetFacts};
 
