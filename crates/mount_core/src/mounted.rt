@@ -77,8 +77,9 @@ impl Mounted {
     /// Keeps so many tracks at a place where none are kept. A refusal changes nothing: `NameThere` where some are.
     pub fn keep(&mut self, place: KeptPlace, tracks: u16) -> Result<(), VolumeFault>
         ensures ok { OnOk result ((list : List Extent) × (planned (free_extents self.old.volume.tracks) tracks ≡ Some list) × (self.new ≡ kept_for self.old place list)) }
-        ensures there { (result ≡ Err VolumeFault.NameThere) → IsSome (map.get self.old.kept place) }
-        ensures space { (result ≡ Err VolumeFault.NoSpace) → five_largest (free_extents self.old.volume.tracks) < tracks }
+        ensures there { (result ≡ Err VolumeFault.NameThere) ↔ IsSome (map.get self.old.kept place) }
+        ensures space { (result ≡ Err VolumeFault.NoSpace) ↔ ((map.get self.old.kept place ≡ None) × (five_largest (free_extents self.old.volume.tracks) < tracks)) }
+        ensures others { IfErr result (λ fault. (fault ≢ VolumeFault.NameMissing) × (fault ≢ VolumeFault.TooManyExtents)) }
         ensures err { OnErr result (self.new ≡ self.old) }
     {
         if is_taken(&self.kept, &place) {
@@ -150,6 +151,7 @@ impl Mounted {
           sets = map.remove self.old.volume.sets key.now;
         }) × Moves InSet Free (tracks_in entry.extents.items) self.old.volume.tracks self.new.volume.tracks) }
         ensures missing { IsErr result ↔ (map.get self.old.volume.sets key.now ≡ None) }
+        ensures fault { IfErr result (λ fault. fault ≡ VolumeFault.NameMissing) }
         ensures err { OnErr result (self.new.volume ≡ self.old.volume) }
         ensures others { self.new ≡ record self.old { volume = self.new.volume } }
     {
@@ -172,6 +174,7 @@ impl Mounted {
           sets = changed self.old.volume.sets key.now (with_extents (kept_front tracks));
         }) × Moves InSet Free (tracks_past tracks entry.extents.items) self.old.volume.tracks self.new.volume.tracks) }
         ensures missing { IsErr result ↔ (map.get self.old.volume.sets key.now ≡ None) }
+        ensures fault { IfErr result (λ fault. fault ≡ VolumeFault.NameMissing) }
         ensures err { OnErr result (self.new.volume ≡ self.old.volume) }
         ensures others { self.new ≡ record self.old { volume = self.new.volume } }
     {
@@ -193,6 +196,7 @@ impl Mounted {
     pub fn clear(&mut self, key: &SetKey) -> Result<(), VolumeFault>
         ensures ok { OnOk result (self.new.volume ≡ record self.old.volume { sets = changed self.old.volume.sets key.now (with_records (λ _. [])) }) }
         ensures missing { IsErr result ↔ (map.get self.old.volume.sets key.now ≡ None) }
+        ensures fault { IfErr result (λ fault. fault ≡ VolumeFault.NameMissing) }
         ensures err { OnErr result (self.new.volume ≡ self.old.volume) }
         ensures others { self.new ≡ record self.old { volume = self.new.volume } }
     {
