@@ -1,7 +1,6 @@
 //! The store of all jobs.
-ghost use Rattle.std.specs.Prelude.{◌≡◌, ◌≤◌, length, refl};
+ghost use Rattle.std.specs.Prelude.{◌≡◌, refl};
 ghost use Rattle.std.specs.Option.{option_copied, option_map};
-ghost use Rattle.vtoc_core.specs.Extents.{tracks_in};
 ghost use Rattle.store_core.specs.Actions.{facts_of};
 ghost use Rattle.world_meaning.specs.Lenses.{seen, seen_set};
 ghost use Rattle.shared_core.specs.Rooms.{Others, grants_growth, grants_new, kept_place, others_of, spent};
@@ -21,7 +20,7 @@ use mount_core::place::KeptPlace;
 use plain::listed::Listed;
 use std::alloc::{AllocError, Global};
 use store_core::job_store::{JobStore, RoomFault, SetFacts};
-use vtoc_core::entry::{Extent, SetEntry};
+use vtoc_core::entry::SetEntry;
 
 /// The catalog, and the volumes with their sets.
 #[derive(Drop)]
@@ -42,20 +41,12 @@ fn kept_place(job: u16, place: &Place) -> KeptPlace
     }
 }
 
-/// How many tracks these extents have.
-fn tracks_of(extents: &[Extent]) -> u64
-    requires { length extents.now ≤ 16 }
-    ensures { result ≡ tracks_in extents.now }
-{
-    extents.iter().map(|e| u64::from(e.tracks)).sum()
-}
-
 /// What is known of a set.
 fn facts_of(entry: &SetEntry) -> SetFacts
     ensures { result ≡ facts_of (data_of entry.now) }
 {
     SetFacts {
-        tracks: tracks_of(entry.extents.as_slice()),
+        tracks: u64::from(entry.tracks()),
         expires: entry.expires,
         records: entry.records.len(),
     }

@@ -64,6 +64,7 @@ pub struct SetEntry {
 }
 
 impl SetEntry {
+    /// How many tracks it has.
     pub fn tracks(&self) -> u32
         ensures { result ≡ tracks_in self.now.extents.items }
     {
@@ -71,7 +72,7 @@ impl SetEntry {
     }
 }
 
-/// Tracks set aside: five extents at most. It must be given back, or made a set.
+/// Tracks set aside: five extents at most. It must be given back, made a set, or its extents be kept.
 #[derive(Debug)]
 pub struct ExtentList {
     pub(crate) extents: ArrayVec<Extent, 5>,
@@ -93,12 +94,6 @@ impl ExtentList {
         self.extents.as_slice()
     }
 
-    pub fn tracks(&self) -> u32
-        ensures { result ≡ tracks_in self.now }
-    {
-        tracks_in(self.extents.as_slice())
-    }
-
     /// Its extents, for a keeper of what is aside.
     pub fn into_extents(self) -> ArrayVec<Extent, 5>
         ensures { result.items ≡ self }
@@ -108,9 +103,9 @@ impl ExtentList {
     }
 
     /// The list of extents that are kept aside.
-    pub fn of(extents: ArrayVec<Extent, 5>) -> ExtentList
-        ensures { result ≡ extents.items }
+    pub fn of(kept: ArrayVec<Extent, 5>) -> ExtentList
+        ensures { result ≡ kept.items }
     {
-        ExtentList { extents }
+        ExtentList { extents: kept }
     }
 }
