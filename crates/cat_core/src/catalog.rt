@@ -363,7 +363,7 @@ impl Catalog {
         ensures ok { OnOk result (self.new ≡ with_group self.old base limit scratch) }
         ensures err { OnErr result (self.new ≡ self.old) }
     {
-        if self.is_entered(&base) || has_generation_entered(&self.entries, &base) {
+        if self.is_entered(&base) || self.has_generation_of(&base) {
             return Err(CatFault::There);
         }
         match put_group(&mut self.entries, alloc, base, limit, scratch) {
@@ -403,9 +403,17 @@ impl Catalog {
         enter_at(&mut self.entries, base, number, serial)
     }
 
-    fn is_entered(&self, name: &DsName) -> bool
+    /// Whether a name is entered, as a group's base too.
+    pub fn is_entered(&self, name: &DsName) -> bool
         ensures { result ≡ is_entered self.now name.now }
     {
         self.group(name).is_some() || self.find(name).is_some()
+    }
+
+    /// Whether a name of the form of a generation of this base is entered.
+    pub fn has_generation_of(&self, base: &DsName) -> bool
+        ensures { result ≡ has_generation_entered self.now base.now }
+    {
+        has_generation_entered(&self.entries, base)
     }
 }

@@ -74,6 +74,20 @@ impl Mounted {
         &self.volume
     }
 
+    /// Whether so many tracks can be kept, or a set of them made of free tracks. The volume stays as it is.
+    pub fn has_room(&mut self, tracks: u16) -> bool
+        ensures answer { result ≡ holds None self.old.volume tracks }
+        ensures same { self.new ≡ self.old }
+    {
+        match self.volume.reserve(tracks) {
+            Ok(list) => {
+                self.volume.give_back(list);
+                true
+            }
+            Err(_) => false,
+        }
+    }
+
     /// Keeps so many tracks at a place where none are kept. A refusal changes nothing: `NameThere` where some are.
     pub fn keep(&mut self, place: KeptPlace, tracks: u16) -> Result<(), VolumeFault>
         ensures ok { OnOk result ((list : List Extent) × (planned (free_extents self.old.volume.tracks) tracks ≡ Some list) × (self.new ≡ kept_for self.old place list)) }
