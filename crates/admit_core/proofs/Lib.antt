@@ -1,0 +1,6 @@
+pub mod Entered
+pub mod Listed
+pub mod Listings
+pub mod Owned
+pub mod Selected
+pub mod Wanted
