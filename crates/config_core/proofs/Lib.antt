@@ -1,0 +1,4 @@
+pub mod Adding
+pub mod Filling
+pub mod Places
+pub mod Zipped

@@ -1,0 +1,5 @@
+use Rattle.std.proofs.Common.{length}
+use Rattle.config_core.proofs.faults.+are_different.Given as goal
+
+abbrev pub decreases-are_different : goal.decreases-are_different
+decreases-are_different l = length l.classes.now

@@ -1,0 +1,4 @@
+pub mod Configs
+pub mod Refusals
+pub mod Sets
+pub mod Units

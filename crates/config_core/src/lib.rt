@@ -1,0 +1,8 @@
+//! The configuration of the machine: volumes, units, groups, sets, procedures, programs and initiators, statement by statement. (This profile)
+#![tactic(auto)]
+
+pub mod config;
+mod faults;
+mod sets;
+pub mod statement;
+pub mod units;
