@@ -5,3 +5,9 @@ mod CutSets
 mod Entries
 mod SeenSets
 mod Making
+mod OwnSets
+mod NoEntries
+mod Unkept
+mod SetTracks
+mod Conserving
+mod AddingUp

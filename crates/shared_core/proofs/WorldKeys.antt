@@ -26,7 +26,7 @@ names_turned a b = same_from_decides (bytes_eq a b) (bytes_eq b a) (bytes_eq-Dec
     (λ h. sym ((bytes_eq-Decides b a).0 h), λ h. (bytes_eq-Decides b a).1 (sym h))
 
 -- the order of keys ties those of one set
-keys_tied : (a b : SetKey) → is_eq (key_cmp a b) ≡ same_key a b
+pub keys_tied : (a b : SetKey) → is_eq (key_cmp a b) ≡ same_key a b
 keys_tied a b = same_from_decides (is_eq (key_cmp a b)) (same_key a b) (Equal-is (key_cmp a b)) (order_tells a b)
 
 -- what a map has at a key once another is put there, or nothing

@@ -1,3 +1,5 @@
 pub mod Shown
 pub mod Rooms
 pub mod Writes
+pub mod Tracks
+pub mod Laws

@@ -1,11 +1,35 @@
 //! What follows from the definitions alone.
 ghost use Rattle.std.specs.Prelude.{◌≡◌, ℕ};
+ghost use Rattle.std.specs.FinMap as map;
+ghost use Rattle.std.specs.List.{All};
 ghost use Rattle.world_meaning.specs.Lenses.{put_back, seen};
+ghost use Rattle.shared_core.specs.Laws.{NothingKeptStays, SetsOfOthersStay, TracksAreConserved};
 ghost use Rattle.shared_core.specs.Rooms.{others_of};
 ghost use Rattle.shared_core.specs.Shown.{world_of};
+ghost use Rattle.shared_core.specs.Tracks.{NothingKept};
 ghost use Rattle.shared_core.specs.declared.store.SharedStore.{SharedStore};
 
 /// Where nothing changed that a job does not see, the store of all jobs is as before but for what the job sees now.
 pub fn a_job_writes_what_it_sees()
     ensures { (job : ℕ) (old new : SharedStore) → others_of job new ≡ others_of job old → world_of new ≡ put_back job (world_of old) (seen job (world_of new)) }
+{}
+
+/// The same where the sets that others alone see are as before, whatever is kept.
+pub fn sets_of_others_stay()
+    ensures { SetsOfOthersStay }
+{}
+
+/// On volumes that are new no tracks are kept.
+pub fn new_volumes_keep_nothing()
+    ensures { (s : SharedStore) → All (λ m. m.kept ≡ map.empty) s.volumes → NothingKept s }
+{}
+
+/// A job that makes sets keeps no tracks where none were kept.
+pub fn nothing_kept_stays()
+    ensures { NothingKeptStays }
+{}
+
+/// What free tracks lose sets gain, and the other way round.
+pub fn tracks_are_conserved()
+    ensures { TracksAreConserved }
 {}

@@ -6,6 +6,7 @@ pub mod laws;
 #[cfg(test)]
 mod refused;
 pub mod store;
+pub mod sums;
 #[cfg(test)]
 mod tests;
-mod volumes;
+pub mod volumes;

@@ -19,7 +19,8 @@ use store_core::job_store::RoomFault;
 use vtoc_core::entry::SetKey;
 use vtoc_core::fault::VolumeFault;
 
-fn position_of(volumes: &[Mounted], serial: Serial) -> Option<usize>
+/// The first place of a volume of the serial.
+pub fn position_of(volumes: &[Mounted], serial: Serial) -> Option<usize>
     ensures { result ≡ position (is_mounted serial) volumes.now }
 {
     volumes

@@ -1,30 +1,8 @@
-use Rattle.std.proofs.Common.{◌≡◌, ℕ, ◌==◌, Bool, true, false, cond, List, Option, None, refl, ap}
-use Rattle.std.proofs.lemmas.Bool.{eqb-true}
-use Rattle.jcl_meaning.specs.declared.store.DataSet.{DataSet}
-use Rattle.vtoc_core.specs.declared.entry.SetKey.{SetKey}
-use Rattle.vtoc_core.specs.declared.entry.SetKey.TheVariants.{Named, Temporary, Unnamed}
-use Rattle.world_meaning.specs.Lenses.{WorldStore, seen, written_set}
-use Rattle.shared_core.specs.Rooms.{Others, set_of_others}
+use Rattle.std.proofs.Common.{ap}
+use Rattle.shared_core.specs.Rooms.{Others}
 use Rattle.shared_core.specs.Shown.{world_of}
+use Rattle.shared_core.proofs.OwnSets.{written_back}
 use Rattle.shared_core.proofs.laws.a_job_writes_what_it_sees.Goals as goal
 
--- what is the job's own, and what is not
-one_owner : (b : Bool) (own new old : Option DataSet) → (b ≡ true → new ≡ own) → cond b None new ≡ cond b None old → new ≡ cond b own old
-one_owner true own new old h e = h refl
-one_owner false own new old h e = e
-
-each_set : (job : ℕ) (old new : WorldStore) → ((k : SetKey) (v : List ℕ) → set_of_others job new k v ≡ set_of_others job old k v) →
-    (k : SetKey) (v : List ℕ) → new.set k v ≡ written_set job old (seen job new) k v
-each_set job old new h (Named name) v = refl
-each_set job old new h (Temporary owner name) v =
-    one_owner (owner == job) (new.set (Temporary job name) v) (new.set (Temporary owner name) v) (old.set (Temporary owner name) v)
-    (λ e. ap (λ j. new.set (Temporary j name) v) (eqb-true owner job e)) (h (Temporary owner name) v)
-each_set job old new h (Unnamed owner step dd) v =
-    one_owner (owner == job) (new.set (Unnamed job step dd) v) (new.set (Unnamed owner step dd) v) (old.set (Unnamed owner step dd) v)
-    (λ e. ap (λ j. new.set (Unnamed j step dd) v) (eqb-true owner job e)) (h (Unnamed owner step dd) v)
-
 pub returns : goal.returns
-returns c = λ job old new h.
-    let others : (k : SetKey) (v : List ℕ) → set_of_others job (world_of new) k v ≡ set_of_others job (world_of old) k v =
-    λ k v. ap (λ (o : Others). o.set k v) h in
-    λ i. record { set = λ k v. each_set job (world_of old) (world_of new) others k v i; catalog = (world_of new).catalog }
+returns c = λ job old new h. written_back job (world_of old) (world_of new) (λ k v. ap (λ (o : Others). o.set k v) h)

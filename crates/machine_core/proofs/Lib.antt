@@ -1,0 +1,2 @@
+pub mod Releasing
+pub mod Unnamed

@@ -1,0 +1,33 @@
+//! A job that is over gives back what it has.
+ghost use Rattle.std.specs.Prelude.{◌≡◌, ◌≢◌};
+ghost use Rattle.enq_core.specs.Holds.{HoldsNone};
+ghost use Rattle.world_meaning.specs.Worlds.{Config};
+ghost use Rattle.machine_core.specs.Released.{GivesBack, IsReleased};
+
+use crate::parts::Parts;
+use admit_core::records::release_records;
+use cb_queue::store::RecordStore;
+use enq_core::table::Held;
+
+/// A job whose names are held gives them back, its records, and a cancel that did not act. It takes no memory.
+pub fn release<Q: RecordStore>(parts: &mut Parts<Q>, job: u16, held: Held)
+    requires some { job ≢ 0 }
+    requires its_own { held ≡ job }
+    ensures back { GivesBack Q.queue job parts.old parts.new }
+    ensures released { (c : Config) → c.layout ≡ (Q.queue parts.old.queue).layout → IsReleased Q.queue c job parts.old parts.new }
+{
+    release_records(&mut parts.queue, job);
+    parts.names.release(held);
+    parts.cancels.remove(job);
+}
+
+/// The same of a job that holds no name.
+pub fn release_unnamed<Q: RecordStore>(parts: &mut Parts<Q>, job: u16)
+    requires some { job ≢ 0 }
+    requires unnamed { HoldsNone parts.old.names job }
+    ensures back { GivesBack Q.queue job parts.old parts.new }
+    ensures released { (c : Config) → c.layout ≡ (Q.queue parts.old.queue).layout → IsReleased Q.queue c job parts.old parts.new }
+{
+    release_records(&mut parts.queue, job);
+    parts.cancels.remove(job);
+}

@@ -1,0 +1,6 @@
+mod Changing
+mod Seats
+mod KeptAside
+mod Choosing
+mod Undoing
+mod Configured

@@ -1,0 +1,2 @@
+pub mod Volumes
+pub mod Placings

@@ -1,0 +1,98 @@
+//! Tracks set aside on the volume of a serial, and given back.
+ghost use Rattle.std.specs.Prelude.{◌≡◌, ℕ, ◌<◌, None, IfNone, IfOk, IfSome, OnErr, OnOk};
+ghost use Rattle.shared_core.specs.Rooms.{kept_place};
+ghost use Rattle.shared_core.specs.Shown.{kept_on, mounted_in};
+ghost use Rattle.place_core.specs.Placings.{chosen};
+ghost use Rattle.place_core.specs.Volumes.{IsClear, IsMissing, StandsAt, all_back, aside_at, aside_on, back_on, changed_on, has_room};
+
+use jcl_meaning::state::Place;
+use jname_core::serial::Serial;
+use mount_core::mounted::Mounted;
+use mount_core::place::KeptPlace;
+use shared_core::volumes::position_of;
+use std::alloc::AllocError;
+use vtoc_core::fault::VolumeFault;
+
+/// Where the volume of a serial stands, from 0.
+fn place_of(volumes: &[Mounted], serial: Serial) -> Option<usize>
+    ensures there { IfSome result (StandsAt volumes.now serial) }
+    ensures missing { IfNone result (IsMissing volumes.now serial) }
+{
+    position_of(volumes, serial)
+}
+
+/// Sets tracks aside on the volume of a serial if it has room for them, and tells whether it has. An `Err` changes nothing.
+fn set_aside(
+    volumes: &mut [Mounted],
+    serial: Serial,
+    at: KeptPlace,
+    tracks: u16,
+) -> Result<bool, AllocError>
+    requires some { 0 < tracks }
+    requires clear { kept_on (mounted_in volumes.old serial) at ≡ None }
+    ensures room { IfOk result (λ room. room ≡ has_room tracks (mounted_in volumes.old serial)) }
+    ensures ok { OnOk result (volumes.new ≡ changed_on (aside_on at tracks) serial volumes.old) }
+    ensures err { OnErr result (volumes.new ≡ volumes.old) }
+{
+    let Some(place) = place_of(volumes, serial) else {
+        return Ok(false);
+    };
+    match volumes[place].keep(at, tracks) {
+        Ok(()) => Ok(true),
+        Err(VolumeFault::NoSpace) => Ok(false),
+        Err(_) => Err(AllocError),
+    }
+}
+
+/// Sets tracks aside on the first of these volumes that has room for them, and tells which that is, or else the first. An `Err` changes nothing.
+pub(crate) fn aside_among(
+    volumes: &mut [Mounted],
+    among: &[Serial],
+    at: KeptPlace,
+    tracks: u16,
+) -> Result<Option<Serial>, AllocError>
+    requires { IsClear volumes.old at }
+    ensures chosen { IfOk result (λ serial. serial ≡ chosen volumes.old tracks among.now) }
+    ensures ok { IfOk result (λ serial. volumes.new ≡ aside_at serial at tracks volumes.old) }
+    ensures err { OnErr result (volumes.new ≡ volumes.old) }
+{
+    if tracks == 0 {
+        return Ok(among.first().copied());
+    }
+    for serial in among {
+        if set_aside(volumes, *serial, at, tracks)? {
+            return Ok(Some(*serial));
+        }
+    }
+    Ok(among.first().copied())
+}
+
+/// Gives back what is set aside at a place on the volume of a serial.
+pub(crate) fn give_back(volumes: &mut [Mounted], serial: Serial, at: &KeptPlace)
+    ensures { volumes.new ≡ changed_on (back_on at.now) serial volumes.old }
+{
+    if let Some(place) = place_of(volumes, serial) {
+        volumes[place].give_back(at);
+    }
+}
+
+/// The place at which tracks are set aside for a set of a job.
+fn kept_place(job: u16, place: &Place) -> KeptPlace
+    ensures { result ≡ kept_place job place.now }
+{
+    KeptPlace {
+        job,
+        step: place.step,
+        dd: place.dd,
+    }
+}
+
+/// Gives back what is set aside for the sets of a job at these places, the last first.
+pub(crate) fn give_all_back(volumes: &mut [Mounted], places: &[Place], job: u16)
+    ensures { volumes.new ≡ all_back job places.now volumes.old }
+{
+    for i in 0..places.len() {
+        let place = &places[places.len() - 1 - i];
+        give_back(volumes, place.serial, &kept_place(job, place));
+    }
+}

@@ -1,0 +1,11 @@
+//! Where the sets of a job are placed: tracks are set aside for each in turn, and all are given back.
+#![tactic(auto)]
+
+mod aside;
+pub mod laws;
+pub mod place;
+#[cfg(test)]
+mod refused;
+mod rule;
+#[cfg(test)]
+mod tests;

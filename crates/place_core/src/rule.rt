@@ -1,0 +1,53 @@
+//! On which volumes a DD's set may be placed.
+ghost use Rattle.std.specs.Prelude.{◌≡◌};
+ghost use Rattle.jcl_meaning.specs.Takes.{primary_of};
+ghost use Rattle.world_meaning.specs.Placements.{places};
+ghost use Rattle.place_core.specs.Placings.{listed_for};
+
+use jcl_plan::plan::{Space, Status, VolumePlan};
+use jname_core::serial::Serial;
+use plain::listed::Listed;
+
+/// Whether a DD with this status and this way to its volume is placed.
+pub(crate) fn is_placed(status: Status, volume: &VolumePlan) -> bool
+    ensures { result ≡ places status volume.now }
+{
+    match status {
+        Status::New => true,
+        Status::Old => false,
+        Status::Shr => false,
+        Status::Mod => match volume {
+            VolumePlan::NotCoded => true,
+            VolumePlan::Serial(_) => false,
+            VolumePlan::OfName(_) => false,
+            VolumePlan::OfDd { .. } => false,
+        },
+    }
+}
+
+/// The volumes of a unit name by its number from 1; without one all.
+pub(crate) fn listed_for<'a>(
+    all: &'a [Serial],
+    units: &'a [Listed<Serial>],
+    number: Option<u16>,
+) -> &'a [Serial]
+    ensures { result.now ≡ listed_for all.now units.now number }
+{
+    let Some(number) = number else {
+        return all;
+    };
+    match units.get(usize::from(number.saturating_sub(1))) {
+        Some(list) => list.as_slice(),
+        None => &[],
+    }
+}
+
+/// The primary of a set, 0 without SPACE.
+pub(crate) fn primary_of(space: &Option<Space>) -> u16
+    ensures { result ≡ primary_of space.now }
+{
+    match space {
+        None => 0,
+        Some(space) => space.primary,
+    }
+}

@@ -1,0 +1,42 @@
+-- The tracks of all volumes: which are free, that they add up, and when none are kept.
+use Rattle.std.specs.Prelude.{◌≡◌, ℕ, List, [], Option, Some, None}
+use Rattle.std.specs.List.{All}
+use Rattle.vtoc_core.specs.declared.volume.Track.TheVariants.{Aside, Free, InSet}
+use Rattle.vtoc_core.specs.Extents.{tracks_in}
+use Rattle.vtoc_core.specs.Volumes.{count_of, extents_of_all}
+use Rattle.world_meaning.specs.Worlds.{Shared}
+use Rattle.mount_core.specs.declared.place.KeptPlace.{KeptPlace}
+use Rattle.mount_core.specs.Kept.{extents_kept}
+use Rattle.mount_core.specs.Mounts.{MountedState}
+use Rattle.shared_core.specs.declared.store.SharedStore.{SharedStore}
+use Rattle.shared_core.specs.Rooms.{Others}
+use Rattle.shared_core.specs.Shown.{kept_on, mounted_in, world_of}
+
+-- the free tracks of the volume of a serial; none where there is no volume
+abbrev pub free_tracks : Option MountedState → ℕ
+free_tracks None = 0
+free_tracks (Some m) = count_of Free m.volume.tracks
+
+abbrev pub free_on : List MountedState → List ℕ → ℕ
+free_on volumes serial = free_tracks (mounted_in volumes serial)
+
+-- The tracks of a volume that are aside are those that are kept, and those in sets are those of its sets' extents.
+pub record AddsUp (m : MountedState) : Type 0 where
+  pub aside : count_of Aside m.volume.tracks ≡ tracks_in (extents_kept m.kept)
+  pub in_sets : count_of InSet m.volume.tracks ≡ tracks_in (extents_of_all m.volume.sets)
+
+abbrev pub VolumesAddUp : SharedStore → Type 0
+VolumesAddUp s = All AddsUp s.volumes
+
+-- no tracks are kept
+abbrev pub KeepsNothing : Others → Type 0
+KeepsNothing rest = (serial : List ℕ) (at : KeptPlace) → rest.kept serial at ≡ None
+
+abbrev pub NothingKept : SharedStore → Type 0
+NothingKept s = (serial : List ℕ) (at : KeptPlace) → kept_on (mounted_in s.volumes serial) at ≡ None
+
+-- What the machine's definitions have for a store that keeps nothing: its sets and catalog, and its free tracks.
+pub record IsShown (s : SharedStore) (shared : Shared) : Type 0 where
+  pub store : shared.store ≡ world_of s
+  pub free : (serial : List ℕ) → shared.free serial ≡ free_on s.volumes serial
+  pub kept : shared.kept ≡ []

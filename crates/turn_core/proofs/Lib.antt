@@ -1,0 +1,12 @@
+mod FewLines
+mod MachineTurns
+mod NoSets
+mod Passing
+mod Performing
+mod Places
+mod Reading
+mod Saying
+mod Standing
+mod Starting
+mod StepEnds
+mod Turning

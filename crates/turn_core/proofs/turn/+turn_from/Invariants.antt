@@ -1,0 +1,7 @@
+use Rattle.std.proofs.Common.{length}
+use Rattle.jcl_meaning.specs.Programs.{moves_of}
+use Rattle.turn_core.specs.Places.{agenda_at}
+use Rattle.turn_core.proofs.turn.+turn_from.Given as goal
+
+abbrev pub decreases-turn_from : goal.decreases-turn_from
+decreases-turn_from g l = length (agenda_at (moves_of l.programs.now) l.plan.now.steps l.walk.now.todo)

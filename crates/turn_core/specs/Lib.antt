@@ -1,0 +1,9 @@
+pub mod Ending
+pub mod MachineTurns
+pub mod Passing
+pub mod Performing
+pub mod Places
+pub mod Standing
+pub mod TurnLaws
+pub mod Turning
+pub mod Waiting

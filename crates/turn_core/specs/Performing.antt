@@ -1,0 +1,56 @@
+-- An action carried out, with the answers of the store.
+use Rattle.std.specs.Prelude.{◌≡◌, ℕ, Bool, true, List, ◌++◌, Option, Some, None}
+use Rattle.jname_core.specs.declared.key.Key.{Key}
+use Rattle.jcl_plan.specs.declared.plan.StepPlan.{StepPlan}
+use Rattle.jcl_meaning.specs.declared.program.SoloProgram.{SoloProgram}
+use Rattle.jcl_meaning.specs.declared.state.Own.{Own}
+use Rattle.jcl_meaning.specs.declared.state.Place.{Place}
+use Rattle.jcl_meaning.specs.Acts.{act}
+use Rattle.jcl_meaning.specs.Agendas.{Action, Ask, Take}
+use Rattle.jcl_meaning.specs.States.{Done, Fixed}
+use Rattle.jcl_meaning.specs.Stores.{Store}
+use Rattle.store_core.specs.Actions.{state_at}
+use Rattle.disp_core.specs.Grants.{made_of, primary_granted}
+use Rattle.disp_core.specs.Requests.{Growth, growth_asked}
+use Rattle.disp_core.specs.declared.course.Course.{Course}
+use Rattle.world_meaning.specs.Turns.{Granting, answers_due}
+
+-- whether the store grants the primary of the set that an action makes, and the growth that it asks for
+abbrev pub primary_by : (Key → Place → ℕ → Bool) → Fixed → Action → Store → Own → Bool
+primary_by grants fixed (Take n dd d) seen own = primary_granted grants fixed n dd d.kind seen own
+primary_by grants fixed other seen own = true
+
+abbrev pub growth_granted : (Key → List ℕ → ℕ → Bool) → Option Growth → Bool
+growth_granted grants None = true
+growth_granted grants (Some g) = grants g.key g.serial g.tracks
+
+abbrev pub growth_by : (Key → List ℕ → ℕ → Bool) → Bool → Action → Store → Own → Bool
+growth_by grants cancel (Ask step wants) seen own = growth_granted grants (growth_asked cancel step wants own seen)
+growth_by grants cancel other seen own = true
+
+-- what a store answers
+pub record StoreAnswers : Type 0 where
+  pub new : Key → Place → ℕ → Bool
+  pub growth : Key → List ℕ → ℕ → Bool
+
+abbrev pub granting_by : StoreAnswers → Bool → Fixed → Action → Store → Own → Granting
+granting_by grants cancel fixed a seen own = record {
+  cancel = cancel;
+  growth = growth_by grants.growth cancel a seen own;
+  primary = primary_by grants.new fixed a seen own;
+}
+
+-- what an action does at a job's turn
+abbrev pub done_by : List SoloProgram → List StepPlan → Granting → Fixed → Action → Store → Own → Done
+done_by programs steps g fixed a seen own = act fixed a (state_at seen own (answers_due programs steps g a own))
+
+-- it was done: this is what it left of the store and of the job's own part; its lines stand behind those before; it made this set, or none
+pub record HasActed (done : Done) (seen : Store) (after before : Course) (made : Option Place) : Type 0 where
+  pub its_store : done.state.store ≡ seen
+  pub its_own : done.state.own ≡ after.own
+  pub its_lines : after.lines ≡ before.lines ++ done.lines
+  pub its_made : done.made ≡ made_of made
+
+abbrev pub Performs : List SoloProgram → List StepPlan → StoreAnswers → Bool → Fixed → Action → Store → Course → Store → Course → Option Place → Type 0
+Performs programs steps grants cancel fixed a old before new after made =
+    HasActed (done_by programs steps (granting_by grants cancel fixed a old before.own) fixed a old before.own) new after before made

@@ -1,0 +1,66 @@
+//! An action carried out.
+ghost use Rattle.std.specs.Prelude.{◌≡◌, List, IfOk, OnErr};
+ghost use Rattle.jcl_plan.specs.declared.plan.StepPlan.{StepPlan};
+ghost use Rattle.disp_core.specs.Courses.{fixed_by};
+ghost use Rattle.disp_core.specs.Grants.{made_of};
+ghost use Rattle.turn_core.specs.Performing.{Performs};
+ghost use Rattle.turn_core.specs.Places.{IsCounted, IsOfStep, action_of};
+
+use crate::todo::Task;
+use disp_core::course::{Course, Given};
+use disp_core::{ask, dispose, request, step, take};
+use jcl_meaning::state::Place;
+use prog_core::library::ProgramLibrary;
+use std::alloc::{AllocError, Global};
+use store_core::job_store::JobStore;
+
+/// Carries an action out, with the answers of the store; it tells where it made a set. An `Err` changes nothing.
+pub(crate) fn perform<S: JobStore>(
+    alloc: Global,
+    programs: &ProgramLibrary,
+    store: &mut S,
+    job: u16,
+    given: &Given,
+    course: &mut Course,
+    task: &Task,
+    cancelled: bool,
+) -> Result<Option<Place>, AllocError>
+    requires { IsCounted task.now }
+    ensures ok { IfOk result (λ made. (steps : List StepPlan) → IsOfStep steps task.now →
+        Performs programs.now steps (record { new = S.grants_new job store.old; growth = S.grants_growth job store.old }) cancelled (fixed_by given.now)
+        (action_of task.now) (S.seen job store.old) course.old (S.seen job store.new) course.new made) }
+    ensures rest { IfOk result (λ made. S.rest job store.new ≡ S.spent job (made_of made) (S.rest job store.old)) }
+    ensures err { OnErr result ((S.seen job store.new ≡ S.seen job store.old) × (S.rest job store.new ≡ S.rest job store.old) × (course.new ≡ course.old)) }
+{
+    match task {
+        Task::Start { n, step } => {
+            step::begin(given, course, *n, step)?;
+            Ok(None)
+        }
+        Task::Take { n, dd, d } => {
+            let taken = take::take(alloc, store, job, given, course, *n, *dd, d)?;
+            Ok(taken.made)
+        }
+        Task::Ask { step, wants } => {
+            ask::ask(alloc, store, job, course, step, wants, cancelled)?;
+            Ok(None)
+        }
+        Task::Receive => {
+            request::receive(store, job, course, cancelled)?;
+            Ok(None)
+        }
+        Task::Finish { n, step } => {
+            let outcome = programs.ending_of(&step.program);
+            step::finish(alloc, course, *n, &outcome, cancelled)?;
+            Ok(None)
+        }
+        Task::Dispose { n, dd, d } => {
+            dispose::dispose(store, job, given, course, *n, *dd, d)?;
+            Ok(None)
+        }
+        Task::Left { n, dd, d } => {
+            dispose::leave(store, job, given, course, *n, *dd, d)?;
+            Ok(None)
+        }
+    }
+}
