@@ -1,13 +1,25 @@
 //! A job that is over gives back what it has.
 ghost use Rattle.std.specs.Prelude.{◌≡◌, ◌≢◌};
 ghost use Rattle.enq_core.specs.Holds.{HoldsNone};
+ghost use Rattle.world_meaning.specs.Holdings.{cancels_without};
 ghost use Rattle.world_meaning.specs.Worlds.{Config};
+ghost use Rattle.admit_core.specs.Releases.{Releases};
 ghost use Rattle.machine_core.specs.Released.{GivesBack, IsReleased};
 
 use crate::parts::Parts;
 use admit_core::records::release_records;
 use cb_queue::store::RecordStore;
 use enq_core::table::Held;
+
+/// Gives back a job's records, and a cancel that did not act.
+fn leave_queue<Q: RecordStore>(parts: &mut Parts<Q>, job: u16)
+    requires { job ≢ 0 }
+    ensures records { Releases job (Q.queue parts.old.queue) (Q.queue parts.new.queue) }
+    ensures rest { parts.new ≡ record parts.old { queue = parts.new.queue; cancels = cancels_without parts.old.cancels job } }
+{
+    release_records(&mut parts.queue, job);
+    parts.cancels.remove(job);
+}
 
 /// A job whose names are held gives them back, its records, and a cancel that did not act. It takes no memory.
 pub fn release<Q: RecordStore>(parts: &mut Parts<Q>, job: u16, held: Held)
@@ -16,9 +28,8 @@ pub fn release<Q: RecordStore>(parts: &mut Parts<Q>, job: u16, held: Held)
     ensures back { GivesBack Q.queue job parts.old parts.new }
     ensures released { (c : Config) → c.layout ≡ (Q.queue parts.old.queue).layout → IsReleased Q.queue c job parts.old parts.new }
 {
-    release_records(&mut parts.queue, job);
+    leave_queue(parts, job);
     parts.names.release(held);
-    parts.cancels.remove(job);
 }
 
 /// The same of a job that holds no name.
@@ -28,6 +39,5 @@ pub fn release_unnamed<Q: RecordStore>(parts: &mut Parts<Q>, job: u16)
     ensures back { GivesBack Q.queue job parts.old parts.new }
     ensures released { (c : Config) → c.layout ≡ (Q.queue parts.old.queue).layout → IsReleased Q.queue c job parts.old parts.new }
 {
-    release_records(&mut parts.queue, job);
-    parts.cancels.remove(job);
+    leave_queue(parts, job);
 }

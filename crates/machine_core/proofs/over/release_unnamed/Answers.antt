@@ -1,17 +1,17 @@
-use Rattle.std.proofs.Common.{refl, sym}
+use Rattle.std.proofs.Common.{ap, sym, ◌∙◌}
 use Rattle.machine_core.proofs.Releasing.{is_released}
 use Rattle.machine_core.proofs.Unnamed.{none_given_free}
 use Rattle.machine_core.proofs.over.release_unnamed.Goals as goal
 
 pub returns-clause-back : goal.returns-clause-back
 returns-clause-back g c = record {
-  records = c.release_records.ensures;
-  names = sym (none_given_free c.args.parts.now.names c.args.job c.requires.unnamed);
-  cancels = c.remove.ensures;
-  store = refl;
-  units = refl;
-  spool = refl;
-  date = refl;
+  records = c.leave_queue.ensures.records;
+  names = ap (λ p. p.names) c.leave_queue.ensures.rest ∙ sym (none_given_free c.args.parts.now.names c.args.job c.requires.unnamed);
+  cancels = ap (λ p. p.cancels) c.leave_queue.ensures.rest;
+  store = ap (λ p. p.store) c.leave_queue.ensures.rest;
+  units = ap (λ p. p.units) c.leave_queue.ensures.rest;
+  spool = ap (λ p. p.spool) c.leave_queue.ensures.rest;
+  date = ap (λ p. p.date) c.leave_queue.ensures.rest;
 }
 
 pub returns-clause-released : goal.returns-clause-released
