@@ -1,2 +1,4 @@
+pub mod Devices
 pub mod Releasing
 pub mod Unnamed
+pub mod Writers
