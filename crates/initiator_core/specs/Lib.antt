@@ -1,0 +1,5 @@
+pub mod Running
+pub mod Finding
+pub mod Naming
+pub mod Going
+pub mod Turning

@@ -1,0 +1,62 @@
+//! A job at an initiator, and what is fixed for all jobs.
+use admission_core::admission::Admission;
+use enq_core::table::{Held, Want};
+use jcl_plan::entry::JobLine;
+use jcl_plan::plan::JobPlan;
+use jname_core::serial::Serial;
+use plain::listed::Listed;
+use prog_core::library::ProgramLibrary;
+use turn_core::walk::Walk;
+
+/// How far an initiator is with its job.
+#[derive(Debug)]
+pub enum Stage {
+    /// Its records are to be read; its JCT is this record.
+    Selected {
+        first: u32,
+    },
+    /// They are read, and it waits for these names.
+    Wanting {
+        plan: JobPlan,
+        wants: Listed<Want>,
+    },
+    /// Its names are held.
+    Named {
+        plan: JobPlan,
+        held: Held,
+    },
+    /// It is admitted.
+    Admitted {
+        plan: JobPlan,
+        held: Held,
+        admission: Admission,
+    },
+}
+
+/// A job at an initiator: its number, its place in its agenda with its own part and its listing so far, and how far the initiator is with it.
+#[derive(Debug)]
+pub struct Running {
+    pub job: u16,
+    pub walk: Walk,
+    pub stage: Stage,
+}
+
+/// What is fixed for all jobs: the serials of the volumes, the volumes of each unit name, the programs, whether jobs that may fail are refused, and the
+/// limit of views.
+#[derive(Clone, Copy, Debug)]
+pub struct Profile<'c> {
+    pub volumes: &'c [Serial],
+    pub units: &'c [Listed<Serial>],
+    pub programs: &'c ProgramLibrary,
+    pub refuses: bool,
+    pub most_views: usize,
+}
+
+/// What a job's turn came to.
+#[derive(Debug)]
+pub enum Progress {
+    /// The job goes on. It wrote the lines of its listing from this place on.
+    GoesOn { job: Running, from: usize },
+    /// It is over, and this was its last line.
+    Over(JobLine),
+}
