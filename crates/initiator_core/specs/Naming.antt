@@ -14,7 +14,8 @@ use Rattle.initiator_core.specs.declared.running.Stage.{Stage}
 use Rattle.initiator_core.specs.declared.running.Stage.TheVariants.{Named, Wanting}
 
 -- the job holds all of them, and this is written behind its listing
-pub record HoldsAll (old : List Hold) (job : ℕ) (wants : List Want) (before : List JobLine) (holder : ℕ) (new : List Hold) (after : List JobLine) : Type 0 where
+pub record HoldsAll (old : List Hold) (job : ℕ) (wants : List Want) (before : List JobLine) (holder : ℕ)
+    (new : List Hold) (after : List JobLine) : Type 0 where
   pub free : All (λ want. is_blocked old want ≡ false) wants
   pub holds : new ≡ old ++ holds_of job wants
   pub told : after ≡ before ++ line.Names (length wants) ∷ []

@@ -1,4 +1,6 @@
 //! A job at an initiator, and what is fixed for all jobs.
+ghost use Rattle.std.specs.Prelude.{◌≡◌, drop};
+
 use admission_core::admission::Admission;
 use enq_core::table::{Held, Want};
 use jcl_plan::entry::JobLine;
@@ -39,6 +41,20 @@ pub struct Running {
     pub job: u16,
     pub walk: Walk,
     pub stage: Stage,
+}
+
+impl Running {
+    /// The lines of its listing from a place on.
+    pub fn lines_from(&self, from: usize) -> &[JobLine]
+        ensures { result.now ≡ drop from self.now.walk.course.lines }
+    {
+        let lines = self.walk.course.lines.as_slice();
+        if from < lines.len() {
+            &lines[from..]
+        } else {
+            &[]
+        }
+    }
 }
 
 /// What is fixed for all jobs: the serials of the volumes, the volumes of each unit name, the programs, whether jobs that may fail are refused, and the
