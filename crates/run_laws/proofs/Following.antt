@@ -28,7 +28,7 @@ use Rattle.run_laws.specs.Soundness.{IsSound, RunsAt}
 use Rattle.run_laws.proofs.Gone.{heard_first, stays_silent}
 use Rattle.run_laws.proofs.NextTurns.{Then, Turns_to, next, over, stays, turned}
 use Rattle.run_laws.proofs.Over.{advance_stands, goes_plain}
-use Rattle.run_laws.proofs.PlainLines.{is_assured, is_special}
+use Rattle.run_laws.proofs.PlainLines.{is_of_admission, is_special}
 use Rattle.run_laws.proofs.Sound.{sound_behind}
 use Rattle.run_laws.proofs.Voices.{heard}
 
@@ -44,7 +44,7 @@ no_end : (lines : List JobLine) → list_any is_special lines ≡ false → list
 no_end [] h = refl
 no_end (l ∷ lines) h =
     let both : (is_special l ≡ false) × (list_any is_special lines ≡ false) = or_parts (is_special l) (list_any is_special lines) h in
-    λ i. (or_parts (is_end l) (is_assured l) both.0).0 i || no_end lines both.1 i
+    λ i. (or_parts (is_end l) (is_of_admission l) both.0).0 i || no_end lines both.1 i
 
 abbrev Turns_by : List SoloProgram → JobPlan → Fixed → Turn → ℕ → Own → Type 0
 Turns_by programs plan fixed t count own =

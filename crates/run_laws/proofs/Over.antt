@@ -20,7 +20,7 @@ use Rattle.jcl_meaning.specs.States.{Answers, Done, Fixed, State}
 use Rattle.world_meaning.specs.Headlines.{is_end}
 use Rattle.world_meaning.specs.Turns.{Advanced, advance}
 use Rattle.world_laws.proofs.Behind.{acted, drop_next, here, writes_or_not}
-use Rattle.run_laws.proofs.PlainLines.{is_assured, is_last, is_special, plain_act}
+use Rattle.run_laws.proofs.PlainLines.{is_assured, is_last, is_of_admission, is_risk, is_special, plain_act}
 
 -- no action before the last is the job's end
 none_last : (xs ys : List Action) → list_any is_last xs ≡ false → list_any is_last ys ≡ false → list_any is_last (xs ++ ys) ≡ false
@@ -136,7 +136,7 @@ no_assured : (lines : List JobLine) → list_any is_special lines ≡ false → 
 no_assured [] h = refl
 no_assured (l ∷ lines) h =
     let both : (is_special l ≡ false) × (list_any is_special lines ≡ false) = or_parts (is_special l) (list_any is_special lines) h in
-    λ i. (or_parts (is_end l) (is_assured l) both.0).1 i || no_assured lines both.1 i
+    λ i. (or_parts (is_assured l) (is_risk l) (or_parts (is_end l) (is_of_admission l) both.0).1).0 i || no_assured lines both.1 i
 
 act_unassured : (fixed : Fixed) (a : Action) (s : State) → list_any is_assured (act fixed a s).lines ≡ false
 unfolding act
@@ -151,3 +151,24 @@ act_unassured fixed Over s = refl
 
 pub unassured : (whole : List Action) (fixed : Fixed) (x : Advanced) → Stands whole fixed x → list_any is_assured x.done.lines ≡ false
 unassured whole fixed x s = ap (λ (d : Done). list_any is_assured d.lines) s.done ∙ act_unassured fixed x.action x.before
+
+-- and none RISK
+no_risk : (lines : List JobLine) → list_any is_special lines ≡ false → list_any is_risk lines ≡ false
+no_risk [] h = refl
+no_risk (l ∷ lines) h =
+    let both : (is_special l ≡ false) × (list_any is_special lines ≡ false) = or_parts (is_special l) (list_any is_special lines) h in
+    λ i. (or_parts (is_assured l) (is_risk l) (or_parts (is_end l) (is_of_admission l) both.0).1).1 i || no_risk lines both.1 i
+
+act_riskless : (fixed : Fixed) (a : Action) (s : State) → list_any is_risk (act fixed a s).lines ≡ false
+unfolding act
+act_riskless fixed (Start n step) s = refl
+act_riskless fixed (Take n dd d) s = no_risk (act fixed (Take n dd d) s).lines (plain_act fixed (Take n dd d) s refl).plain
+act_riskless fixed (Ask step m) s = no_risk (act fixed (Ask step m) s).lines (plain_act fixed (Ask step m) s refl).plain
+act_riskless fixed Receive s = no_risk (act fixed Receive s).lines (plain_act fixed Receive s refl).plain
+act_riskless fixed (Finish n) s = no_risk (act fixed (Finish n) s).lines (plain_act fixed (Finish n) s refl).plain
+act_riskless fixed (Dispose n dd d) s = no_risk (act fixed (Dispose n dd d) s).lines (plain_act fixed (Dispose n dd d) s refl).plain
+act_riskless fixed (Left n dd d) s = no_risk (act fixed (Left n dd d) s).lines (plain_act fixed (Left n dd d) s refl).plain
+act_riskless fixed Over s = refl
+
+pub riskless : (whole : List Action) (fixed : Fixed) (x : Advanced) → Stands whole fixed x → list_any is_risk x.done.lines ≡ false
+riskless whole fixed x s = ap (λ (d : Done). list_any is_risk d.lines) s.done ∙ act_riskless fixed x.action x.before

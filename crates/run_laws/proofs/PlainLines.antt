@@ -1,4 +1,4 @@
--- No action but the job's end writes END, and none ASSURED.
+-- No action but the job's end writes END, and none ASSURED or RISK.
 use Rattle.std.proofs.Common.{◌≡◌, ℕ, ◌-◌, Bool, true, false, cond, List, [], ◌∷◌, Option, Some, None, refl, ap, ◌∙◌}
 use Rattle.std.specs.Prelude.{◌||◌, drop, slice_get}
 use Rattle.std.specs.List.{list_any}
@@ -41,9 +41,16 @@ abbrev pub is_assured : JobLine → Bool
 is_assured (line.Assured tracks actions) = true
 is_assured other = false
 
--- what only the admission and the job's end write
+abbrev pub is_risk : JobLine → Bool
+is_risk (line.Risk fault step dd path) = true
+is_risk other = false
+
+-- what only the admission writes, and what it or the job's end does
+abbrev pub is_of_admission : JobLine → Bool
+is_of_admission l = is_assured l || is_risk l
+
 abbrev pub is_special : JobLine → Bool
-is_special l = is_end l || is_assured l
+is_special l = is_end l || is_of_admission l
 
 pub record IsPlain (done : Done) : Type 0 where
   pub plain : list_any is_special done.lines ≡ false
