@@ -32,6 +32,7 @@ pub fn end_device<Q: RecordStore>(
 ) -> Result<(), EventFault>
     ensures ends { OnOk result (DeviceEnds Q.queue volumes.now parts.old serial parts.new) }
     ensures refused { IfErr result (DeviceIsRefused Q.queue volumes.now parts.old serial) }
+    ensures rest { parts.new ≡ record parts.old { units = parts.new.units } }
     ensures err { OnErr result (parts.new ≡ parts.old) }
 {
     if !has_serial(volumes, serial) {
@@ -45,7 +46,8 @@ pub fn end_device<Q: RecordStore>(
 
 /// A writer takes the first line of its class, if there is one, and tells whose it is.
 pub fn write<Q: RecordStore>(parts: &mut Parts<Q>, class: u8) -> Option<(u16, Written)>
-    ensures { WriterWrites Q.queue parts.old class result parts.new }
+    ensures writes { WriterWrites Q.queue parts.old class result parts.new }
+    ensures rest { parts.new ≡ record parts.old { spool = parts.new.spool } }
 {
     parts.spool.write(class)
 }
