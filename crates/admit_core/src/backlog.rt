@@ -1,6 +1,7 @@
 //! The listings of the jobs that wait.
-ghost use Rattle.std.specs.Prelude.{◌≡◌, ◌≢◌, ◌<◌, ◌==◌, ◌++◌, ◌∷◌, [], All, IfNone, IfSome, OnErr, OnOk, filter, not};
-ghost use Rattle.admit_core.specs.Backlogs.{IsListingOf};
+ghost use Rattle.std.specs.Prelude.{◌≡◌, ◌≢◌, ◌<◌, ◌==◌, ◌++◌, ◌∷◌, [], All, IfNone, IfOk, IfSome, OnErr, OnOk, filter, not};
+ghost use Rattle.std.specs.List.{list_any};
+ghost use Rattle.admit_core.specs.Backlogs.{IsListingOf, IsTakenWith, IsTold};
 
 use jcl_plan::entry::JobLine;
 use plain::listed::Listed;
@@ -34,6 +35,17 @@ impl Model for Backlog {
     ghost invariant = { λ b. AreListings b.listings };
 }
 
+/// A line more of a job that waits, if it does. An `Err` changes nothing.
+fn tell(listings: &mut BTreeMap<u16, Listing>, job: u16, line: JobLine) -> Result<(), AllocError>
+    ensures ok { OnOk result (IsTold listings.old job line listings.new) }
+    ensures err { OnErr result (listings.new.entries ≡ listings.old.entries) }
+{
+    match listings.get_mut(&job) {
+        None => Ok(()),
+        Some(listing) => listing.lines.push(line),
+    }
+}
+
 impl Backlog {
     /// No job waits.
     pub fn new(alloc: Global) -> Backlog
@@ -42,6 +54,13 @@ impl Backlog {
         Backlog {
             listings: BTreeMap::new(alloc),
         }
+    }
+
+    /// Whether a job waits.
+    pub fn has(&self, job: u16) -> bool
+        ensures { result ≡ list_any (λ x. x.job == job) self.now }
+    {
+        self.listings.contains_key(&job)
     }
 
     /// The listing of a job that was read behind all others. An `Err` changes nothing.
@@ -63,5 +82,15 @@ impl Backlog {
         ensures none { IfNone result (All (λ x. x.job ≢ job) self.old) }
     {
         self.listings.remove(&job)
+    }
+    /// Takes the listing of a job out, with this line behind its others. An `Err` changes nothing.
+    pub fn take_with(&mut self, job: u16, line: JobLine) -> Result<Option<Listing>, AllocError>
+        ensures ok { IfOk result (IsTakenWith self.old job line) }
+        ensures left { OnOk result (self.new ≡ filter (λ x. not (x.job == job)) self.old) }
+        ensures err { OnErr result (self.new ≡ self.old) }
+    {
+        tell(&mut self.listings, job, line)?;
+        let listing = self.listings.remove(&job);
+        Ok(listing)
     }
 }
