@@ -28,7 +28,7 @@ use Rattle.initiator_core.specs.declared.running.Stage.TheVariants as stage
 use Rattle.initiator_core.specs.Going.{Went}
 use Rattle.initiator_core.specs.Naming.{begun}
 use Rattle.initiator_core.specs.Running.{IsGood, IsTakenOn, config_of, shown_running}
-use Rattle.initiator_core.proofs.Wanting.{lines_behind, listing_told, with_lines}
+use Rattle.initiator_core.proofs.Wanting.{lines_behind, listing_told, one_told, with_lines}
 
 module _ {Q : Type 0} (queue_of : Q → RecordQueue) (profile : Profile) (p : Parts Q) (job : ℕ) (walk : Walk) (plan : JobPlan) (held : ℕ)
     (g : IsGood queue_of (config_of profile (queue_of p.queue).layout) p) where
@@ -67,6 +67,15 @@ module _ {Q : Type 0} (queue_of : Q → RecordQueue) (profile : Profile) (p : Pa
       middle = shown queue_of p;
       goes = at_lines;
       reopened = unopened c.layout (shown queue_of p);
+      decides = record {
+        admission = a;
+        line = told;
+        admitted = refl;
+        told = lines_behind walk.course.lines lines (told ∷ []) is;
+        places = m.placed;
+        answer = m.answered;
+      };
+      few = one_told (drop (length walk.course.lines) lines) told (length walk.course.own.dds) (lines_behind walk.course.lines lines (told ∷ []) is);
       good = g;
       left = record { same = refl; ready = record { some = some; at = (own, record { stands = first.0; unless_set = m.unless_set; on = All-nil (λ (x : DdState). IsTakenOn c.volumes x.taken) }) } };
       rest = record { waiting = refl; others = λ other apart none. none };

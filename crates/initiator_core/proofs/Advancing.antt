@@ -1,5 +1,5 @@
 -- A turn of an admitted job is the machine's case.
-use Rattle.std.proofs.Common.{◌≡◌, ◌≢◌, ℕ, Bool, true, false, not, cond, List, [], ◌∷◌, ◌++◌, All, map, Option, Some, None, length, refl, sym, ap, ◌∙◌, subst}
+use Rattle.std.proofs.Common.{◌≡◌, ◌≢◌, ℕ, suc, ◌≤◌, Bool, true, false, not, cond, List, [], ◌∷◌, ◌++◌, All, drop, map, Option, Some, None, length, refl, sym, ap, ◌∙◌, subst}
 use Rattle.std.specs.Prelude.{IfOk, IfSome, OnErr, OnOk, Result, Ok, Err}
 use Rattle.std.specs.List.{Contains}
 use Rattle.std.proofs.lemmas.List.Elements.{All-append, All-cons, All-head, All-nil, All-tail}
@@ -27,7 +27,7 @@ use Rattle.shared_core.specs.Tracks.{free_on}
 use Rattle.shared_core.specs.declared.store.SharedStore.{SharedStore}
 use Rattle.turn_core.specs.MachineTurns.{ActsAdvance, EndsAdvance, WaitsAdvance, shared_ended, shared_told}
 use Rattle.turn_core.specs.Standing.{JobActs, JobEnds, TellsJob, count_at, undone}
-use Rattle.turn_core.specs.TurnLaws.{NoneRefused}
+use Rattle.turn_core.specs.TurnLaws.{FewLines, NoneRefused}
 use Rattle.turn_core.specs.Turning.{Around, Waits, operations_by}
 use Rattle.turn_core.specs.declared.walk.Acted.{Acted}
 use Rattle.turn_core.specs.declared.walk.Turned.{Turned}
@@ -47,7 +47,7 @@ use Rattle.initiator_core.specs.Turning.{IsAsBefore, IsEnded, IsSameStore, IsWri
 use Rattle.initiator_core.proofs.Reading.{good_again}
 use Rattle.initiator_core.proofs.Rooms.{known_on, room_if, stand_on}
 use Rattle.initiator_core.proofs.Volumes.{IsOnOne, StandOn, acted_on}
-use Rattle.initiator_core.proofs.Wanting.{lines_behind, nothing_behind}
+use Rattle.initiator_core.proofs.Wanting.{lines_behind, none_told, nothing_behind, one_told}
 
 not_so : (b : Bool) → not b ≡ true → b ≡ false
 not_so true e = absurd cc
@@ -140,6 +140,9 @@ module _ {Q : Type 0} (queue_of : Q → RecordQueue) (profile : Profile) (p : Pa
           (sym (lines_behind walk.course.lines walk.course.lines [] (sym (nothing_behind walk.course.lines))))
           (law c (shown queue_of p) (shown_running c its) plan (shown_admission c plan a) (answers_of job p.store) walk w);
       reopened = subst (λ s. Reopened c.layout (shown queue_of p) s) (sym (same_shown st is)) (unopened c.layout (shown queue_of p));
+      decides = λ told. absurd (told (lines_behind walk.course.lines walk.course.lines [] (sym (nothing_behind walk.course.lines))));
+      few = none_told (drop from walk.course.lines) (length walk.course.own.dds)
+          (lines_behind walk.course.lines walk.course.lines [] (sym (nothing_behind walk.course.lines)));
       good = good_there st is;
       left = record { same = refl; ready = record { some = some; at = at } };
       rest = record { waiting = refl; others = λ other apart none. none };
@@ -153,12 +156,12 @@ module _ {Q : Type 0} (queue_of : Q → RecordQueue) (profile : Profile) (p : Pa
       abbrev pub told_shared : Shared
       told_shared = shared_told (shown queue_of p) job (seen job (world_of st)) told told_free
 
-      pub acted : ActsAdvance → (a.assured ≡ true → t.acts.primary ≡ true) → IfSome told.starts (λ serial. Contains c.volumes serial) →
+      pub acted : ActsAdvance → FewLines → (a.assured ≡ true → t.acts.primary ≡ true) → IfSome told.starts (λ serial. Contains c.volumes serial) →
           IsAt c p.names job after (stage.Admitted plan held a) →
           (units : List Operation) (cancels : List ℕ) → units ≡ operations_by p.units job told.starts told.cancelled →
           cancels ≡ cond told.cancelled (cancels_without p.cancels job) p.cancels →
           Went queue_of c p its (record p { store = st; units = units; cancels = cancels }) (GoesOn (at_walk after) from)
-      acted law granted on there units cancels us cs = record {
+      acted law short granted on there units cancels us cs = record {
         middle = told_shared;
         goes = subst (λ ls. advances_to ls told_shared (Some (shown_running c (at_walk after))))
             (sym (lines_behind walk.course.lines after.course.lines t.acts.its_turn.done.lines t.acts.lines))
@@ -173,6 +176,18 @@ module _ {Q : Type 0} (queue_of : Q → RecordQueue) (profile : Profile) (p : Pa
               cancels = sym cs i;
             })
             (unopened c.layout told_shared);
+        decides = λ told. record {
+          its_turn = t.acts.its_turn;
+          growth = t.acts.growth;
+          primary = t.acts.primary;
+          advances = t.acts.advances;
+          growth_answered = t.acts.growth_answered;
+          primary_answered = t.acts.primary_answered;
+          told = lines_behind walk.course.lines after.course.lines t.acts.its_turn.done.lines t.acts.lines;
+        };
+        few = subst (λ (ls : List JobLine). length ls ≤ suc (length walk.course.own.dds))
+            (sym (lines_behind walk.course.lines after.course.lines t.acts.its_turn.done.lines t.acts.lines))
+            (short its_around plan (seen job (world_of p.store)) (seen job (world_of st)) walk after told t);
         good = record {
           kept = is.kept;
           volumes = is.volumes ∙ g.volumes;
@@ -210,6 +225,8 @@ module _ {Q : Type 0} (queue_of : Q → RecordQueue) (profile : Profile) (p : Pa
         goes = law c (shown queue_of p) (shown_running c its) plan (shown_admission c plan a) (answers_of job p.store) walk (shown queue_of p).free refl h
             (conserved_same (shown queue_of p) ended_shared (ap (λ (w : WorldStore). w.set) (put_same job (world_of p.store))) refl refl);
         reopened = subst (λ s. Reopened c.layout s (shown queue_of new)) released_there (e.released c refl).reopened;
+        decides = tt;
+        few = one_told (line.End ∷ []) line.End (length walk.course.own.dds) refl;
         good = good_again queue_of c job mid new e.back back_good;
         left = subst (λ hs. HoldsNone hs job) (sym e.back.names) (releasing_leaves_none p.names job);
         rest = record {
@@ -226,13 +243,13 @@ module _ {Q : Type 0} (queue_of : Q → RecordQueue) (profile : Profile) (p : Pa
     ended_by (Err back) st after is new same over e law h = tt
 
     pub acted_so : (st : SharedStore) (after : Walk) (told : Acted) (is : IsWritten job p.store st)
-        (t : JobActs its_around plan (seen job (world_of p.store)) (seen job (world_of st)) walk after told) → ActsAdvance → NoneRefused →
+        (t : JobActs its_around plan (seen job (world_of p.store)) (seen job (world_of st)) walk after told) → ActsAdvance → FewLines → NoneRefused →
         ((plan : JobPlan) → names_a_set plan ≡ false → HasNoSets plan) →
         (units : List Operation) (cancels : List ℕ) → units ≡ operations_by p.units job told.starts told.cancelled →
         cancels ≡ cond told.cancelled (cancels_without p.cancels job) p.cancels →
         Went queue_of c p its (record p { store = st; units = units; cancels = cancels }) (GoesOn (at_walk after) from)
-    acted_so st after told is t law refused setless units cancels us cs =
-        acted st after told is t law
+    acted_so st after told is t law short refused setless units cancels us cs =
+        acted st after told is t law short
         (λ e. refused its_around plan (seen job (world_of p.store)) (seen job (world_of st)) walk after told
         (setless plan (not_so (names_a_set plan) (sym at.1.unless_set ∙ e))) t)
         (moved_on st after told t).1

@@ -1,5 +1,5 @@
 -- A selected job's turn is the machine's case.
-use Rattle.std.proofs.Common.{◌≡◌, ℕ, List, All, Option, Some, length, refl, sym, ap, ◌∙◌, subst}
+use Rattle.std.proofs.Common.{◌≡◌, ℕ, List, ◌∷◌, [], All, Option, Some, length, refl, sym, ap, ◌∙◌, subst}
 use Rattle.std.specs.List.{Contains}
 use Rattle.enq_core.specs.declared.table.Want.{Want}
 use Rattle.enq_core.specs.Holds.{HoldsNone}
@@ -26,6 +26,7 @@ use Rattle.initiator_core.specs.declared.running.Stage.TheVariants as stage
 use Rattle.initiator_core.specs.Finding.{IsDenoted}
 use Rattle.initiator_core.specs.Going.{Went}
 use Rattle.initiator_core.specs.Running.{IsGood, config_of}
+use Rattle.initiator_core.proofs.Wanting.{one_told}
 
 -- the names are held in the same way, however far the initiator is
 holds_for : (old new : Shared) (job : ℕ) (listing : List JobLine) (s t : world.Stage) (plan : JobPlan) (lines : List JobLine) (runs : Option world.Running) →
@@ -55,6 +56,8 @@ module _ {Q : Type 0} (queue_of : Q → RecordQueue) (profile : Profile) (old ne
     middle = released c (shown queue_of old) job (shown queue_of old).free;
     goes = broken n (shown queue_of old).free fault refl refl r.conserves refl;
     reopened = r.reopened;
+    decides = tt;
+    few = one_told (line.Broken n ∷ []) (line.Broken n) (length walk.course.own.dds) refl;
     good = good_again queue_of c job old new b g;
     left = subst (λ hs. HoldsNone hs job) (sym b.names) (releasing_leaves_none old.names job);
     rest = record {
@@ -71,6 +74,8 @@ module _ {Q : Type 0} (queue_of : Q → RecordQueue) (profile : Profile) (old ne
     goes = reading plan d.behind d.denotes
         (holds_for (shown queue_of old) w.middle job walk.course.lines (world.Wanting plan) (world.Selected first) plan _ _ w.goes);
     reopened = w.reopened;
+    decides = tt;
+    few = w.few;
     good = w.good;
     left = w.left;
     rest = w.rest;

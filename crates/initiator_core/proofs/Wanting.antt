@@ -1,5 +1,5 @@
 -- A job's names held, or none of them, is the machine's case.
-use Rattle.std.proofs.Common.{◌≡◌, ◌≢◌, ℕ, Bool, true, false, not, cond, List, [], ◌∷◌, ◌++◌, All, Option, Some, None, drop, length, refl, sym, ap, ◌∙◌, subst}
+use Rattle.std.proofs.Common.{◌≡◌, ◌≢◌, ℕ, suc, ◌≤◌, Bool, true, false, not, cond, List, [], ◌∷◌, ◌++◌, All, Option, Some, None, arith, drop, length, refl, sym, ap, ◌∙◌, subst}
 use Rattle.std.specs.Prelude.{◌==◌}
 use Rattle.std.proofs.lemmas.Bool.{eq-eqb}
 use Rattle.std.proofs.lemmas.List.{drop_at}
@@ -60,6 +60,16 @@ lines_behind before after more e = ap (drop (length before)) e ∙ drop_at befor
 pub listing_told : (before after more : List JobLine) → after ≡ before ++ more → after ≡ before ++ drop (length before) after
 listing_told before after more e = e ∙ ap (λ xs. before ++ xs) (sym (lines_behind before after more e))
 
+-- one line at most
+pub one_at_most : (lines : List JobLine) (n : ℕ) → length lines ≤ 1 → length lines ≤ suc n
+one_at_most lines n one = omega arith
+
+pub one_told : (lines : List JobLine) (line : JobLine) (n : ℕ) → lines ≡ line ∷ [] → length lines ≤ suc n
+one_told lines line n e = one_at_most lines n (subst (λ (ls : List JobLine). length ls ≤ 1) (sym e) (omega arith))
+
+pub none_told : (lines : List JobLine) (n : ℕ) → lines ≡ [] → length lines ≤ suc n
+none_told lines n e = one_at_most lines n (subst (λ (ls : List JobLine). length ls ≤ 1) (sym e) (omega arith))
+
 abbrev pub with_lines : Walk → List JobLine → Walk
 with_lines walk lines = record { todo = walk.todo; course = record { own = walk.course.own; lines = lines } }
 
@@ -93,6 +103,8 @@ module _ {Q : Type 0} (queue_of : Q → RecordQueue) (c : Config) (p : Parts Q) 
         (ap (λ (hs : List Hold). record (shown queue_of p) { holds = hs }) (w.holds ∙ ap (λ ws. p.names ++ holds_of job ws) are))
         (same_listing _ w.told (world.Named plan));
     reopened = unopened c.layout (shown queue_of new);
+    decides = tt;
+    few = one_told told _ (length walk.course.own.dds) (lines_behind walk.course.lines lines _ w.told);
     good = still_good queue_of c p names g;
     left = record { same = refl; ready = record { some = some; at = w.for_job } };
     rest = record {
@@ -108,6 +120,8 @@ module _ {Q : Type 0} (queue_of : Q → RecordQueue) (c : Config) (p : Parts Q) 
         (ap (λ (hs : List Hold). record (shown queue_of p) { holds = hs }) w.same)
         (same_listing _ w.told (world.Wanting plan));
     reopened = unopened c.layout (shown queue_of new);
+    decides = tt;
+    few = one_told told _ (length walk.course.own.dds) (lines_behind walk.course.lines lines _ w.told);
     good = still_good queue_of c p names g;
     left = record { same = refl; ready = record { some = some; at = (subst (λ hs. HoldsNone hs job) (sym w.same) none, are) } };
     rest = record {

@@ -32,7 +32,7 @@ use shared_core::laws::{nothing_kept_stays, sets_of_others_stay, tracks_are_cons
 use shared_core::store::SharedStore;
 use shared_core::sums::volumes_add_up;
 use std::alloc::{AllocError, Global};
-use turn_core::laws::{acts_advance, ends_advance, none_refused, waits_advance};
+use turn_core::laws::{acts_advance, ends_advance, few_lines, none_refused, waits_advance};
 use turn_core::turn::turn;
 use turn_core::walk::{Acted, Turned, Walk};
 
@@ -180,6 +180,7 @@ pub(crate) fn advance<Q: RecordStore>(
     waits_advance();
     acts_advance();
     ends_advance();
+    few_lines();
     none_refused();
     names_none();
     operations_are_apart(&parts.units);

@@ -48,7 +48,7 @@ returns-in-Ok-Acts-clause-ok g c =
     st after c.in-Ok-Acts.acted c.in-Ok-Acts.ensures.written
     (told_as queue_of c.args.profile.now p c.args.job c.args.walk c.args.plan c.args.held c.args.admission c.requires.good st after c.has-cancelled.result
     c.in-Ok-Acts.field-0 (turned.Acts c.in-Ok-Acts.acted) c.has-cancelled.ensures c.in-Ok-Acts.field-0-is c.in-Ok-Acts.ensures.ok)
-    c.acts_advance.ensures c.none_refused.ensures c.names_none.ensures c.enter_acted.new.units c.enter_acted.new.cancels c.enter_acted.ensures.units c.enter_acted.ensures.cancels)
+    c.acts_advance.ensures c.few_lines.ensures c.none_refused.ensures c.names_none.ensures c.enter_acted.new.units c.enter_acted.new.cancels c.enter_acted.ensures.units c.enter_acted.ensures.cancels)
 
 pub returns-in-Ok-Ends-clause-ok : goal.returns-in-Ok-Ends-clause-ok
 returns-in-Ok-Ends-clause-ok g c =
