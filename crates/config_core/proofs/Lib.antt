@@ -1,4 +1,10 @@
 pub mod Adding
+pub mod Changed
+pub mod Differing
+pub mod Entering
 pub mod Filling
+pub mod Keeping
 pub mod Places
+pub mod Refused
+pub mod Starting
 pub mod Zipped

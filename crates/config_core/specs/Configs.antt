@@ -7,6 +7,7 @@ use Rattle.extent_core.specs.declared.extent.Extent.{Extent}
 use Rattle.group_core.specs.Entries.{Member}
 use Rattle.cat_core.specs.Catalogs.{Contents, has_generation_entered, is_entered, member_of, with_group, with_name}
 use Rattle.jname_core.specs.Characters.{is_job_class}
+use Rattle.jname_core.specs.declared.ds_name.TheConstants.{MOST_OF_A_BASE}
 use Rattle.jcl_refs.specs.Plans.{unit_number}
 use Rattle.jcl_plan.specs.declared.plan.TheConstants.{RECORDS_A_TRACK}
 use Rattle.jcl_meaning.specs.declared.program.Request.{Request}
@@ -25,10 +26,10 @@ use Rattle.machine_meaning.specs.declared.config.ConfiguredUnit.{ConfiguredUnit}
 use Rattle.proc_library.specs.declared.library.LibraryProcedure.{LibraryProcedure}
 use Rattle.proc_library.specs.Libraries.{has_procedure}
 use Rattle.shared_core.specs.Shown.{mounted_in}
-use Rattle.config_core.specs.declared.statement.ConfigStatement.{ConfigStatement}
-use Rattle.config_core.specs.declared.statement.ConfigStatement.TheVariants as statement
-use Rattle.config_core.specs.declared.statement.SetStatement.{SetStatement}
-use Rattle.config_core.specs.declared.statement.TheConstants.{MOST_GENERATIONS, MOST_REQUESTS}
+use Rattle.input_core.specs.declared.statement.ConfigStatement.{ConfigStatement}
+use Rattle.input_core.specs.declared.statement.ConfigStatement.TheVariants as statement
+use Rattle.input_core.specs.declared.statement.SetStatement.{SetStatement}
+use Rattle.input_core.specs.declared.statement.TheConstants.{MOST_GENERATIONS, MOST_REQUESTS}
 
 -- in the order of the statements; a volume with the sets that were made on it
 pub record Configuration : Type 0 where
@@ -83,10 +84,10 @@ unit_fault c name serials =
 abbrev pub with_unit : Configuration → List ℕ → List (List ℕ) → Configuration
 with_unit c name serials = record c { units = c.units ++ record { name = name; serials = serials } ∷ [] }
 
--- GROUP: neither its base nor a generation of it is entered
+-- GROUP: the names of its generations fit behind its base, and neither the base nor one of them is entered
 abbrev pub group_fault : Configuration → List ℕ → ℕ → Option ConfigFault
 group_fault c base limit =
-    refused_by (nat_lt limit 1 || nat_lt MOST_GENERATIONS limit) (is_entered c.catalog base || has_generation_entered c.catalog base)
+    refused_by (nat_lt limit 1 || nat_lt MOST_GENERATIONS limit || nat_lt MOST_OF_A_BASE (length base)) (is_entered c.catalog base || has_generation_entered c.catalog base)
 
 abbrev pub with_group_of : Configuration → List ℕ → ℕ → Bool → Configuration
 with_group_of c base limit scratch = record c { catalog = with_group c.catalog base limit scratch }

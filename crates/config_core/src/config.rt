@@ -9,14 +9,15 @@ ghost use Rattle.config_core.specs.Refusals.{IsRefusal};
 use crate::faults::{
     are_classes, are_rising, has_initiator, has_program, has_volume, has_volumes, refused_by,
 };
+use crate::known::{are_requests, is_name};
 use crate::sets::{enter_set, has_room, place_of};
-use crate::statement::{ConfigStatement, MOST_GENERATIONS, MOST_REQUESTS, SetStatement};
 use crate::units::Units;
 use cat_core::catalog::Catalog;
 use extent_core::extent::Extent;
+use input_core::statement::{ConfigStatement, MOST_GENERATIONS, MOST_REQUESTS, SetStatement};
 use jcl_meaning::program::{Request, SoloProgram};
 use jcl_plan::plan::RECORDS_A_TRACK;
-use jname_core::ds_name::DsName;
+use jname_core::ds_name::{DsName, MOST_OF_A_BASE};
 use jname_core::name8::{Name8, UnitName};
 use jname_core::serial::Serial;
 use machine_meaning::config::{
@@ -54,13 +55,13 @@ impl From<AllocError> for ConfigError {
 /// What was configured so far.
 #[derive(Debug, Drop)]
 pub struct Config {
-    alloc: Global,
-    volumes: Listed<Mounted>,
-    catalog: Catalog,
-    units: Units,
-    library: ProcLibrary,
-    programs: ProgramLibrary,
-    initiators: Listed<ConfiguredInitiator>,
+    pub(crate) alloc: Global,
+    pub(crate) volumes: Listed<Mounted>,
+    pub(crate) catalog: Catalog,
+    pub(crate) units: Units,
+    pub(crate) library: ProcLibrary,
+    pub(crate) programs: ProgramLibrary,
+    pub(crate) initiators: Listed<ConfiguredInitiator>,
 }
 
 impl Model for Config {
@@ -68,7 +69,7 @@ impl Model for Config {
     ghost use Rattle.cat_core.specs.Catalogs.{coded_contents};
     ghost use Rattle.mount_core.specs.Mounts.{coded_mounted};
     ghost use Rattle.config_core.specs.Configs.{Configuration};
-    ghost use Rattle.config_core.specs.Sets.{NothingKept};
+    ghost use Rattle.config_core.specs.Configured.{IsConfigured};
 
     ghost Value = { Configuration };
 
@@ -83,7 +84,14 @@ impl Model for Config {
       initiators = c.initiators;
     } };
 
-    ghost invariant = { λ c. NothingKept c.volumes };
+    ghost invariant = { λ c. IsConfigured (record {
+      volumes = c.volumes;
+      catalog = c.catalog;
+      units = c.units;
+      library = c.library;
+      programs = c.programs;
+      initiators = c.initiators;
+    }) };
 }
 
 /// The lines of a procedure, which outlive the text that lends them.
@@ -160,7 +168,7 @@ impl Config {
         ensures { result ≡ group_fault self.now base.now limit }
     {
         refused_by(
-            limit < 1 || MOST_GENERATIONS < limit,
+            limit < 1 || MOST_GENERATIONS < limit || MOST_OF_A_BASE < base.as_slice().len(),
             self.catalog.is_entered(base) || self.catalog.has_generation_of(base),
         )
     }
@@ -245,6 +253,7 @@ impl Config {
         if let Some(fault) = self.group_fault(&base, limit) {
             return Err(ConfigError::Refused(fault));
         }
+        is_name(&base);
         match self
             .catalog
             .make_group(self.alloc, base, limit as u8, scratch)
@@ -263,6 +272,7 @@ impl Config {
         if let Some(fault) = self.set_fault(set) {
             return Err(ConfigError::Refused(fault));
         }
+        is_name(&set.name);
         enter_set(self.alloc, &mut self.volumes, &mut self.catalog, set)?;
         Ok(())
     }
@@ -290,6 +300,7 @@ impl Config {
         if let Some(fault) = self.program_fault(&name, requests) {
             return Err(ConfigError::Refused(fault));
         }
+        are_requests(requests);
         let requests = Listed::copy_of(self.alloc, requests)?;
         self.programs.add(SoloProgram { name, requests })?;
         Ok(())

@@ -3,6 +3,10 @@
 
 pub mod config;
 mod faults;
+mod known;
+pub mod laws;
 mod sets;
-pub mod statement;
+pub mod start;
+#[cfg(test)]
+mod tests;
 pub mod units;

@@ -10,8 +10,8 @@ ghost use Rattle.shared_core.specs.Writes.{is_mounted};
 ghost use Rattle.config_core.specs.Configs.{catalog_with, extents_on, has_room, with_set_in};
 ghost use Rattle.config_core.specs.Sets.{CanHold, IsMade, IsPlaceOf, with_records_on};
 
-use crate::statement::SetStatement;
 use cat_core::catalog::Catalog;
+use input_core::statement::SetStatement;
 use jcl_plan::plan::Record;
 use jname_core::serial::Serial;
 use mount_core::mounted::Mounted;

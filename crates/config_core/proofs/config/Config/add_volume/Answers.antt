@@ -1,16 +1,20 @@
-use Rattle.std.proofs.Common.{◌≡◌, ◌∷◌, [], ap, subst, sym}
-use Rattle.std.specs.FinMap as finite
-use Rattle.std.proofs.lemmas.List.Elements.{All-append, All-cons, All-nil}
-use Rattle.mount_core.specs.Mounts.{MountedState}
-use Rattle.config_core.specs.Sets.{NothingKept}
+use Rattle.std.proofs.Common.{◌∷◌, ◌++◌, [], ap, subst, sym, ◌∙◌}
+use Rattle.config_core.specs.Configs.{Configuration, volume_fault}
+use Rattle.config_core.specs.Configured.{IsConfigured}
+use Rattle.config_core.proofs.Keeping.{volume_configured}
 use Rattle.config_core.proofs.config.Config.add_volume.Goals as goal
-
-abbrev KeepsNothing : MountedState → Type 0
-KeepsNothing m = m.kept ≡ finite.empty
 
 pub invariant_of-self-2 : goal.invariant_of-self-2
 invariant_of-self-2 c =
-    let m = c.in_ok-new.field-0 in
-    subst NothingKept (sym c.in_ok-push.ensures.ok)
-    (All-append KeepsNothing c.self.inside.volumes (m ∷ []) c.self.invariant
-    (All-cons KeepsNothing m [] (ap (λ v. v.kept) c.in_ok-new.ensures) (All-nil KeepsNothing)))
+    let config : Configuration = record {
+      volumes = c.self.inside.volumes;
+      catalog = c.self.inside.catalog;
+      units = c.self.inside.units;
+      library = c.self.inside.library;
+      programs = c.self.inside.programs;
+      initiators = c.self.inside.initiators;
+    } in
+    subst (λ volumes. IsConfigured (record config { volumes = volumes }))
+    (sym (c.in_ok-push.ensures.ok ∙ ap (λ m. config.volumes ++ m ∷ []) c.in_ok-new.ensures))
+    (volume_configured config c.args.serial c.args.tracks c.args.used.now c.self.invariant
+    (ap (λ v. volume_fault v c.args.serial c.args.tracks c.args.used.now) c.self.view_is ∙ sym c.volume_fault.ensures ∙ c.in_default.is))

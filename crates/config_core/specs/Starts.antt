@@ -1,0 +1,69 @@
+-- The start of the machine: what it begins with, and what stays fixed, of a configuration.
+use Rattle.std.specs.Prelude.{◌≡◌, ℕ, Bool, [], map, None}
+use Rattle.std.specs.FinMap as finite
+use Rattle.cb_meaning.specs.declared.layout.Layout.{Layout}
+use Rattle.cb_queue.specs.RecordQueues.{empty_queue, shown}
+use Rattle.machine_meaning.specs.declared.config.ConfiguredInitiator.{ConfiguredInitiator}
+use Rattle.shared_core.specs.declared.store.SharedStore.{SharedStore}
+use Rattle.shared_core.specs.Shown.{mounted_in, set_on}
+use Rattle.shared_core.specs.Tracks.{free_on}
+use Rattle.world_meaning.specs.Records.{HasOwnLink}
+use Rattle.world_meaning.specs.Starts.{IsStart}
+use Rattle.world_meaning.specs.Worlds.{Config, Initiator, Shared, World}
+use Rattle.config_core.specs.Configs.{Configuration, unit_volumes}
+use Rattle.config_core.specs.Configured.{IsConfigured, serials_of}
+use Rattle.config_core.specs.declared.start.Fixed.{Fixed}
+
+-- the store has the catalog and the volumes, and the rest stays as it is
+pub record IsTakenApart (c : Configuration) (store : SharedStore) (fixed : Fixed) : Type 0 where
+  pub catalog : store.catalog ≡ c.catalog
+  pub volumes : store.volumes ≡ c.volumes
+  pub serials : fixed.serials ≡ serials_of c.volumes
+  pub units : fixed.units ≡ c.units
+  pub library : fixed.library ≡ c.library
+  pub programs : fixed.programs ≡ c.programs
+  pub initiators : fixed.initiators ≡ c.initiators
+
+-- what a configuration fixes, with whether jobs that may fail are refused, the limit of views, and the layout of the queue's records
+abbrev pub start_config : Configuration → Bool → ℕ → Layout → Config
+start_config c refuses views l = record {
+  volumes = serials_of c.volumes;
+  units = unit_volumes c.units;
+  programs = c.programs;
+  layout = l;
+  refuses = refuses;
+  most_views = views;
+}
+
+-- its sets, catalog and free tracks; all records are free, and nothing is kept, held, under way, cancelled or spooled
+abbrev pub start_shared : Configuration → Layout → ℕ → Shared
+start_shared c l date = record {
+  store = record { set = λ k serial. set_on (mounted_in c.volumes serial) k; catalog = λ name. finite.get c.catalog name };
+  free = λ serial. free_on c.volumes serial;
+  kept = [];
+  records = shown (empty_queue l);
+  holds = [];
+  operations = [];
+  cancels = [];
+  spool = [];
+  date = date;
+}
+
+abbrev pub idle : ConfiguredInitiator → Initiator
+idle x = record { number = x.number; classes = x.classes; running = None }
+
+-- the machine before its first event
+abbrev pub start_of : Configuration → Bool → ℕ → Layout → ℕ → World
+start_of c refuses views l date = record {
+  config = start_config c refuses views l;
+  shared = start_shared c l date;
+  initiators = map idle c.initiators;
+  waiting = [];
+  jobs = 0;
+  events = 0;
+}
+
+-- the start of a configuration is one of the machine's
+abbrev pub StartsOfConfigurations : Type 0
+StartsOfConfigurations = (c : Configuration) (refuses : Bool) (views date : ℕ) (l : Layout) → IsConfigured c → HasOwnLink l →
+    IsStart (start_of c refuses views l date)
