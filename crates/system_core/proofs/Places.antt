@@ -1,0 +1,13 @@
+-- A place of a list that is as it was.
+use Rattle.std.proofs.Common.{◌≡◌, ℕ, zero, suc, List, [], ◌∷◌, Some, refl, ap}
+use Rattle.std.specs.Prelude.{Result, Ok, Err, OnErr, slice_get, slice_set}
+
+pub set_same : {X : Type 0} (xs : List X) (k : ℕ) (x y : X) → slice_get xs k ≡ Some x → y ≡ x → slice_set xs k y ≡ xs
+set_same [] k x y e is = refl
+set_same (z ∷ xs) zero x y e is = let same : z ≡ x = cc in ap (λ w. w ∷ xs) (let both : y ≡ z = cc in both)
+set_same (z ∷ xs) (suc k) x y e is = ap (λ ws. z ∷ ws) (set_same xs k x y e is)
+
+pub still_there : {T E X : Type 0} (r : Result T E) (P : Type 0) (xs : List X) (k : ℕ) (x y : X) → slice_get xs k ≡ Some x → OnErr r (P × (y ≡ x)) →
+    OnErr r (P × (slice_set xs k y ≡ xs))
+still_there (Ok t) P xs k x y e h = tt
+still_there (Err f) P xs k x y e h = (h.0, set_same xs k x y e h.1)

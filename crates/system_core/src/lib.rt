@@ -1,0 +1,17 @@
+//! The machine of the whole profile: its events, one at a time. (This profile)
+#![tactic(auto)]
+
+mod cancelling;
+mod copies;
+mod ending;
+pub mod fault;
+mod going;
+mod happening;
+mod lines;
+mod reading;
+mod seating;
+mod selecting;
+mod showing;
+pub mod start;
+pub mod state;
+pub mod system;

@@ -1,0 +1,124 @@
+//! The machine.
+ghost use Rattle.std.specs.Prelude.{◌≡◌, IfOk};
+ghost use Rattle.cb_queue.specs.RecordQueues.{empty_queue};
+ghost use Rattle.config_core.specs.Configs.{Configuration};
+ghost use Rattle.config_core.specs.Configured.{IsConfigured};
+ghost use Rattle.config_core.specs.Starts.{IsTakenApart};
+ghost use Rattle.world_meaning.specs.Transitions.{Transition};
+ghost use Rattle.system_core.specs.Events.{RefusesFirst};
+ghost use Rattle.system_core.specs.Starting.{IsForMachine, IsStarted};
+ghost use Rattle.system_core.specs.Systems.{Applies, IsDecided, IsSameFixed, KeepsIfRefused, denoting, meant_by, world_of};
+
+use crate::ending::end;
+use crate::fault::ApplyFault;
+use crate::happening::apply_in;
+use crate::start::{idle_of, started};
+use crate::state::State;
+use admit_core::laws::layout_reads_what_it_holds;
+use cb_queue::store::RecordStore;
+use config_core::laws::configuration_is_start;
+use config_core::start::Fixed;
+use initiator_core::running::Profile;
+use input_core::event::Event;
+use jcl_plan::entry::Entry;
+use jcl_refs::units::UnitNames;
+use plain::listed::Listed;
+use proc_library::library::ProcLibrary;
+use run_laws::starts_sound;
+use shared_core::store::SharedStore;
+use std::alloc::{AllocError, Global};
+use std::marker::Model;
+
+/// The machine between two events, over any store of records.
+pub struct System<'c, Q: RecordStore> {
+    alloc: Global,
+    profile: Profile<'c>,
+    units: &'c UnitNames,
+    library: &'c ProcLibrary,
+    state: State<Q>,
+}
+
+impl<'c, Q: RecordStore> Model for System<'c, Q> {
+    ghost use Rattle.std.specs.Coded.{codes};
+    ghost use Rattle.cat_core.specs.Catalogs.{coded_contents};
+    ghost use Rattle.mount_core.specs.Mounts.{coded_mounted};
+    ghost use Rattle.system_core.specs.Systems.{IsSystem, Machine, machine_in};
+
+    ghost Value = { Machine };
+
+    ghost coded = { Prim.hlevel (codes, coded_mounted, coded_contents) };
+
+    ghost view = { λ s. machine_in Q.queue s.profile s.units.now s.library.now s.state };
+
+    ghost invariant = { λ s. IsSystem Q.queue s.profile s.units.now s.state };
+}
+
+impl<'c, Q: RecordStore> System<'c, Q> {
+    /// The machine of a configuration that was taken apart, before its first event, with a queue of which no record is in use.
+    pub fn new(
+        alloc: Global,
+        store: SharedStore,
+        queue: Q,
+        fixed: &'c Fixed,
+        refuses: bool,
+        most_views: usize,
+    ) -> Result<System<'c, Q>, AllocError>
+    where
+        Q: Drop,
+        requires configured { (c : Configuration) × IsConfigured c × IsTakenApart c store fixed.now }
+        requires empty { Q.queue queue ≡ empty_queue (Q.queue queue).layout }
+        requires layout { IsForMachine (Q.queue queue).layout }
+        ensures { IfOk result (λ m. (c : Configuration) → IsConfigured c → IsTakenApart c store fixed.now → IsStarted c refuses most_views (Q.queue queue).layout m) }
+    {
+        configuration_is_start();
+        starts_sound();
+        layout_reads_what_it_holds();
+        let initiators = idle_of(alloc, fixed.initiators.as_slice())?;
+        Ok(System {
+            alloc,
+            profile: Profile {
+                volumes: fixed.serials.as_slice(),
+                units: fixed.units.volumes(),
+                programs: &fixed.programs,
+                refuses,
+                most_views,
+            },
+            units: fixed.units.names(),
+            library: &fixed.library,
+            state: started(alloc, store, queue, initiators),
+        })
+    }
+
+    /// One event. A refusal changes the count of events alone and takes no memory; want of memory changes nothing that is shown.
+    pub fn apply(&mut self, event: &Event<'_>) -> Result<Listed<Entry>, ApplyFault>
+        ensures answer { Applies result (world_of self.old) (world_of self.new) (Transition (denoting self.old) (world_of self.old) (meant_by event.now)) }
+        ensures refusal { RefusesFirst result (Transition (denoting self.old) (world_of self.old) (meant_by event.now)) }
+        ensures unless_refused { KeepsIfRefused result (world_of self.old) (world_of self.new) }
+        ensures decided { IfOk result (IsDecided self.old event.now) }
+        ensures fixed { IsSameFixed self.old self.new }
+    {
+        apply_in(
+            self.alloc,
+            &mut self.state,
+            &self.profile,
+            self.units,
+            self.library,
+            event,
+        )
+    }
+
+    /// Takes the machine apart, with the jobs that it still has. It takes no memory.
+    pub fn close(self)
+    where
+        Q: Drop,
+    {
+        let System {
+            alloc: _,
+            profile: _,
+            units: _,
+            library: _,
+            state,
+        } = self;
+        end(state);
+    }
+}
