@@ -1,0 +1,110 @@
+//! What a line outside a block says.
+ghost use Rattle.std.specs.Prelude.{◌≡◌, IfOk};
+ghost use Rattle.world_text.specs.Fields.{fields_of};
+ghost use Rattle.world_text.specs.Statements.{configures, initiator_of, procedure_of, says_by, says_of, unit_of};
+
+use crate::events::event_by;
+use crate::fault::Fault;
+use crate::fields::{is_marked, next_field, only_field, two_fields};
+use crate::groups::group;
+use crate::programs::program;
+use crate::sets::set;
+use crate::statement::{Block, LineSays, Says};
+use crate::values::serials_in;
+use crate::volumes::volume;
+use input_core::statement::ConfigStatement;
+use jname_core::decimal::number_within;
+use jname_core::name8::{Name8, UnitName};
+use plain::text::Text;
+use std::alloc::{AllocError, Global};
+
+/// Configuration on one line.
+fn configures(statement: ConfigStatement<'static>) -> Says<'static>
+    ensures { result ≡ configures statement.entry }
+{
+    Says::Config {
+        statement,
+        has_end: true,
+    }
+}
+
+fn unit(alloc: Global, operands: &[u8]) -> Result<Says<'static>, AllocError>
+    ensures { IfOk result (λ s. s ≡ unit_of (fields_of operands.now)) }
+{
+    let Some((name, serials)) = two_fields(operands) else {
+        return Ok(Says::Refused(Fault::BadValue));
+    };
+    match UnitName::read(name.bytes) {
+        Err(_) => Ok(Says::Refused(Fault::BadValue)),
+        Ok(name) => match serials_in(alloc, serials.bytes)? {
+            None => Ok(Says::Refused(Fault::BadValue)),
+            Some(serials) => Ok(configures(ConfigStatement::Unit { name, serials })),
+        },
+    }
+}
+
+fn initiator(alloc: Global, operands: &[u8]) -> Result<Says<'static>, AllocError>
+    ensures { IfOk result (λ s. s ≡ initiator_of (fields_of operands.now)) }
+{
+    let Some((number, classes)) = two_fields(operands) else {
+        return Ok(Says::Refused(Fault::BadValue));
+    };
+    match number_within(0, u16::MAX, number.bytes) {
+        None => Ok(Says::Refused(Fault::BadValue)),
+        Some(number) => {
+            let classes = Text::copy_of(alloc, classes.bytes)?;
+            Ok(configures(ConfigStatement::Initiator { number, classes }))
+        }
+    }
+}
+
+fn procedure(operands: &[u8]) -> Block
+    ensures { result ≡ procedure_of (fields_of operands.now) }
+{
+    let Some(name) = only_field(operands) else {
+        return Block::Faulty(Fault::BadValue);
+    };
+    match Name8::read(name.bytes) {
+        Err(_) => Block::Faulty(Fault::BadValue),
+        Ok(name) => Block::Procedure(name),
+    }
+}
+
+fn word_says(alloc: Global, word: &[u8], operands: &[u8]) -> Result<LineSays<'static>, AllocError>
+    ensures { IfOk result (λ l. l ≡ says_by word.now (fields_of operands.now)) }
+{
+    if word == b"VOLUME".as_slice() {
+        Ok(LineSays::One(volume(alloc, operands)?))
+    } else if word == b"UNIT".as_slice() {
+        Ok(LineSays::One(unit(alloc, operands)?))
+    } else if word == b"GROUP".as_slice() {
+        Ok(LineSays::One(group(operands)))
+    } else if word == b"SET".as_slice() {
+        Ok(LineSays::Opens(set(alloc, operands)))
+    } else if word == b"PROC".as_slice() {
+        Ok(LineSays::Opens(procedure(operands)))
+    } else if word == b"PROGRAM".as_slice() {
+        Ok(LineSays::Opens(program(operands)))
+    } else if word == b"INIT".as_slice() {
+        Ok(LineSays::One(initiator(alloc, operands)?))
+    } else {
+        Ok(event_by(word, operands))
+    }
+}
+
+/// What a line outside a block says.
+pub(crate) fn line_says(alloc: Global, line: &[u8]) -> Result<LineSays<'static>, AllocError>
+    ensures { IfOk result (λ l. l ≡ says_of line.now) }
+{
+    let Some((_, behind)) = next_field(line) else {
+        return Ok(LineSays::Blank);
+    };
+    let Some((word, operands)) = next_field(behind) else {
+        return Ok(LineSays::One(Says::Refused(Fault::UnknownStatement)));
+    };
+    if is_marked(line) {
+        word_says(alloc, word.bytes, operands)
+    } else {
+        Ok(LineSays::One(Says::Refused(Fault::UnknownStatement)))
+    }
+}
