@@ -17,6 +17,7 @@ use extent_core::extent::Extent;
 use input_core::statement::{ConfigStatement, MOST_GENERATIONS, MOST_REQUESTS, SetStatement};
 use jcl_meaning::program::{Request, SoloProgram};
 use jcl_plan::plan::RECORDS_A_TRACK;
+use jcl_refs::units::UnitNames;
 use jname_core::ds_name::{DsName, MOST_OF_A_BASE};
 use jname_core::name8::{Name8, UnitName};
 use jname_core::serial::Serial;
@@ -320,6 +321,20 @@ impl Config {
         self.initiators
             .push(ConfiguredInitiator { number, classes })?;
         Ok(())
+    }
+
+    /// The names of the units, with their numbers.
+    pub fn unit_names(&self) -> &UnitNames
+        ensures { result.now ≡ unit_names self.now.units }
+    {
+        self.units.names()
+    }
+
+    /// The procedures, in the order of their statements.
+    pub fn library(&self) -> &ProcLibrary
+        ensures { result.now ≡ self.now.library }
+    {
+        &self.library
     }
 
     /// What refuses a statement. It changes nothing and takes no memory.

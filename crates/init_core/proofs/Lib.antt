@@ -1,8 +1,7 @@
-mod Setless
-mod Indexes
-mod Nexts
-mod Done
-mod Advances
-mod Telling
-mod Safety
-mod Acting
+pub mod Admitting
+pub mod Advancing
+pub mod Reading
+pub mod Rooms
+pub mod Turning
+pub mod Volumes
+pub mod Wanting

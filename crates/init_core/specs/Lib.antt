@@ -1,6 +1,6 @@
-pub mod Said
-pub mod Places
-pub mod Deeds
-pub mod Jobs
-pub mod Initiators
-pub mod Steps
+pub mod Running
+pub mod Finding
+pub mod Naming
+pub mod Going
+pub mod Turning
+pub mod Deciding

@@ -1,10 +1,9 @@
-//! What an initiator does with a job: one turn of it is one case of the machine's step.
+//! What an initiator does with its job, turn by turn. (This profile)
 #![tactic(auto)]
 
-mod actions;
-mod deeds;
-pub mod initiator;
-mod job;
-mod places;
-mod said;
-mod turns;
+pub mod admission;
+pub mod go_on;
+pub mod names;
+pub mod read;
+pub mod running;
+pub mod turn;

@@ -1,6 +1,5 @@
-//! What the machine is and what an event does to it: definitions, and the data that they speak of. (This profile)
+//! The limits of the machine, what it is configured with and what its writers have to write. (This profile)
 #![tactic(auto)]
 
 pub mod config;
-pub mod event;
 pub mod machine;

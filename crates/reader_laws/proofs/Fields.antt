@@ -7,7 +7,7 @@ use Rattle.std.proofs.lemmas.List.Elements.{All-weaker}
 use Rattle.std.proofs.lemmas.List.Folds.{length-prefix_len}
 use Rattle.std.proofs.lemmas.List.Splits.{slice_split_at, slice_split_none}
 use Rattle.std.proofs.lemmas.List.Sums.{AllPass-from_list_all}
-use Rattle.reader_laws.specs.SpelledSessions.{Form, fields_in, spaced}
+use Rattle.reader_laws.specs.SpelledForms.{Form, fields_in, spaced}
 use Rattle.reader_laws.specs.WrittenCards.{blanks, has_no_blank, is_empty}
 use Rattle.reader_laws.proofs.Fronts.{front_is}
 
@@ -61,7 +61,7 @@ field_before field rest h k =
 field_alone : (field : List ℕ) → has_no_blank field ≡ true → is_empty field ≡ false → fields_in field ≡ field ∷ []
 field_alone field h k = ap (filter (λ f. not (length f == 0))) (slice_split_none (λ b. b == 32) field (none_pass (λ b. b == 32) field h)) ∙ kept field [] k
 
-behind_blanks : (n : ℕ) (rest : List ℕ) → fields_in (blanks n ++ rest) ≡ fields_in rest
+pub behind_blanks : (n : ℕ) (rest : List ℕ) → fields_in (blanks n ++ rest) ≡ fields_in rest
 behind_blanks zero rest = refl
 behind_blanks (suc n) rest = behind_blanks n rest
 

@@ -23,5 +23,6 @@ mod Sessions
 mod SetStatements
 mod StatementExamples
 mod Statements
+mod Stores
 mod TextLines
 mod Values

@@ -122,23 +122,30 @@ none_of p q (part ∷ parts) each h =
 component_of : (part : List ℕ) → is_component part ≡ true → IsOf is_component_character part
 component_of part h = of_kind is_component_character component_characters part refl refl h
 
-not_past : (n : ℕ) → n ≤ 44 → nat_lt 44 n ≡ false
-not_past n h = grind (arith)
+not_past : (most n : ℕ) → n ≤ most → nat_lt most n ≡ false
+not_past most n h = grind (arith)
 
-pub ds_name_is : (part : List ℕ) (parts : List (List ℕ)) → list_all is_component (part ∷ parts) ≡ true → length (joined (part ∷ parts)) ≤ 44 →
-    has_generation_form (joined (part ∷ parts)) ≡ false → ds_name_fault 44 (joined (part ∷ parts)) ≡ None
-ds_name_is part parts h fits plain =
+pub ds_name_within : (most : ℕ) (part : List ℕ) (parts : List (List ℕ)) → list_all is_component (part ∷ parts) ≡ true →
+    length (joined (part ∷ parts)) ≤ most → is_bad_generation (joined (part ∷ parts)) ≡ false → ds_name_fault most (joined (part ∷ parts)) ≡ None
+ds_name_within most part parts h fits good =
     let text : List ℕ = joined (part ∷ parts) in
     let all : List (List ℕ) = part ∷ parts in
     let are : components_of text ≡ all = components_are part parts h in
     let long : List ℕ → Bool = λ p. nat_lt 8 (length p) in
     let wrong : List ℕ → Bool = λ p. begins_badly p || has_other_than is_component_character p in
-    no_fault (list_any reader.is_empty (components_of text)) (nat_lt 44 (length text) || list_any long (components_of text)) (list_any wrong
+    no_fault (list_any reader.is_empty (components_of text)) (nat_lt most (length text) || list_any long (components_of text)) (list_any wrong
     (components_of text)) (is_bad_generation text)
     (ap (list_any reader.is_empty) are ∙ none_of reader.is_empty is_component all (λ p e. (component_of p e).something) h)
-    (neither (nat_lt 44 (length text)) (list_any long (components_of text)) (not_past (length text) fits)
+    (neither (nat_lt most (length text)) (list_any long (components_of text)) (not_past most (length text) fits)
     (ap (list_any long) are ∙ none_of long is_component all (λ p e. (component_of p e).short) h))
     (ap (list_any wrong) are ∙ none_of wrong is_component all
     (λ p e. neither (begins_badly p) (has_other_than is_component_character p) (component_of p e).begins (none_other is_component_character p
     (component_of p e).consists)) h)
+    good
+
+pub ds_name_is : (part : List ℕ) (parts : List (List ℕ)) → list_all is_component (part ∷ parts) ≡ true → length (joined (part ∷ parts)) ≤ 44 →
+    has_generation_form (joined (part ∷ parts)) ≡ false → ds_name_fault 44 (joined (part ∷ parts)) ≡ None
+ds_name_is part parts h fits plain =
+    let text : List ℕ = joined (part ∷ parts) in
+    ds_name_within 44 part parts h fits
     (ap (λ (b : Bool). b && cond (suffix_number (drop (before_suffix text) text) == 0) true (nat_lt 0 (suffix_version (drop (before_suffix text) text)))) plain)

@@ -13,7 +13,8 @@ use Rattle.jname_core.specs.Faults as names
 use Rattle.session_text.specs.Fields.{before_star, repeated, star_in, times_at, times_in}
 use Rattle.session_text.specs.Statements.{says_by, says_in, says_of}
 use Rattle.reader_laws.specs.Spelled.{component_characters, is_among, is_name, name_characters}
-use Rattle.reader_laws.specs.SpelledSessions.{Form, class_characters, is_of_line, is_serial, is_unit, is_word, line_with, number, spaced, times}
+use Rattle.reader_laws.specs.SpelledForms.{Form, is_of_line, is_serial, is_word, line_with, number, spaced}
+use Rattle.reader_laws.specs.SpelledSessions.{class_characters, is_unit, times}
 use Rattle.reader_laws.specs.WrittenCards.{blanks, is_blank, is_empty}
 use Rattle.reader_laws.proofs.Fields.{is_false, is_field, no_position, none_pass, position_is, spaced_are}
 use Rattle.reader_laws.proofs.Names.{all_among, among_passes, name_all, neither, none_of, none_other, not_zero}
@@ -32,15 +33,15 @@ each p q (c ∷ text) h all =
     let halves = and_parts (p c) (list_all p text) all in
     ap (λ (b : Bool). b && list_all q text) (h c halves.0) ∙ each p q text h halves.1
 
-both : (a b : Bool) → a ≡ true → b ≡ true → (a && b) ≡ true
+pub both : (a b : Bool) → a ≡ true → b ≡ true → (a && b) ≡ true
 both a b h k = ap (λ (x : Bool). x && b) h ∙ k
 
-good_is_field : (text : List ℕ) → is_good_field text ≡ true → is_field text ≡ true
+pub good_is_field : (text : List ℕ) → is_good_field text ≡ true → is_field text ≡ true
 good_is_field text h =
     let halves = and_parts (list_all is_good text) (not (is_empty text)) h in
     both _ (not (is_empty text)) (each is_good (λ c. not (is_blank c)) text (λ c e. (and_parts (not (is_blank c)) (is_of_line c) e).0) halves.0) halves.1
 
-good_is_of_line : (text : List ℕ) → is_good_field text ≡ true → list_all is_of_line text ≡ true
+pub good_is_of_line : (text : List ℕ) → is_good_field text ≡ true → list_all is_of_line text ≡ true
 good_is_of_line text h =
     each is_good is_of_line text (λ c e. (and_parts (not (is_blank c)) (is_of_line c) e).1) (and_parts (list_all is_good text) (not (is_empty text)) h).0
 
@@ -51,14 +52,14 @@ all_fields (field ∷ fields) h =
     both (is_field field) (list_all is_field fields) (good_is_field field halves.0) (all_fields fields halves.1)
 
 -- a line of fields is a line
-all_both : (p : ℕ → Bool) (xs ys : List ℕ) → list_all p xs ≡ true → list_all p ys ≡ true → list_all p (xs ++ ys) ≡ true
+pub all_both : (p : ℕ → Bool) (xs ys : List ℕ) → list_all p xs ≡ true → list_all p ys ≡ true → list_all p (xs ++ ys) ≡ true
 all_both p xs ys h k = list_all-append p xs ys ∙ both (list_all p xs) (list_all p ys) h k
 
 blanks_of_line : (n : ℕ) → list_all is_of_line (blanks n) ≡ true
 blanks_of_line zero = refl
 blanks_of_line (suc n) = blanks_of_line n
 
-spaced_of_line : (form : Form) (fields : List (List ℕ)) → list_all is_good_field fields ≡ true → list_all is_of_line (spaced form fields) ≡ true
+pub spaced_of_line : (form : Form) (fields : List (List ℕ)) → list_all is_good_field fields ≡ true → list_all is_of_line (spaced form fields) ≡ true
 spaced_of_line form [] h = blanks_of_line form.blanks_behind
 spaced_of_line form (field ∷ fields) h =
     let halves = and_parts (is_good_field field) (list_all is_good_field fields) h in
@@ -84,7 +85,7 @@ some_length : (text : List ℕ) → (length text == 0) ≡ false → not (is_emp
 some_length [] h = sym h
 some_length (c ∷ text) h = refl
 
-number_spells : (form : Form) (n : ℕ) → n < 2 ^ 64 → Spells n (number form n)
+pub number_spells : (form : Form) (n : ℕ) → n < 2 ^ 64 → Spells n (number form n)
 number_spells form n h = more_zeros form.zeros n _ (spelled n h)
 
 pub number_good : (form : Form) (n : ℕ) → n < 2 ^ 64 → is_good_field (number form n) ≡ true
@@ -162,7 +163,7 @@ joined_good serial (next ∷ serials) h =
     let halves = and_parts (is_serial serial) (list_all is_serial (next ∷ serials)) h in
     all_both is_good serial (44 ∷ join_with_byte 44 (next ∷ serials)) (serial_good serial halves.0) (joined_good next serials halves.1)
 
-before_something : (text behind : List ℕ) → is_empty text ≡ false → is_empty (text ++ behind) ≡ false
+pub before_something : (text behind : List ℕ) → is_empty text ≡ false → is_empty (text ++ behind) ≡ false
 before_something [] behind h = absurd cc
 before_something (c ∷ text) behind h = refl
 

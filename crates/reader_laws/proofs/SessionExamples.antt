@@ -1,10 +1,11 @@
 -- A session as it is spelled, and that what is asked of its statements is met.
-use Rattle.std.proofs.Common.{◌≡◌, ◌++◌, ℕ, true, false, List, [], ◌∷◌, All, arith, refl}
+use Rattle.std.proofs.Common.{◌≡◌, ◌++◌, ℕ, true, false, List, [], ◌∷◌, All, replicate, arith, refl}
 use Rattle.std.specs.Prelude.{codes}
 use Rattle.std.specs.Fmt.{digits}
 use Rattle.std.proofs.lemmas.List.Elements.{All-cons, All-nil}
-use Rattle.machine_meaning.specs.declared.config.ConfigStatement.TheVariants as config
-use Rattle.machine_meaning.specs.declared.event.Event.TheVariants as event
+use Rattle.input_core.specs.declared.statement.ConfigStatement.TheVariants as config
+use Rattle.jcl_meaning.specs.declared.program.Request.TheVariants.{Get, Put, End}
+use Rattle.input_core.specs.declared.event.Event.TheVariants as event
 use Rattle.session_text.specs.declared.statement.Says.{Says}
 use Rattle.session_text.specs.declared.statement.Says.TheVariants as says
 use Rattle.reader_laws.specs.SpelledSessions.{IsSaid, Spelled, text_of}
@@ -19,7 +20,7 @@ abbrev cards : List (List ℕ)
 cards = codes "//ONE JOB 1" ∷ codes "" ∷ codes "./ ENDED" ∷ []
 
 abbrev volume : Spelled
-volume = in_form (says.Config (config.Volume (codes "VOL001") 100) true)
+volume = in_form (says.Config (config.Volume (codes "VOL001") 100 []) true)
 
 abbrev unit : Spelled
 unit = in_form (says.Config (config.Unit (codes "3330") (codes "VOL001" ∷ codes "VOL-2" ∷ [])) true)
@@ -62,10 +63,91 @@ Sayable s = IsSaid s.says
 
 it_is_said : All Sayable session
 it_is_said =
-    All-cons Sayable volume (unit ∷ initiator ∷ procedure ∷ deck ∷ turn ∷ write ∷ []) (refl, omega arith)
+    All-cons Sayable volume (unit ∷ initiator ∷ procedure ∷ deck ∷ turn ∷ write ∷ []) (refl, omega arith, refl)
     (All-cons Sayable unit (initiator ∷ procedure ∷ deck ∷ turn ∷ write ∷ []) (refl, refl, refl)
     (All-cons Sayable initiator (procedure ∷ deck ∷ turn ∷ write ∷ []) (omega arith, refl)
     (All-cons Sayable procedure (deck ∷ turn ∷ write ∷ []) (refl, refl)
     (All-cons Sayable deck (turn ∷ write ∷ []) (refl, refl)
     (All-cons Sayable turn (write ∷ []) (omega arith, omega arith, omega arith, omega arith)
     (All-cons Sayable write [] (refl, omega arith, omega arith) (All-nil Sayable)))))))
+
+-- stores, programs and devices
+abbrev used : Spelled
+used = in_form (says.Config (config.Volume (codes "VOL002") 20 (record { start = 0; tracks = 1 } ∷ record { start = 10; tracks = 3 } ∷ [])) true)
+
+abbrev group : Spelled
+group = wide (says.Config (config.Group (codes "PAY.MASTER") 3 true) true)
+
+abbrev text : List ℕ
+text = codes "ONE" ++ replicate 77 32
+
+abbrev set : Spelled
+set =
+    in_form (says.Config (config.Set (record { name = codes "PAY.TAX"; serial = codes "VOL001"; tracks = 1; catalogued = true; records = text ∷ [] })) true)
+
+abbrev program : Spelled
+program = in_form (says.Config (config.Program (codes "COPY") (Get (codes "IN") ∷ Put (codes "OUT") text ∷ End 4 ∷ [])) true)
+
+abbrev device_end : Spelled
+device_end = in_form (says.Events (event.DeviceEnd (codes "VOL001")) 1)
+
+abbrev cancel : Spelled
+cancel = in_form (says.Events (event.Cancel 12) 1)
+
+abbrev display : Spelled
+display = in_form (says.Events event.Display 1)
+
+abbrev stores : List Spelled
+stores = used ∷ group ∷ set ∷ program ∷ device_end ∷ cancel ∷ display ∷ []
+
+abbrev set_block : List ℕ → List ℕ
+set_block more = line (codes "./ SET PAY.TAX VOL001 1 CAT") (line text (line (codes "./ END") more))
+
+abbrev program_block : List ℕ → List ℕ
+program_block more =
+    line (codes "./ PROGRAM COPY") (line (codes "GET IN") (line (codes "PUT OUT " ++ text) (line (codes "CODE 4") (line (codes "./ END") more))))
+
+stores_spelled : text_of stores ≡
+    line (codes "./ VOLUME VOL002 20 USED 0,10-12") (line (codes "./  GROUP  PAY.MASTER  03  SCRATCH  " ++ (13 ∷ []))
+    (set_block (program_block (line (codes "./ DEV VOL001") (line (codes "./ CANCEL 12") (line (codes "./ DISPLAY") []))))))
+unfolding digits
+stores_spelled = refl
+
+group_is_said : Sayable group
+group_is_said = (
+  record {
+    first = codes "PAY";
+    others = codes "MASTER" ∷ [];
+    text_is = refl;
+    components = refl;
+    fits = omega arith;
+    generation = refl;
+  },
+  omega arith,
+)
+
+set_is_said : Sayable set
+set_is_said = (
+  record {
+    first = codes "PAY";
+    others = codes "TAX" ∷ [];
+    text_is = refl;
+    components = refl;
+    fits = omega arith;
+    generation = refl;
+  },
+  refl,
+  omega arith,
+  refl,
+  refl,
+)
+
+they_are_said : All Sayable stores
+they_are_said =
+    All-cons Sayable used (group ∷ set ∷ program ∷ device_end ∷ cancel ∷ display ∷ []) (refl, omega arith, refl)
+    (All-cons Sayable group (set ∷ program ∷ device_end ∷ cancel ∷ display ∷ []) group_is_said
+    (All-cons Sayable set (program ∷ device_end ∷ cancel ∷ display ∷ []) set_is_said
+    (All-cons Sayable program (device_end ∷ cancel ∷ display ∷ []) (refl, refl, refl)
+    (All-cons Sayable device_end (cancel ∷ display ∷ []) (refl, refl)
+    (All-cons Sayable cancel (display ∷ []) (omega arith, omega arith, refl)
+    (All-cons Sayable display [] refl (All-nil Sayable)))))))

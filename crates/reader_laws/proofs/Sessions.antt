@@ -1,5 +1,5 @@
 -- Statements of a session, one after another.
-use Rattle.std.proofs.Common.{◌≡◌, ◌≤◌, ◌+◌, ◌++◌, ℕ, Bool, true, false, cond, List, [], ◌∷◌, Option, Some, None, All, length, refl, sym, ap, ◌∙◌, arith, append_assoc, length-append}
+use Rattle.std.proofs.Common.{◌≡◌, ◌≤◌, ◌+◌, ◌++◌, ℕ, Bool, true, false, cond, List, [], ◌∷◌, map, Option, Some, None, All, length, refl, sym, ap, ◌∙◌, arith, append_assoc, length-append}
 use Rattle.std.specs.Prelude.{not, ◌&&◌, suc, codes}
 use Rattle.std.specs.List.{flat_map, join_with_byte, list_all, list_any}
 use Rattle.std.specs.Option.{is_none}
@@ -9,9 +9,10 @@ use Rattle.std.proofs.lemmas.List.Folds.{list_all-append}
 use Rattle.std.proofs.Math.Seq.{take-append_seam}
 use Rattle.jname_core.specs.Decimals.{number_within}
 use Rattle.jname_core.specs.Faults.{is_no_serial}
-use Rattle.machine_meaning.specs.declared.config.ConfigStatement.{ConfigStatement}
-use Rattle.machine_meaning.specs.declared.config.ConfigStatement.TheVariants as config
-use Rattle.machine_meaning.specs.declared.event.Event.TheVariants as event
+use Rattle.input_core.specs.declared.statement.ConfigStatement.{ConfigStatement}
+use Rattle.input_core.specs.declared.statement.ConfigStatement.TheVariants as config
+use Rattle.jcl_meaning.specs.declared.program.Request.{Request}
+use Rattle.input_core.specs.declared.event.Event.TheVariants as event
 use Rattle.session_text.specs.declared.fault.Fault.TheVariants.{BadValue}
 use Rattle.session_text.specs.declared.statement.Block.{Block}
 use Rattle.session_text.specs.declared.statement.Ending.TheVariants.{Whole}
@@ -19,15 +20,20 @@ use Rattle.session_text.specs.declared.statement.LineSays.{LineSays}
 use Rattle.session_text.specs.declared.statement.Says.{Says}
 use Rattle.session_text.specs.declared.statement.Says.TheVariants as says
 use Rattle.session_text.specs.declared.statement.Statement.{Statement}
+use Rattle.session_text.specs.Blocks.{block_says, program_says}
 use Rattle.session_text.specs.Fields.{class_of, times_in}
 use Rattle.session_text.specs.Lines.{lines_of as rows_of}
-use Rattle.session_text.specs.Statements.{bad, behind_end, block_says, block_to, by_line, configures, initiator_with, is_end, is_end_by, says_of, statement_at, statements_from, statements_of, turns_with, unit_with, volume_with, writes_with}
+use Rattle.session_text.specs.Records.{filled}
+use Rattle.session_text.specs.Statements.{bad, behind_end, block_to, by_line, cancel_with, configures, device_end_with, group_with, initiator_with, is_end, is_end_by, program_with, says_of, set_with, statement_at, statements_from, statements_of, turns_with, unit_with, volume_with, writes_with}
 use Rattle.reader_laws.specs.Spelled.{component_characters, name_characters}
-use Rattle.reader_laws.specs.SpelledSessions.{Form, IsConfigured, IsSaid, Spelled, block_of, config_block, config_fields, fields_of, is_card, is_of_line, line_with, lines_of, number, numbered, text_of, times, to_end}
+use Rattle.reader_laws.specs.SpelledForms.{Form, is_card, is_of_line, line_with, number}
+use Rattle.reader_laws.specs.SpelledSessions.{IsConfigured, IsSaid, Spelled, block_of, config_block, config_fields, fields_of, lines_of, numbered, text_of, times, to_end}
+use Rattle.reader_laws.specs.SpelledStores.{flag_field, request_line, used_fields}
 use Rattle.reader_laws.proofs.Fields.{is_false, position_is, spaced_are}
 use Rattle.reader_laws.proofs.Names.{name_is}
 use Rattle.reader_laws.proofs.Numbers.{within_is}
-use Rattle.reader_laws.proofs.Said.{class_good, class_is, class_no_star, is_good_field, line_of_line, line_says, listed_is, name_good, no_bad_serial, number_good, number_no_star, serial_is, serials_good, times_are, times_good, unit_is, word_good}
+use Rattle.reader_laws.proofs.Said.{class_good, class_is, class_no_star, is_good_field, line_of_line, line_says, listed_is, name_good, no_bad_serial, number_good, number_no_star, serials_good, times_are, times_good, unit_is, word_good}
+use Rattle.reader_laws.proofs.Stores.{filled_records, flag_good, flag_is, kept_records, lines_are_cards, name_read, requests_are, serial_read, set_name_good, set_name_read, used_good, used_is}
 use Rattle.reader_laws.proofs.TextLines.{lines_are}
 
 three : (a b c : Bool) → a ≡ true → b ≡ true → c ≡ true → (a && (b && (c && true))) ≡ true
@@ -36,16 +42,31 @@ three a b c h k l = λ i. h i && (k i && (l i && true))
 two : (a b : Bool) → a ≡ true → b ≡ true → (a && (b && true)) ≡ true
 two a b h k = λ i. h i && (k i && true)
 
+with_flag : (a b more : Bool) → a ≡ true → b ≡ true → more ≡ true → (a && (b && more)) ≡ true
+with_flag a b more h k l = λ i. h i && (k i && l i)
+
+two_with_flag : (a b c more : Bool) → a ≡ true → b ≡ true → c ≡ true → more ≡ true → (a && (b && (c && more))) ≡ true
+two_with_flag a b c more h k l m = λ i. h i && (k i && (l i && m i))
+
 -- the fields of what can be said are fields
 config_good : (form : Form) (s : ConfigStatement) → IsConfigured s → list_all is_good_field (config_fields form s) ≡ true
-config_good form (config.Volume serial tracks) h =
+config_good form (config.Volume serial tracks used) h =
     let k : tracks ≤ 65535 = h.1 in
-    three true (is_good_field serial) (is_good_field (number form tracks)) refl (word_good 6 component_characters serial refl h.0)
-    (number_good form tracks (omega arith))
+    with_flag (is_good_field serial) (is_good_field (number form tracks)) _ (word_good 6 component_characters serial refl h.0)
+    (number_good form tracks (omega arith)) (used_good form used h.2)
 config_good form (config.Unit name []) h = absurd cc
 config_good form (config.Unit name (serial ∷ serials)) h =
     three true (is_good_field name) _ refl (word_good 8 name_characters name refl h.0) (serials_good serial serials h.2)
+config_good form (config.Group base limit scratch) h =
+    let k : limit ≤ 65535 = h.1 in
+    with_flag (is_good_field base) (is_good_field (number form limit)) _ (set_name_good 35 base h.0) (number_good form limit (omega arith))
+    (flag_good (codes "SCRATCH") scratch refl)
+config_good form (config.Set set) h =
+    let k : set.tracks ≤ 65535 = h.2 in
+    two_with_flag (is_good_field set.name) (is_good_field set.serial) (is_good_field (number form set.tracks)) _ (set_name_good 44 set.name h.0)
+    (word_good 6 component_characters set.serial refl h.1) (number_good form set.tracks (omega arith)) (flag_good (codes "CAT") set.catalogued refl)
 config_good form (config.Procedure name lines) h = two true (is_good_field name) refl (name_good name h.0)
+config_good form (config.Program name requests) h = two true (is_good_field name) refl (name_good name h.0)
 config_good form (config.Initiator n classes) h =
     let k : n ≤ 65535 = h.0 in
     three true (is_good_field (number form n)) (is_good_field classes) refl (number_good form n (omega arith)) (word_good 8
@@ -60,13 +81,20 @@ fields_good form (says.Events (event.Turn i) n) h =
     two true (is_good_field (times form (number form i) n)) refl (times_good form (number form i) n (number_good form i (omega arith)) h.3)
 fields_good form (says.Events (event.Write class) n) h =
     two true (is_good_field (times form (class ∷ []) n)) refl (times_good form (class ∷ []) n (class_good class h.0) h.2)
+fields_good form (says.Events (event.DeviceEnd serial) n) h = two true (is_good_field serial) refl (word_good 6 component_characters serial refl h.0)
+fields_good form (says.Events (event.Cancel job) n) h =
+    let k : job ≤ 9999 = h.1 in two true (is_good_field (number form job)) refl (number_good form job (omega arith))
+fields_good form (says.Events event.Display n) h = refl
 fields_good form (says.Refused fault) h = absurd h
 
 -- what a statement's line says by itself
 abbrev config_line : ConfigStatement → LineSays
-config_line (config.Volume serial tracks) = LineSays.One (configures (config.Volume serial tracks))
+config_line (config.Volume serial tracks used) = LineSays.One (configures (config.Volume serial tracks used))
 config_line (config.Unit name serials) = LineSays.One (configures (config.Unit name serials))
+config_line (config.Group base limit scratch) = LineSays.One (configures (config.Group base limit scratch))
+config_line (config.Set set) = LineSays.Opens (Block.Set (record set { records = [] }))
 config_line (config.Procedure name lines) = LineSays.Opens (Block.Procedure name)
+config_line (config.Program name requests) = LineSays.Opens (Block.Program name)
 config_line (config.Initiator n classes) = LineSays.One (configures (config.Initiator n classes))
 
 abbrev line_of : Says → LineSays
@@ -74,14 +102,16 @@ line_of (says.Config s has_end) = config_line s
 line_of (says.Events (event.Read cards) n) = LineSays.Opens Block.Deck
 line_of (says.Events (event.Turn i) n) = LineSays.One (says.Events (event.Turn i) n)
 line_of (says.Events (event.Write class) n) = LineSays.One (says.Events (event.Write class) n)
+line_of (says.Events (event.DeviceEnd serial) n) = LineSays.One (says.Events (event.DeviceEnd serial) n)
+line_of (says.Events (event.Cancel job) n) = LineSays.One (says.Events (event.Cancel job) n)
+line_of (says.Events event.Display n) = LineSays.One (says.Events event.Display n)
 line_of (says.Refused fault) = LineSays.One (says.Refused fault)
 
 config_said : (form : Form) (s : ConfigStatement) → IsConfigured s → says_of (line_with form (config_fields form s)) ≡ config_line s
-config_said form (config.Volume serial tracks) h =
+config_said form (config.Volume serial tracks used) h =
     let k : tracks ≤ 65535 = h.1 in
-    line_says form (codes "VOLUME") (serial ∷ number form tracks ∷ []) (config_good form (config.Volume serial tracks) h)
-    ∙ ap (λ (n : Option ℕ). LineSays.One (volume_with serial n)) (within_is form.zeros 0 65535 tracks (omega arith) (omega arith) k)
-    ∙ ap (λ (b : Bool). LineSays.One (cond b bad (configures (config.Volume serial tracks)))) (serial_is serial h.0)
+    line_says form (codes "VOLUME") (serial ∷ number form tracks ∷ used_fields form used) (config_good form (config.Volume serial tracks used) h)
+    ∙ λ i. LineSays.One (volume_with (serial_read serial h.0 i) (within_is form.zeros 0 65535 tracks (omega arith) (omega arith) k i) (used_is form used h.2 i))
 config_said form (config.Unit name []) h = absurd cc
 config_said form (config.Unit name (serial ∷ serials)) h =
     let all : List (List ℕ) = serial ∷ serials in
@@ -90,9 +120,23 @@ config_said form (config.Unit name (serial ∷ serials)) h =
     ∙ ap (λ (found : List (List ℕ)). LineSays.One (unit_with name found)) (listed_is serial serials h.2)
     ∙ ap (λ (b : Bool). LineSays.One (cond (b && not (list_any is_no_serial all)) configured bad)) (ap is_none (unit_is name h.0))
     ∙ ap (λ (b : Bool). LineSays.One (cond (not b) configured bad)) (no_bad_serial all h.2)
+config_said form (config.Group base limit scratch) h =
+    let k : limit ≤ 65535 = h.1 in
+    line_says form (codes "GROUP") (base ∷ number form limit ∷ flag_field (codes "SCRATCH") scratch) (config_good form (config.Group base limit scratch) h)
+    ∙ λ i. LineSays.One (group_with (set_name_read 35 base h.0 i) (within_is form.zeros 0 65535 limit (omega arith) (omega arith) k i)
+    (flag_is (codes "SCRATCH") scratch refl i))
+config_said form (config.Set set) h =
+    let k : set.tracks ≤ 65535 = h.2 in
+    line_says form (codes "SET") (set.name ∷ set.serial ∷ number form set.tracks ∷ flag_field (codes "CAT") set.catalogued)
+    (config_good form (config.Set set) h)
+    ∙ λ i. LineSays.Opens (set_with (set_name_read 44 set.name h.0 i) (serial_read set.serial h.1 i)
+    (within_is form.zeros 0 65535 set.tracks (omega arith) (omega arith) k i) (flag_is (codes "CAT") set.catalogued refl i))
 config_said form (config.Procedure name lines) h =
     line_says form (codes "PROC") (name ∷ []) (config_good form (config.Procedure name lines) h)
     ∙ ap (λ (b : Bool). LineSays.Opens (cond b (Block.Procedure name) (Block.Faulty BadValue))) (ap is_none (name_is name h.0))
+config_said form (config.Program name requests) h =
+    line_says form (codes "PROGRAM") (name ∷ []) (config_good form (config.Program name requests) h)
+    ∙ ap (λ (found : Option (List ℕ)). LineSays.Opens (program_with found)) (name_read name h.0)
 config_said form (config.Initiator n classes) h =
     let k : n ≤ 65535 = h.0 in
     line_says form (codes "INIT") (number form n ∷ classes ∷ []) (config_good form (config.Initiator n classes) h)
@@ -118,6 +162,17 @@ said form (says.Events (event.Write class) n) h =
     ∙ ap (λ (before : List ℕ). LineSays.One (writes_with (class_of before) (times_in text))) t.before_is
     ∙ ap (λ (b : Bool). LineSays.One (writes_with (cond b (Some class) None) (times_in text))) (class_is class h.0)
     ∙ ap (λ (m : Option ℕ). LineSays.One (writes_with (Some class) m)) t.times_is
+said form (says.Events (event.DeviceEnd serial) n) h =
+    line_says form (codes "DEV") (serial ∷ []) (fields_good form (says.Events (event.DeviceEnd serial) n) h)
+    ∙ ap (λ (found : Option (List ℕ)). LineSays.One (device_end_with found)) (serial_read serial h.0)
+    ∙ λ i. LineSays.One (says.Events (event.DeviceEnd serial) (sym h.1 i))
+said form (says.Events (event.Cancel job) n) h =
+    let low : 1 ≤ job = h.0 in
+    let high : job ≤ 9999 = h.1 in
+    line_says form (codes "CANCEL") (number form job ∷ []) (fields_good form (says.Events (event.Cancel job) n) h)
+    ∙ ap (λ (m : Option ℕ). LineSays.One (cancel_with m)) (within_is form.zeros 1 9999 job (omega arith) low high)
+    ∙ λ i. LineSays.One (says.Events (event.Cancel job) (sym h.2 i))
+said form (says.Events event.Display n) h = line_says form (codes "DISPLAY") [] refl ∙ λ i. LineSays.One (says.Events event.Display (sym h i))
 said form (says.Refused fault) h = absurd h
 
 -- a block, to its END
@@ -186,13 +241,30 @@ whole_block n form row block cards rest h all =
 config_is : (n : ℕ) (form : Form) (s : ConfigStatement) (rest : List (List ℕ)) → IsConfigured s →
     statements_from Whole n (line_with form (config_fields form s) ∷ (config_block form s ++ rest))
     ≡ statement_at n (configures s) ∷ statements_from Whole (n + suc (length (config_block form s))) rest
-config_is n form (config.Volume serial tracks) rest h =
-    let s : ConfigStatement = config.Volume serial tracks in one_line n (line_with form (config_fields form s)) (configures s) rest (config_said form s h)
+config_is n form (config.Volume serial tracks used) rest h =
+    let s : ConfigStatement = config.Volume serial tracks used in one_line n (line_with form (config_fields form s)) (configures s) rest (config_said form s h)
 config_is n form (config.Unit name serials) rest h =
     let s : ConfigStatement = config.Unit name serials in one_line n (line_with form (config_fields form s)) (configures s) rest (config_said form s h)
+config_is n form (config.Group base limit scratch) rest h =
+    let s : ConfigStatement = config.Group base limit scratch in
+    one_line n (line_with form (config_fields form s)) (configures s) rest (config_said form s h)
+config_is n form (config.Set set) rest h =
+    let s : ConfigStatement = config.Set set in
+    let block : Block = Block.Set (record set { records = [] }) in
+    whole_block n form (line_with form (config_fields form s)) block set.records rest (config_said form s h) h.4
+    ∙ ap (λ (b : Bool). statement_at n (cond b bad (configures (config.Set (record set { records = map filled set.records }))))
+    ∷ statements_from Whole (n + suc (length (config_block form s))) rest) (kept_records set.records h.3)
+    ∙ ap (λ (records : List (List ℕ)). statement_at n (configures (config.Set (record set { records = records })))
+    ∷ statements_from Whole (n + suc (length (config_block form s))) rest) (filled_records set.records h.3)
 config_is n form (config.Procedure name lines) rest h =
     let s : ConfigStatement = config.Procedure name lines in
     whole_block n form (line_with form (config_fields form s)) (Block.Procedure name) lines rest (config_said form s h) h.1
+config_is n form (config.Program name requests) rest h =
+    let s : ConfigStatement = config.Program name requests in
+    whole_block n form (line_with form (config_fields form s)) (Block.Program name) (map (request_line form) requests) rest (config_said form s h)
+    (lines_are_cards form requests h.1)
+    ∙ ap (λ (found : Option (List Request)). statement_at n (program_says name found true)
+    ∷ statements_from Whole (n + suc (length (config_block form s))) rest) (requests_are form requests h.1 h.2)
 config_is n form (config.Initiator m classes) rest h =
     let s : ConfigStatement = config.Initiator m classes in one_line n (line_with form (config_fields form s)) (configures s) rest (config_said form s h)
 
@@ -208,6 +280,12 @@ statement_is n form (says.Events (event.Turn i) m) rest h =
     let s : Says = says.Events (event.Turn i) m in one_line n (line_with form (fields_of form s)) s rest (said form s h)
 statement_is n form (says.Events (event.Write class) m) rest h =
     let s : Says = says.Events (event.Write class) m in one_line n (line_with form (fields_of form s)) s rest (said form s h)
+statement_is n form (says.Events (event.DeviceEnd serial) m) rest h =
+    let s : Says = says.Events (event.DeviceEnd serial) m in one_line n (line_with form (fields_of form s)) s rest (said form s h)
+statement_is n form (says.Events (event.Cancel job) m) rest h =
+    let s : Says = says.Events (event.Cancel job) m in one_line n (line_with form (fields_of form s)) s rest (said form s h)
+statement_is n form (says.Events event.Display m) rest h =
+    let s : Says = says.Events event.Display m in one_line n (line_with form (fields_of form s)) s rest (said form s h)
 statement_is n form (says.Refused fault) rest h = absurd h
 
 -- lines of statements are lines
@@ -218,9 +296,12 @@ to_end_is form cards h =
     ∙ ap (λ (b : Bool). b && true) (line_of_line form (codes "END" ∷ []) refl)
 
 config_block_is : (form : Form) (s : ConfigStatement) → IsConfigured s → list_all (list_all is_of_line) (config_block form s) ≡ true
-config_block_is form (config.Volume serial tracks) h = refl
+config_block_is form (config.Volume serial tracks used) h = refl
 config_block_is form (config.Unit name serials) h = refl
+config_block_is form (config.Group base limit scratch) h = refl
+config_block_is form (config.Set set) h = to_end_is form set.records h.4
 config_block_is form (config.Procedure name lines) h = to_end_is form lines h.1
+config_block_is form (config.Program name requests) h = to_end_is form (map (request_line form) requests) (lines_are_cards form requests h.1)
 config_block_is form (config.Initiator n classes) h = refl
 
 block_is : (form : Form) (s : Says) → IsSaid s → list_all (list_all is_of_line) (block_of form s) ≡ true
@@ -229,6 +310,9 @@ block_is form (says.Config s false) h = absurd h
 block_is form (says.Events (event.Read cards) n) h = to_end_is form cards h.1
 block_is form (says.Events (event.Turn i) n) h = refl
 block_is form (says.Events (event.Write class) n) h = refl
+block_is form (says.Events (event.DeviceEnd serial) n) h = refl
+block_is form (says.Events (event.Cancel job) n) h = refl
+block_is form (says.Events event.Display n) h = refl
 block_is form (says.Refused fault) h = absurd h
 
 lines_good : (form : Form) (s : Says) → IsSaid s → list_all (list_all is_of_line) (lines_of form s) ≡ true

@@ -9,7 +9,8 @@ use Rattle.std.proofs.lemmas.List.Splits.{length-slice_split, slice_split_at}
 use Rattle.std.proofs.Math.Seq.{take-append_seam}
 use Rattle.session_text.specs.declared.statement.Ending.TheVariants.{Whole}
 use Rattle.session_text.specs.Lines.{ended_lines, lines_of, open_line, parts_of}
-use Rattle.reader_laws.specs.SpelledSessions.{ended, is_of_line}
+use Rattle.reader_laws.specs.SpelledForms.{is_of_line}
+use Rattle.reader_laws.specs.SpelledSessions.{ended}
 use Rattle.reader_laws.proofs.Fields.{none_pass}
 
 -- a line before other parts

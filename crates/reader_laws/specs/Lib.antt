@@ -2,9 +2,11 @@ pub mod CardLaws
 pub mod OperandLaws
 pub mod SessionLaws
 pub mod Spelled
+pub mod SpelledForms
 pub mod SpelledOperands
 pub mod SpelledSessions
 pub mod SpelledStatements
+pub mod SpelledStores
 pub mod StatementLaws
 pub mod TextLaws
 pub mod WrittenCards

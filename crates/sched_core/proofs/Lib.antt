@@ -1,9 +1,16 @@
-mod Configuring
-mod Queueing
-mod Selections
-mod Answering
-mod Places
-mod Selecting
-mod Denoted
-mod Driving
-mod Refusing
+pub mod Seats
+pub mod Places
+pub mod Unchanged
+pub mod Waits
+pub mod Turning
+pub mod Selected
+pub mod Entered
+pub mod Cancelled
+pub mod Counting
+pub mod Happened
+pub mod Copying
+pub mod Risks
+pub mod Shows
+pub mod Machined
+pub mod Begun
+pub mod Driving

@@ -1,19 +1,13 @@
--- What stands at a place of the initiators.
-use Rattle.std.proofs.Common.{◌≡◌, ℕ, List, Option, Some, None, All, sym, ap, ◌∙◌, subst}
-use Rattle.std.specs.Prelude.{get_or, slice_get}
-use Rattle.std.proofs.lemmas.Option.{get_or_from_slice_get, slice_get_within}
-use Rattle.machine_meaning.specs.declared.machine.Initiator.{Initiator}
+-- A place of a list that is as it was.
+use Rattle.std.proofs.Common.{◌≡◌, ℕ, zero, suc, List, [], ◌∷◌, Some, refl, ap}
+use Rattle.std.specs.Prelude.{Result, Ok, Err, OnErr, slice_get, slice_set}
 
--- what stands at a place is one
-pub same_at : (initiators : List Initiator) (place : ℕ) (x y : Initiator) → slice_get initiators place ≡ Some x → slice_get initiators place ≡ Some y → y ≡ x
-same_at initiators place x y e f = ap (or_some y) (sym f ∙ e)
-  where
-    or_some : Initiator → Option Initiator → Initiator
-    or_some z None = z
-    or_some z (Some w) = w
+pub set_same : {X : Type 0} (xs : List X) (k : ℕ) (x y : X) → slice_get xs k ≡ Some x → y ≡ x → slice_set xs k y ≡ xs
+set_same [] k x y e is = refl
+set_same (z ∷ xs) zero x y e is = let same : z ≡ x = cc in ap (λ w. w ∷ xs) (let both : y ≡ z = cc in both)
+set_same (z ∷ xs) (suc k) x y e is = ap (λ ws. z ∷ ws) (set_same xs k x y e is)
 
-pub read_at : (initiators : List Initiator) (place : ℕ) (x y : Initiator) → slice_get initiators place ≡ Some x → y ≡ get_or initiators place y → y ≡ x
-read_at initiators place x y e is = is ∙ get_or_from_slice_get initiators place x y e
-
-pub holds_at : (P : Initiator → Type 0) (initiators : List Initiator) (place : ℕ) (x : Initiator) → All P initiators → slice_get initiators place ≡ Some x → P x
-holds_at P initiators place x all e = subst P (get_or_from_slice_get initiators place x x e) (all place x (slice_get_within initiators place x e))
+pub still_there : {T E X : Type 0} (r : Result T E) (P : Type 0) (xs : List X) (k : ℕ) (x y : X) → slice_get xs k ≡ Some x → OnErr r (P × (y ≡ x)) →
+    OnErr r (P × (slice_set xs k y ≡ xs))
+still_there (Ok t) P xs k x y e h = tt
+still_there (Err f) P xs k x y e h = (h.0, set_same xs k x y e h.1)

@@ -1,4 +1,11 @@
-pub mod Jobs
-pub mod Refusals
-pub mod Selection
+pub mod Machines
+pub mod Fits
+pub mod Events
+pub mod Going
+pub mod Copies
+pub mod Selecting
+pub mod Cancelling
+pub mod Reading
+pub mod Happening
 pub mod Systems
+pub mod Starting

@@ -1,25 +1,100 @@
--- The machine's answers to events.
-use Rattle.std.specs.Prelude.{◌≡◌, ◌≢◌, ℕ, ◌≤◌, List, [], ◌∷◌, ◌++◌, length, take, slice_get, Some, None, Result, Ok, Err, All}
+-- The machine as its callers see it: the parts' values, and the world that they are.
+use Rattle.std.specs.Prelude.{◌≡◌, ℕ, ◌≤◌, List, [], ◌∷◌, map, length, take, Result, Ok, Err}
+use Rattle.cb_queue.specs.RecordQueues.{RecordQueue}
+use Rattle.input_core.specs.declared.event.Event.{Event}
+use Rattle.input_core.specs.declared.event.Event.TheVariants as input
+use Rattle.jcl_job.specs.Jobs.{job_of}
 use Rattle.jcl_plan.specs.declared.entry.Entry.{Entry}
 use Rattle.jcl_plan.specs.declared.entry.Entry.TheVariants as entry
-use Rattle.jcl_plan.specs.declared.fault.Cause.{Cause}
-use Rattle.machine_meaning.specs.declared.event.Event.{Event}
-use Rattle.machine_meaning.specs.declared.machine.Initiator.{Initiator}
-use Rattle.machine_meaning.specs.declared.machine.TheConstants.{MOST_EVENTS, MOST_JOBS}
-use Rattle.machine_meaning.specs.declared.machine.Waiting.{Waiting}
-use Rattle.jcl_plan.specs.declared.plan.JobPlan.{JobPlan}
-use Rattle.machine_meaning.specs.Transitions.{Acts, Runs, waits}
-use Rattle.machine_meaning.specs.Worlds.{World, IsAt, of_job}
-use Rattle.sched_core.specs.declared.system.ApplyFault.{ApplyFault}
-use Rattle.sched_core.specs.declared.system.ApplyFault.TheVariants.{Refused, Memory}
-use Rattle.sched_core.specs.Jobs.{job_run}
-use Rattle.jcl_meaning.specs.NoSets.{HasNoSets}
+use Rattle.proc_library.specs.declared.library.LibraryProcedure.{LibraryProcedure}
+use Rattle.world_meaning.specs.declared.event.Event as meant
+use Rattle.world_meaning.specs.declared.event.Event.TheVariants as event
+use Rattle.world_meaning.specs.Readings.{Denoting}
+use Rattle.world_meaning.specs.Transitions.{Runs}
+use Rattle.world_meaning.specs.Worlds.{Config, World, of_job}
+use Rattle.admit_core.specs.Listed.{waiting_in}
+use Rattle.admit_core.specs.declared.backlog.Listing.{Listing}
+use Rattle.machine_core.specs.Shown.{shown}
+use Rattle.machine_core.specs.declared.parts.Parts.{Parts}
+use Rattle.init_core.specs.Deciding.{Decides}
+use Rattle.init_core.specs.Running.{lines_told}
+use Rattle.init_core.specs.declared.running.Profile.{Profile}
+use Rattle.init_core.specs.declared.running.Progress.{Progress}
+use Rattle.init_core.specs.declared.running.Running.{Running}
+use Rattle.sched_core.specs.Fits.{IsKept}
+use Rattle.sched_core.specs.Machines.{RunsIn, config_in, shown_initiator}
+use Rattle.sched_core.specs.declared.fault.ApplyFault.{ApplyFault}
+use Rattle.sched_core.specs.declared.fault.ApplyFault.TheVariants.{Memory, Refused}
+use Rattle.sched_core.specs.declared.state.Initiator.{Initiator}
+use Rattle.sched_core.specs.declared.state.State.{State}
+
+-- what is fixed (the configuration, the names of units, the library), what jobs change, the initiators with their jobs, the listings of the jobs that
+-- wait, how many job numbers were given and how many events came
+pub record Machine : Type 0 where
+  pub config : Config
+  pub unit_names : List (List ℕ)
+  pub library : List LibraryProcedure
+  pub parts : Parts RecordQueue
+  pub initiators : List Initiator
+  pub backlog : List Listing
+  pub jobs : ℕ
+  pub events : ℕ
+
+-- the parts with what the store of records means
+abbrev pub parts_of : {Q : Type 0} → (Q → RecordQueue) → Parts Q → Parts RecordQueue
+parts_of queue_of p = record {
+  store = p.store;
+  queue = queue_of p.queue;
+  names = p.names;
+  units = p.units;
+  cancels = p.cancels;
+  spool = p.spool;
+  date = p.date;
+}
+
+abbrev pub machine_in : {Q : Type 0} → (Q → RecordQueue) → Profile → List (List ℕ) → List LibraryProcedure → State Q → Machine
+machine_in queue_of p names library s = record {
+  config = config_in queue_of p s;
+  unit_names = names;
+  library = library;
+  parts = parts_of queue_of s.parts;
+  initiators = s.initiators.items;
+  backlog = s.backlog;
+  jobs = s.jobs;
+  events = s.events;
+}
+
+abbrev pub itself : RecordQueue → RecordQueue
+itself q = q
+
+abbrev pub world_of : Machine → World
+world_of m = record {
+  config = m.config;
+  shared = shown itself m.parts;
+  initiators = map (shown_initiator m.config) m.initiators;
+  waiting = waiting_in m.parts.queue.waiting m.backlog;
+  jobs = m.jobs;
+  events = m.events;
+}
+
+-- the job that a deck denotes in this machine
+abbrev pub denoting : Machine → Denoting
+denoting m = job_of m.unit_names m.library
+
+-- an input as the machine's definitions have it
+abbrev pub meant_by : Event → meant.Event
+meant_by (input.Read deck) = event.Read deck
+meant_by (input.Turn number) = event.Turn number
+meant_by (input.DeviceEnd serial) = event.DeviceEnd serial
+meant_by (input.Write class) = event.Write class
+meant_by (input.Cancel job) = event.Cancel job
+meant_by input.Display = event.Display
 
 -- what was done is allowed; a refusal is shown as its line; where memory was wanting nothing changed
-abbrev pub Answers : Result (List Entry) ApplyFault → World → World → (List Entry → World → Type 0) → Type 0
-Answers (Ok lines) old new allows = allows lines new
-Answers (Err (Refused cause)) old new allows = allows (entry.Refused cause ∷ []) new
-Answers (Err Memory) old new allows = new ≡ old
+abbrev pub Applies : Result (List Entry) ApplyFault → World → World → (List Entry → World → Type 0) → Type 0
+Applies (Ok lines) old new allows = allows lines new
+Applies (Err (Refused cause)) old new allows = allows (entry.Refused cause ∷ []) new
+Applies (Err Memory) old new allows = new ≡ old
 
 -- a refusal changes the count of events alone
 abbrev pub KeepsIfRefused : Result (List Entry) ApplyFault → World → World → Type 0
@@ -27,36 +102,30 @@ KeepsIfRefused (Ok lines) old new = Unit {0}
 KeepsIfRefused (Err (Refused cause)) old new = new ≡ record old { events = new.events }
 KeepsIfRefused (Err Memory) old new = Unit {0}
 
--- what the machine refuses is refused, and told as that, whether or not memory is wanting
-abbrev pub RefusesFirst : Result (List Entry) ApplyFault → (List Entry → World → Type 0) → Type 0
-RefusesFirst result allows = (cause : Cause) (new : World) → allows (entry.Refused cause ∷ []) new → result ≡ Err (Refused cause)
-
--- what holds of a machine between events
-pub record IsKept (waiting : List Waiting) (jobs events : ℕ) : Type 0 where
-  pub in_queue : All (λ w. HasNoSets w.plan) waiting
-  pub numbers : All (λ w. w.job ≤ jobs) waiting
-  pub few_jobs : jobs ≤ MOST_JOBS
-  pub few_events : events ≤ MOST_EVENTS
+-- what is fixed stays
+pub record IsSameFixed (old new : Machine) : Type 0 where
+  pub config : new.config ≡ old.config
+  pub unit_names : new.unit_names ≡ old.unit_names
+  pub library : new.library ≡ old.library
 
 -- the events that were done, each with its lines
-abbrev pub IsDriven : World → List Event → List (List Entry) → ℕ → World → Type 0
-IsDriven old events entries done new = (done ≤ length events) × Runs job_run old (take done events) entries new
+pub record IsDriven (old : Machine) (events : List Event) (entries : List (List Entry)) (done : ℕ) (new : Machine) : Type 0 where
+  pub within : done ≤ length events
+  pub runs : Runs (denoting old) (world_of old) (map meant_by (take done events)) entries (world_of new)
+  pub fixed : IsSameFixed old new
 
--- an initiator of the number is at this place
-abbrev pub IsPlaceOf : List Initiator → ℕ → ℕ → Type 0
-IsPlaceOf initiators number place = (x : Initiator) × (slice_get initiators place ≡ Some x) × (x.number ≡ number)
+-- what the table leaves open in a turn of the job at this place is as the volumes decide it
+pub record TurnIsDecided (old : Machine) (r : Running) (lines : List Entry) : Type 0 where
+  pub came : Progress
+  pub told : lines ≡ of_job r.job (lines_told came)
+  pub decides : Decides old.config old.parts.store (shown itself old.parts) r came
 
--- the initiator at a place runs a job, or none
-abbrev pub RunsAt : World → ℕ → Type 0
-RunsAt old place = (x : Initiator) × IsAt old place x × (x.running ≢ None)
+abbrev pub IsDecided : Machine → Event → List Entry → Type 0
+IsDecided old (input.Turn number) lines =
+    (place : ℕ) (r : Running) (h : RunsIn old.initiators place r) → h.it.number ≡ number → TurnIsDecided old r lines
+IsDecided old other lines = Unit {0}
 
-abbrev pub IsIdleAt : World → ℕ → Type 0
-IsIdleAt old place = (x : Initiator) × IsAt old place x × (x.running ≡ None)
-
--- what it may do there
-abbrev pub ActsAt : World → ℕ → List Entry → World → Type 0
-ActsAt old place lines new = (x : Initiator) → IsAt old place x → Acts old place x x.running lines new
-
--- a job takes this number and waits
-abbrev pub IsTakenIn : World → ℕ → JobPlan → List Entry → World → Type 0
-IsTakenIn old job plan lines new = (lines ≡ of_job job (waits job plan).listing) × (new ≡ record old { jobs = job; waiting = old.waiting ++ waits job plan ∷ [] })
+-- what holds of a machine between two events
+pub record IsSystem {Q : Type 0} (queue_of : Q → RecordQueue) (p : Profile) (names : List (List ℕ)) (s : State Q) : Type 0 where
+  pub kept : IsKept queue_of (config_in queue_of p s) s
+  pub named : length names ≡ length p.units.now

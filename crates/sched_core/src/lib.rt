@@ -1,14 +1,19 @@
-//! The machine: a configuration, and events one at a time.
+//! The machine: its start, and its events one at a time. (This profile)
 #![tactic(auto)]
 
-#[cfg(test)]
-mod cases;
-pub mod config;
-pub mod jobs;
-mod queue;
-#[cfg(test)]
-mod refused;
+mod cancelling;
+mod copies;
+mod ending;
+pub mod fault;
+mod going;
+mod happening;
+mod lines;
+mod reading;
+mod seating;
+mod selecting;
+mod showing;
+pub mod start;
+pub mod state;
 pub mod system;
 #[cfg(test)]
 mod tests;
-mod units;

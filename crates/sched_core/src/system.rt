@@ -1,53 +1,33 @@
 //! The machine.
-ghost use Rattle.std.specs.Prelude.{◌≡◌, ◌≢◌, ◌<◌, ◌≤◌, ◌∷◌, ◌++◌, [], ℕ, List, All, IfNone, IfOk, IfSome, None, Some, map, OnErr, OnOk, slice_get};
-ghost use Rattle.jcl_plan.specs.declared.entry.Entry.TheVariants as entry;
-ghost use Rattle.machine_meaning.specs.Configs.{idle, start_of};
-ghost use Rattle.jcl_plan.specs.declared.entry.JobLine.TheVariants as line;
-ghost use Rattle.machine_meaning.specs.declared.machine.TheConstants.{MOST_JOBS};
-ghost use Rattle.machine_meaning.specs.Transitions.{Does, Reads, Transition, Turns, Writes, waits};
-ghost use Rattle.sched_core.specs.Jobs.{job_run};
-ghost use Rattle.sched_core.specs.Systems.{ActsAt, Answers, IsDriven, IsIdleAt, IsPlaceOf, IsTakenIn, KeepsIfRefused, RefusesFirst, RunsAt};
-ghost use Rattle.jcl_meaning.specs.NoSets.{HasNoSets};
+ghost use Rattle.std.specs.Prelude.{◌≡◌, IfOk, OnErr};
+ghost use Rattle.cb_queue.specs.RecordQueues.{empty_queue};
+ghost use Rattle.config_core.specs.Configs.{Configuration};
+ghost use Rattle.config_core.specs.Configured.{IsConfigured};
+ghost use Rattle.config_core.specs.Starts.{IsTakenApart};
+ghost use Rattle.world_meaning.specs.Transitions.{Transition};
+ghost use Rattle.sched_core.specs.Events.{RefusesFirst};
+ghost use Rattle.sched_core.specs.Starting.{IsForMachine, IsStarted};
+ghost use Rattle.sched_core.specs.Systems.{Applies, IsDecided, IsDriven, IsSameFixed, KeepsIfRefused, denoting, meant_by, world_of};
 
-use crate::config::Config;
-use crate::jobs::job_run;
-use crate::queue::Backlog;
-use init_core::initiator::Initiator;
-use jcl_plan::entry::{Entry, JobLine};
-use jcl_plan::fault::{Cause, EventFault};
-use jcl_plan::plan::JobPlan;
+use crate::ending::end;
+use crate::fault::ApplyFault;
+use crate::happening::apply_in;
+use crate::start::{idle_of, started};
+use crate::state::State;
+use admit_core::laws::layout_reads_what_it_holds;
+use cb_queue::store::RecordStore;
+use config_core::laws::configuration_is_start;
+use config_core::start::Fixed;
+use init_core::running::Profile;
+use input_core::event::Event;
+use jcl_plan::entry::Entry;
 use jcl_refs::units::UnitNames;
-use jname_core::serial::Serial;
-use machine_meaning::config::{ConfiguredInitiator, ConfiguredVolume};
-use machine_meaning::event::Event;
-use machine_meaning::machine::{MOST_EVENTS, MOST_JOBS, Waiting};
-use plain::lent::Lent;
 use plain::listed::Listed;
 use proc_library::library::ProcLibrary;
-use spool_core::spool::Spool;
+use run_laws::starts_sound;
+use shared_core::store::SharedStore;
 use std::alloc::{AllocError, Global};
 use std::marker::Model;
-use value_core::refusal::ReadError;
-
-/// Why an event was not done.
-#[derive(Clone, Copy, Debug, PartialEq, Eq)]
-pub enum ApplyFault {
-    /// The event changes the count of events alone.
-    Refused(Cause),
-    /// It changes nothing, and may be repeated.
-    Memory,
-}
-
-impl From<AllocError> for ApplyFault {
-    ghost use Rattle.std.specs.Prelude.{◌≡◌};
-    ghost use Rattle.sched_core.specs.declared.system.ApplyFault.TheVariants.{Memory};
-
-    ghost from_gives = { λ _ e. e ≡ Memory };
-
-    fn from(_error: AllocError) -> ApplyFault {
-        ApplyFault::Memory
-    }
-}
 
 /// What came of a list of events.
 #[derive(Debug, Drop)]
@@ -58,257 +38,96 @@ pub struct Driven {
     pub done: usize,
 }
 
-/// The machine between two events.
-#[derive(Debug, Drop)]
-pub struct System<'c> {
+/// The machine between two events, over any store of records.
+pub struct System<'c, Q: RecordStore> {
     alloc: Global,
-    volumes: Listed<Serial>,
+    profile: Profile<'c>,
     units: &'c UnitNames,
     library: &'c ProcLibrary,
-    initiators: Vec<Initiator>,
-    waiting: Backlog,
-    spool: Spool,
-    jobs: u16,
-    events: u16,
+    state: State<Q>,
 }
 
-impl<'c> Model for System<'c> {
-    ghost use Rattle.std.specs.Prelude.{◌≤◌, []};
-    ghost use Rattle.machine_meaning.specs.Worlds.{World};
-    ghost use Rattle.sched_core.specs.Systems.{IsKept};
+impl<'c, Q: RecordStore> Model for System<'c, Q> {
+    ghost use Rattle.std.specs.Coded.{codes};
+    ghost use Rattle.cat_core.specs.Catalogs.{coded_contents};
+    ghost use Rattle.mount_core.specs.Mounts.{coded_mounted};
+    ghost use Rattle.sched_core.specs.Systems.{IsSystem, Machine, machine_in};
 
-    ghost Value = { World };
+    ghost Value = { Machine };
 
-    ghost view = { λ s. record {
-      volumes = s.volumes;
-      units = s.units.now;
-      library = s.library.now;
-      programs = [];
-      initiators = s.initiators.items;
-      waiting = s.waiting;
-      holds = [];
-      spool = s.spool;
-      jobs = s.jobs;
-      events = s.events;
-    } };
+    ghost coded = { Prim.hlevel (codes, coded_mounted, coded_contents) };
 
-    ghost invariant = { λ s. IsKept s.waiting s.jobs s.events };
+    ghost view = { λ s. machine_in Q.queue s.profile s.units.now s.library.now s.state };
+
+    ghost invariant = { λ s. IsSystem Q.queue s.profile s.units.now s.state };
 }
 
-fn one(alloc: Global, entry: Entry) -> Result<Listed<Entry>, AllocError>
-    ensures { IfOk result (λ lines. lines ≡ entry ∷ []) }
-{
-    let mut lines = Listed::empty(alloc);
-    lines.push(entry)?;
-    Ok(lines)
-}
-
-/// Where the initiator of a number is.
-fn place_of(initiators: &[Initiator], number: u8) -> Option<usize>
-    ensures some { IfSome result (IsPlaceOf initiators.now number) }
-    ensures none { IfNone result (All (λ x. x.number ≢ number) initiators.now) }
-{
-    for (place, x) in initiators.iter().enumerate() {
-        if x.number() == number {
-            return Some(place);
-        }
-    }
-    None
-}
-
-/// The serials of the volumes, as configured.
-fn serials_of(alloc: Global, volumes: &[ConfiguredVolume]) -> Result<Listed<Serial>, AllocError>
-    ensures { IfOk result (λ serials. serials ≡ map (λ v. v.serial) volumes.now) }
-{
-    let mut serials = Listed::empty(alloc);
-    for v in volumes {
-        serials.push(v.serial)?;
-    }
-    Ok(serials)
-}
-
-/// The initiators, none of which has a job.
-fn idle_of(alloc: Global, configured: &[ConfiguredInitiator]) -> Result<Vec<Initiator>, AllocError>
-    ensures { IfOk result (λ initiators. initiators.items ≡ map idle configured.now) }
-{
-    let mut initiators = Vec::new(alloc);
-    for x in configured {
-        initiators.push(Initiator::idle(x.number, x.classes))?;
-    }
-    Ok(initiators)
-}
-
-impl<'c> System<'c> {
-    /// The machine of a configuration, before its first event.
-    pub fn new(alloc: Global, config: &'c Config) -> Result<System<'c>, AllocError>
-        ensures { IfOk result (λ system. system ≡ start_of config.now) }
+impl<'c, Q: RecordStore> System<'c, Q> {
+    /// The machine of a configuration that was taken apart, before its first event, with a queue of which no record is in use.
+    pub fn new(
+        alloc: Global,
+        store: SharedStore,
+        queue: Q,
+        fixed: &'c Fixed,
+        refuses: bool,
+        most_views: usize,
+    ) -> Result<System<'c, Q>, AllocError>
+    where
+        Q: Drop,
+        requires configured { (c : Configuration) × IsConfigured c × IsTakenApart c store fixed.now }
+        requires empty { Q.queue queue ≡ empty_queue (Q.queue queue).layout }
+        requires layout { IsForMachine (Q.queue queue).layout }
+        ensures { IfOk result (λ m. (c : Configuration) → IsConfigured c → IsTakenApart c store fixed.now → IsStarted c refuses most_views (Q.queue queue).layout m) }
     {
-        let volumes = serials_of(alloc, config.volumes())?;
-        let initiators = idle_of(alloc, config.initiators())?;
+        configuration_is_start();
+        starts_sound();
+        layout_reads_what_it_holds();
+        let initiators = idle_of(alloc, fixed.initiators.as_slice())?;
         Ok(System {
             alloc,
-            volumes,
-            units: config.unit_names(),
-            library: config.library(),
-            initiators,
-            waiting: Backlog::new(alloc),
-            spool: Spool::new(alloc),
-            jobs: 0,
-            events: 0,
+            profile: Profile {
+                volumes: fixed.serials.as_slice(),
+                units: fixed.units.volumes(),
+                programs: &fixed.programs,
+                refuses,
+                most_views,
+            },
+            units: fixed.units.names(),
+            library: &fixed.library,
+            state: started(alloc, store, queue, initiators),
         })
     }
 
-    /// A deck is read.
-    fn read(&mut self, deck: &[Lent<'_>]) -> Result<Listed<Entry>, ApplyFault>
-        ensures answer { Answers result self.old self.new (Reads job_run self.old deck.now) }
-        ensures refusal { RefusesFirst result (Reads job_run self.old deck.now) }
-        ensures kept { KeepsIfRefused result self.old self.new }
-    {
-        if MOST_JOBS <= self.jobs {
-            return Err(ApplyFault::Refused(Cause::A(EventFault::PastLimit)));
-        }
-        let job = self.jobs + 1;
-        match job_run(self.alloc, self.units, self.library, deck) {
-            Err(ReadError::Memory) => Err(ApplyFault::Memory),
-            Err(ReadError::Refused(cause)) => {
-                let lines = one(self.alloc, Entry::Job(job, JobLine::Rejected(cause)))?;
-                self.jobs = job;
-                Ok(lines)
-            }
-            Ok(plan) => self.take_in(job, plan),
-        }
-    }
-
-    /// A job goes into the queue.
-    fn take_in(&mut self, job: u16, plan: JobPlan) -> Result<Listed<Entry>, ApplyFault>
-        requires sets { HasNoSets plan }
-        requires number { job ≤ MOST_JOBS }
-        requires next { self.old.jobs < job }
-        ensures answer { Answers result self.old self.new (IsTakenIn self.old job plan) }
-        ensures kept { KeepsIfRefused result self.old self.new }
-    {
-        let lines = one(self.alloc, Entry::Job(job, first_line(&plan)))?;
-        let w = waiting_of(self.alloc, job, plan)?;
-        self.waiting.enter(w)?;
-        self.jobs = job;
-        Ok(lines)
-    }
-
-    /// An initiator acts once.
-    fn turn(&mut self, number: u8) -> Result<Listed<Entry>, ApplyFault>
-        ensures answer { Answers result self.old self.new (Turns self.old number) }
-        ensures refusal { RefusesFirst result (Turns self.old number) }
-        ensures kept { KeepsIfRefused result self.old self.new }
-    {
-        let Some(place) = place_of(self.initiators.as_slice(), number) else {
-            return Err(ApplyFault::Refused(Cause::A(EventFault::NoSuchInitiator)));
-        };
-        if self.initiators[place].has_job() {
-            self.go_on(place)
-        } else {
-            self.select(place)
-        }
-    }
-
-    /// An initiator goes on with its job.
-    fn go_on(&mut self, place: usize) -> Result<Listed<Entry>, ApplyFault>
-        requires { RunsAt self.old place }
-        ensures answer { Answers result self.old self.new (ActsAt self.old place) }
-        ensures kept { KeepsIfRefused result self.old self.new }
-    {
-        let lines = self.initiators[place].act(self.alloc, &mut self.spool)?;
-        Ok(lines)
-    }
-
-    /// An idle initiator selects a job, if one waits for it.
-    fn select(&mut self, place: usize) -> Result<Listed<Entry>, ApplyFault>
-        requires { IsIdleAt self.old place }
-        ensures answer { Answers result self.old self.new (ActsAt self.old place) }
-        ensures kept { KeepsIfRefused result self.old self.new }
-    {
-        let number = self.initiators[place].number();
-        let classes = self.initiators[place].classes();
-        let Some(job) = self.waiting.selected(classes.as_slice()) else {
-            return Ok(Listed::empty(self.alloc));
-        };
-        let lines = one(self.alloc, Entry::Job(job, JobLine::Selected(number)))?;
-        let Some(w) = self.waiting.take(job, JobLine::Selected(number))? else {
-            unreachable!();
-        };
-        let Waiting {
-            job,
-            class: _,
-            priority: _,
-            plan,
-            listing,
-        } = w;
-        self.initiators[place].start(job, plan, listing);
-        Ok(lines)
-    }
-
-    /// A writer writes a line of its class.
-    fn write(&mut self, class: u8) -> Result<Listed<Entry>, ApplyFault>
-        ensures answer { Answers result self.old self.new (Writes self.old class) }
-        ensures kept { KeepsIfRefused result self.old self.new }
-    {
-        let mut lines = Vec::with_capacity(self.alloc, 1)?;
-        let Some((job, written)) = self.spool.write(class) else {
-            return Ok(Listed::new(lines));
-        };
-        let Ok(()) = lines.push(Entry::Writer {
-            class,
-            job,
-            written,
-        }) else {
-            unreachable!();
-        };
-        Ok(Listed::new(lines))
-    }
-
-    /// An event that is not past the last.
-    fn does(&mut self, event: &Event<'_>) -> Result<Listed<Entry>, ApplyFault>
-        ensures answer { Answers result self.old self.new (Does job_run self.old event.now) }
-        ensures refusal { RefusesFirst result (Does job_run self.old event.now) }
-        ensures kept { KeepsIfRefused result self.old self.new }
-    {
-        match event {
-            Event::Read(deck) => self.read(deck.as_slice()),
-            Event::Turn(number) => self.turn(*number),
-            Event::Write(class) => self.write(*class),
-        }
-    }
-
-    /// One event. A refusal changes the count of events alone and takes no memory; want of memory changes nothing.
+    /// One event. A refusal changes the count of events alone and takes no memory; want of memory changes nothing that is shown.
     pub fn apply(&mut self, event: &Event<'_>) -> Result<Listed<Entry>, ApplyFault>
-        ensures answer { Answers result self.old self.new (Transition job_run self.old event.now) }
-        ensures refusal { RefusesFirst result (Transition job_run self.old event.now) }
-        ensures kept { KeepsIfRefused result self.old self.new }
+        ensures answer { Applies result (world_of self.old) (world_of self.new) (Transition (denoting self.old) (world_of self.old) (meant_by event.now)) }
+        ensures refusal { RefusesFirst result (Transition (denoting self.old) (world_of self.old) (meant_by event.now)) }
+        ensures unless_refused { KeepsIfRefused result (world_of self.old) (world_of self.new) }
+        ensures decided { IfOk result (IsDecided self.old event.now) }
+        ensures fixed { IsSameFixed self.old self.new }
     {
-        if MOST_EVENTS <= self.events {
-            return Err(ApplyFault::Refused(Cause::A(EventFault::PastLimit)));
-        }
-        self.events += 1;
-        let done = self.does(event);
-        if let Err(ApplyFault::Memory) = &done {
-            self.events -= 1;
-        }
-        done
+        apply_in(
+            self.alloc,
+            &mut self.state,
+            &self.profile,
+            self.units,
+            self.library,
+            event,
+        )
     }
 
-    /// One event, and a refusal as its line. Want of memory changes nothing.
-    pub fn apply_shown(&mut self, event: &Event<'_>) -> Result<Listed<Entry>, AllocError>
-        ensures step { IfOk result (λ lines. Transition job_run self.old event.now lines self.new) }
-        ensures err { OnErr result (self.new ≡ self.old) }
+    /// One event, and a refusal as its line. Want of memory changes nothing that is shown.
+    fn apply_shown(&mut self, event: &Event<'_>) -> Result<Listed<Entry>, AllocError>
+        ensures step { IfOk result (λ lines. Transition (denoting self.old) (world_of self.old) (meant_by event.now) lines (world_of self.new)) }
+        ensures err { OnErr result (world_of self.new ≡ world_of self.old) }
+        ensures fixed { IsSameFixed self.old self.new }
     {
-        let events = self.events;
+        let mut line = Vec::with_capacity(self.alloc, 1)?;
         match self.apply(event) {
             Ok(lines) => Ok(lines),
             Err(ApplyFault::Refused(cause)) => {
-                let shown = one(self.alloc, Entry::Refused(cause));
-                if shown.is_err() {
-                    self.events = events;
-                }
-                shown
+                line.push_reserved(Entry::Refused(cause));
+                Ok(Listed::new(line))
             }
             Err(ApplyFault::Memory) => Err(AllocError),
         }
@@ -334,43 +153,17 @@ impl<'c> System<'c> {
     }
 
     /// Takes the machine apart, with the jobs that it still has. It takes no memory.
-    pub fn close(self) {
+    pub fn close(self)
+    where
+        Q: Drop,
+    {
         let System {
             alloc: _,
-            volumes: _,
+            profile: _,
             units: _,
             library: _,
-            initiators: _,
-            waiting: _,
-            spool: _,
-            jobs: _,
-            events: _,
+            state,
         } = self;
+        end(state);
     }
-}
-
-/// The first line of a job.
-fn first_line(plan: &JobPlan) -> JobLine
-    ensures { result ≡ line.Read plan.now.name plan.now.class plan.now.priority }
-{
-    JobLine::Read {
-        name: plan.name,
-        class: plan.class,
-        priority: plan.priority,
-    }
-}
-
-/// A job in the queue.
-fn waiting_of(alloc: Global, job: u16, plan: JobPlan) -> Result<Waiting, AllocError>
-    ensures { IfOk result (λ w. w ≡ waits job plan) }
-{
-    let mut listing = Listed::empty(alloc);
-    listing.push(first_line(&plan))?;
-    Ok(Waiting {
-        job,
-        class: plan.class,
-        priority: plan.priority,
-        plan,
-        listing,
-    })
 }

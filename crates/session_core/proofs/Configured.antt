@@ -1,8 +1,8 @@
 -- How far the configuration has come.
 use Rattle.std.proofs.Common.{◌≡◌, Bool, false, true, ◌||◌, List, [], ◌∷◌, ◌++◌, Some, None, Err, refl, sym, ap, ◌∙◌}
 use Rattle.machine_meaning.specs.declared.config.ConfigFault.{ConfigFault}
-use Rattle.machine_meaning.specs.declared.config.ConfigStatement.{ConfigStatement}
-use Rattle.machine_meaning.specs.Configs.{Configuration, config_fault, configured}
+use Rattle.input_core.specs.declared.statement.ConfigStatement.{ConfigStatement}
+use Rattle.config_core.specs.Configs.{Configuration, config_fault, configured}
 use Rattle.session_text.specs.declared.fault.Fault.{Fault}
 use Rattle.session_text.specs.declared.fault.Fault.TheVariants.{NoEnd}
 use Rattle.session_text.specs.declared.statement.Says.TheVariants.{Config}

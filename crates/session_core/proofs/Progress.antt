@@ -1,12 +1,13 @@
 -- How far a session has come behind its configuration.
-use Rattle.std.proofs.Common.{◌≡◌, ◌⊎◌, ℕ, ◌+◌, ◌<◌, Bool, true, false, ◌||◌, List, [], ◌∷◌, ◌++◌, length, take, drop, get_or, replicate, Some, None, Result, Ok, Err, refl, sym, ap, ◌∙◌, inl, inr, ⊎_elim, append_assoc, arith, length-append}
-use Rattle.std.proofs.lemmas.List.{append-nil, length-replicate, take-replicate, take_all}
+use Rattle.std.proofs.Common.{◌≡◌, ◌⊎◌, ℕ, ◌+◌, ◌<◌, Bool, true, false, ◌||◌, List, [], ◌∷◌, ◌++◌, length, take, drop, get_or, replicate, Option, Some, None, is_some, Result, Ok, Err, refl, sym, ap, ◌∙◌, inl, inr, ⊎_elim, append_assoc, arith, length-append}
+use Rattle.std.proofs.lemmas.List.{append-nil, length-replicate, take-replicate}
 use Rattle.std.specs.Io.KnownBytes.{Appends}
-use Rattle.machine_meaning.specs.declared.config.ConfigStatement.{ConfigStatement}
-use Rattle.machine_meaning.specs.declared.event.Event.{Event}
-use Rattle.machine_meaning.specs.Configs.{Configuration, config_fault, start_of}
-use Rattle.machine_meaning.specs.Transitions.{text_of_all}
-use Rattle.machine_meaning.specs.Worlds.{World}
+use Rattle.config_core.specs.Configs.{Configuration, config_fault}
+use Rattle.input_core.specs.declared.event.Event.{Event}
+use Rattle.input_core.specs.declared.statement.ConfigStatement.{ConfigStatement}
+use Rattle.machine_meaning.specs.declared.config.ConfigFault.{ConfigFault}
+use Rattle.world_meaning.specs.Readings.{Denoting}
+use Rattle.world_meaning.specs.Worlds.{World}
 use Rattle.session_text.specs.declared.fault.Fault.{Fault}
 use Rattle.session_text.specs.declared.statement.Says.{Says}
 use Rattle.session_text.specs.declared.statement.Says.TheVariants.{Config, Events, Refused}
@@ -15,12 +16,12 @@ use Rattle.session_core.specs.declared.SessionEnd.{SessionEnd}
 use Rattle.session_core.specs.declared.SessionFault.{SessionFault}
 use Rattle.session_core.specs.declared.SessionFault.TheVariants.{Stopped, WriteFailed, Memory}
 use Rattle.session_core.specs.declared.listing.Mark.{Mark}
-use Rattle.session_core.specs.Configuring.{IsConfigured, IsLate, begins_with_event}
-use Rattle.session_core.specs.Listings.{Lists}
+use Rattle.session_core.specs.Configuring.{IsConfigured, begins_with_event, late_by, late_in}
+use Rattle.session_core.specs.Listings.{Lists, text_of_all}
 use Rattle.session_core.specs.Marks.{AreMarks, IsListedLast}
-use Rattle.session_core.specs.Outcomes.{IsOutcome, WantsMemoryIn, WritesOutcome}
+use Rattle.session_core.specs.Outcomes.{IsOutcome, WritesOutcome}
 use Rattle.session_core.specs.Running.{AreApplied, AreAppliedInPart, StatementRuns, mark_at}
-use Rattle.session_core.specs.Sessions.{Session, config_of, configured_by, events_in, events_of, fault_behind, has_begun, has_events, session_behind, unless_late, world_of}
+use Rattle.session_core.specs.Sessions.{Session, config_of, configured_by, denoting_in, denoting_of, events_in, events_of, fault_behind, has_begun, has_events, session_behind, start_in, unless_late, world_of}
 use Rattle.session_core.specs.Streams.{SinkState}
 use Rattle.session_core.proofs.Applied.{AreApplied-append, AreApplied-behind, AreApplied-none}
 use Rattle.session_core.proofs.Marked.{AreMarks-more}
@@ -37,12 +38,15 @@ pub record LastIsEvent (before : List Statement) : Type 0 where
 abbrev pub HasBegun : List Statement → List Statement → Type 0
 HasBegun before rest = LastIsEvent before ⊎ (begins_with_event rest ≡ true)
 
--- the statements before these ran: of their lines the first are written out, and the others held
-pub record Progress (all before rest : List Statement) (c : Configuration) (world : World) (out : List ℕ) (marks : List Mark) (text : List ℕ) : Type 0 where
+-- The statements before these ran: of their lines the first are written out, and the others held. What is told of the next that is configuration
+-- is what was found before the first event.
+pub record Progress (all before rest : List Statement) (late : Option Fault) (job : Denoting) (world : World) (out : List ℕ) (marks : List Mark)
+    (text : List ℕ) : Type 0 where
   pub session : session_behind [] all ≡ session_behind before rest
-  pub configured : c ≡ config_of before
+  pub found : late ≡ late_in (config_of before) rest
+  pub denotes : job ≡ denoting_of before
   pub begun : HasBegun before rest
-  pub applied : AreApplied (world_of before) (events_of before) world [] (out ++ text)
+  pub applied : AreApplied job (world_of before) (events_of before) world [] (out ++ text)
   pub marked : AreMarks (session_behind [] all).stands (length out) out marks text
 
 -- what a session comes to, with the lines that are written out and those that are held
@@ -59,38 +63,39 @@ written_behind s a b c result out first more = record {
   outcome = more.outcome;
 }
 
-Lists-applied : (before : List Statement) (events : List Event) (world : World) (text : List ℕ) → AreApplied (world_of before) events world [] text
-    → Lists before events text
-Lists-applied before events world text a = record { entries = a.entries; world = world; run = a.run; text = a.text }
+Lists-applied : (before : List Statement) (events : List Event) (job : Denoting) (world : World) (text : List ℕ) → job ≡ denoting_of before
+    → AreApplied job (world_of before) events world [] text → Lists before events text
+Lists-applied before events job world text denotes a = record { entries = a.entries; world = world; run = rw denotes at a.run; text = a.text }
 
-pub Progress-start : (all : List Statement) (from : ℕ) (c : Configuration) (world : World) (marks : List Mark) (text : List ℕ)
-    → IsConfigured all from c → world ≡ start_of c → marks ≡ [] → text ≡ []
-    → Progress all (take from all) (drop from all) c world [] marks text
-Progress-start all from c world marks text p is no_marks no_text =
-    let start : world ≡ world_of (take from all) = is ∙ ap start_of p.configured in
+pub Progress-start : (all : List Statement) (from : ℕ) (c : Configuration) (late : Option Fault) (job : Denoting) (world : World) (marks : List Mark)
+    (text : List ℕ) → IsConfigured all from c → late ≡ late_in c (drop from all) → world ≡ start_in c → job ≡ denoting_in c → marks ≡ [] → text ≡ []
+    → Progress all (take from all) (drop from all) late job world [] marks text
+Progress-start all from c late job world marks text p found is denotes no_marks no_text =
+    let start : world ≡ world_of (take from all) = is ∙ ap start_in p.configured in
     record {
       session = p.session;
-      configured = p.configured;
+      found = found ∙ ap (λ x. late_in x (drop from all)) p.configured;
+      denotes = denotes ∙ ap denoting_in p.configured;
       begun = inr p.next;
-      applied = rw (no_events (take from all) p.not_begun, start, no_text) (AreApplied-none (world_of (take from all)) []);
+      applied = rw (no_events (take from all) p.not_begun, start, no_text) (AreApplied-none job (world_of (take from all)) []);
       marked = rw no_marks no_text;
     }
 
-pub Progress-ends : (all before : List Statement) (c : Configuration) (world : World) (out : List ℕ) (marks : List Mark) (text : List ℕ)
-    (end : SessionEnd) → Progress all before [] c world out marks text
-    → ComesTo all (Ok end) out marks text
-Progress-ends all before c world out marks text end p = record {
-  outcome = rw p.session (refl, Lists-applied before (events_of before) world (out ++ text) p.applied);
+pub Progress-ends : (all before : List Statement) (late : Option Fault) (job : Denoting) (world : World) (out : List ℕ) (marks : List Mark)
+    (text : List ℕ) (end : SessionEnd) → Progress all before [] late job world out marks text → ComesTo all (Ok end) out marks text
+Progress-ends all before late job world out marks text end p = record {
+  outcome = rw p.session (refl, Lists-applied before (events_of before) job world (out ++ text) p.denotes p.applied);
   marked = p.marked;
 }
 
 -- what was held is written out
-pub Progress-written : (all before rest : List Statement) (c : Configuration) (world : World) (out : List ℕ) (marks new_marks : List Mark)
-    (text new : List ℕ) → Progress all before rest c world out marks text
-    → new_marks ≡ [] → new ≡ [] → Progress all before rest c world (out ++ text) new_marks new
-Progress-written all before rest c world out marks new_marks text new p no_marks none = record {
+pub Progress-written : (all before rest : List Statement) (late : Option Fault) (job : Denoting) (world : World) (out : List ℕ) (marks new_marks : List Mark)
+    (text new : List ℕ) → Progress all before rest late job world out marks text
+    → new_marks ≡ [] → new ≡ [] → Progress all before rest late job world (out ++ text) new_marks new
+Progress-written all before rest late job world out marks new_marks text new p no_marks none = record {
   session = p.session;
-  configured = p.configured;
+  found = p.found;
+  denotes = p.denotes;
   begun = p.begun;
   applied = rw (none, append-nil) p.applied;
   marked = rw no_marks none;
@@ -109,8 +114,20 @@ same_config c (Events e times) is = refl
 same_config c (Config s has_end) is = absurd cc
 same_config c (Refused f) is = absurd cc
 
+config_stays : (before : List Statement) (s : Statement) → has_events s.says ≡ true → config_of (before ++ s ∷ []) ≡ config_of before
+config_stays before s is = config_of-more before s ∙ same_config (config_of before) s.says is
+
 same_world : (before : List Statement) (s : Statement) → has_events s.says ≡ true → world_of (before ++ s ∷ []) ≡ world_of before
-same_world before s is = ap start_of (config_of-more before s ∙ same_config (config_of before) s.says is)
+same_world before s is = ap start_in (config_stays before s is)
+
+same_denoting : (before : List Statement) (s : Statement) → has_events s.says ≡ true → denoting_of (before ++ s ∷ []) ≡ denoting_of before
+same_denoting before s is = ap denoting_in (config_stays before s is)
+
+-- what is told of the next that is configuration is told behind an event too
+late_behind : (c : Configuration) (says : Says) (more : Option Fault) → has_events says ≡ true → late_by c says more ≡ more
+late_behind c (Events e times) more is = refl
+late_behind c (Config s has_end) more is = absurd cc
+late_behind c (Refused f) more is = absurd cc
 
 or_true : (b : Bool) → (b || true) ≡ true
 or_true true = refl
@@ -119,38 +136,22 @@ or_true false = refl
 begun_last : (before : List Statement) → LastIsEvent before → has_begun before ≡ true
 begun_last before l = ap has_begun l.is ∙ has_begun-more l.earlier l.last ∙ ap (λ b. has_begun l.earlier || b) l.event ∙ or_true (has_begun l.earlier)
 
-all_taken : (xs : List Event) → take (length xs) xs ≡ xs
-all_taken xs = take_all (length xs) xs (omega arith)
+-- what is told of configuration behind an event is a fault
+late_some : (own : Option ConfigFault) (has_end : Bool) → is_some (unless_late own has_end true) ≡ true
+late_some (Some own) has_end = refl
+late_some None true = refl
+late_some None false = refl
 
--- between two statements memory was wanting
-wants_behind : (stands before after : List Statement) (text : List ℕ) → stands ≡ before ++ after → LastIsEvent before
-    → Lists before (events_of before) text → WantsMemoryIn stands text
-wants_behind stands before after text is l lists =
-    let events : events_of before ≡ events_of l.earlier ++ take (length (events_in l.last.says)) (events_in l.last.says)
-    = ap events_of l.is ∙ events_of-more l.earlier l.last ∙ ap (λ x. events_of l.earlier ++ x) (sym (all_taken (events_in l.last.says))) in
-    let world : world_of before ≡ world_of l.earlier = ap world_of l.is ∙ same_world l.earlier l.last l.event in
-    record {
-      before = l.earlier;
-      statement = l.last;
-      after = after;
-      stands_so = is ∙ ap (λ x. x ++ after) l.is ∙ append_assoc l.earlier (l.last ∷ []) after;
-      lists = record {
-        done = length (events_in l.last.says);
-        in_statement = omega arith;
-        lists = record { entries = lists.entries; world = lists.world; run = rw (world, events) at lists.run; text = lists.text };
-      };
-    }
-
-module _ (all before rest : List Statement) (s : Statement) (c : Configuration) (world : World) (out : List ℕ) (marks : List Mark) (text : List ℕ)
-    (p : Progress all before (s ∷ rest) c world out marks text) where
+module _ (all before rest : List Statement) (s : Statement) (late : Option Fault) (job : Denoting) (world : World) (out : List ℕ) (marks : List Mark)
+    (text : List ℕ) (p : Progress all before (s ∷ rest) late job world out marks text) where
   -- a fault of a statement
   stops : (f : Fault) → fault_behind before s.says ≡ Some f → ComesTo all (Err (Stopped f s.line)) out marks text
   stops f some =
       let is = p.session ∙ stops_at before rest s f some in
-      record { outcome = rw is (refl, Lists-applied before (events_of before) world (out ++ text) p.applied); marked = p.marked }
+      record { outcome = rw is (refl, Lists-applied before (events_of before) job world (out ++ text) p.denotes p.applied); marked = p.marked }
 
   -- the first times of an event
-  listed : (e : Event) (times : ℕ) (new : List ℕ) → s.says ≡ Events e times → AreAppliedInPart world e times text new
+  listed : (e : Event) (times : ℕ) (new : List ℕ) → s.says ≡ Events e times → AreAppliedInPart job world e times text new
       → IsListedLast (session_behind [] all).stands s.line (out ++ text) (out ++ new)
   listed e times new is a =
       let next = next_stands all before rest s p.session (ap (fault_behind before) is) in
@@ -164,14 +165,14 @@ module _ (all before rest : List Statement) (s : Statement) (c : Configuration) 
         lists = record {
           done = a.done;
           in_statement = rw is (omega (arith, length-replicate times e, a.within));
-          lists = rw some (Lists-applied before (events_of before ++ replicate a.done e) a.after (out ++ new)
-              (AreApplied-append (world_of before) world a.after (events_of before) (replicate a.done e) [] (out ++ text) (out ++ new) p.applied
-              (AreApplied-behind world a.after (replicate a.done e) out text new a.applied)));
+          lists = rw some (Lists-applied before (events_of before ++ replicate a.done e) job a.after (out ++ new) p.denotes
+              (AreApplied-append job (world_of before) world a.after (events_of before) (replicate a.done e) [] (out ++ text) (out ++ new) p.applied
+              (AreApplied-behind job world a.after (replicate a.done e) out text new a.applied)));
         };
-        lists_earlier = Lists-applied before (events_of before) world (out ++ text) p.applied;
+        lists_earlier = Lists-applied before (events_of before) job world (out ++ text) p.denotes p.applied;
       }
 
-  marked_more : (e : Event) (times : ℕ) (new : List ℕ) (new_marks : List Mark) → s.says ≡ Events e times → AreAppliedInPart world e times text new
+  marked_more : (e : Event) (times : ℕ) (new : List ℕ) (new_marks : List Mark) → s.says ≡ Events e times → AreAppliedInPart job world e times text new
       → new_marks ≡ marks ++ mark_at s.line text ∷ []
       → AreMarks (session_behind [] all).stands (length out) out new_marks new
   marked_more e times new new_marks is a more =
@@ -184,23 +185,25 @@ module _ (all before rest : List Statement) (s : Statement) (c : Configuration) 
   -- all of its times
   Progress-more : (e : Event) (times : ℕ) (after : World) (new : List ℕ) (new_marks : List Mark) → s.says ≡ Events e times
       → new_marks ≡ marks ++ mark_at s.line text ∷ []
-      → AreApplied world (replicate times e) after text new → Progress all (before ++ s ∷ []) rest c after out new_marks new
+      → AreApplied job world (replicate times e) after text new → Progress all (before ++ s ∷ []) rest late job after out new_marks new
   Progress-more e times after new new_marks is more a =
       let event : has_events s.says ≡ true = ap has_events is in
       let events : events_of (before ++ s ∷ []) ≡ events_of before ++ replicate times e = events_of-more before s
       ∙ ap (λ x. events_of before ++ events_in x) is in
       record {
         session = p.session ∙ goes_on before rest s (ap (fault_behind before) is);
-        configured = p.configured ∙ sym (config_of-more before s ∙ same_config (config_of before) s.says event);
+        found = p.found ∙ late_behind (config_of before) s.says (late_in (config_of before) rest) event ∙
+            ap (λ x. late_in x rest) (sym (config_stays before s event));
+        denotes = p.denotes ∙ sym (same_denoting before s event);
         begun = inl (record { earlier = before; last = s; is = refl; event = event });
-        applied = rw (same_world before s event, events) (AreApplied-append (world_of before) world after (events_of before) (replicate times e) []
+        applied = rw (same_world before s event, events) (AreApplied-append job (world_of before) world after (events_of before) (replicate times e) []
             (out ++ text) (out ++ new) p.applied
-            (AreApplied-behind world after (replicate times e) out text new a));
+            (AreApplied-behind job world after (replicate times e) out text new a));
         marked = marked_more e times new new_marks is (record { done = times; within = omega arith; after = after; applied = a }) more;
       }
 
   wants : (e : Event) (times : ℕ) (new : List ℕ) (new_marks : List Mark) → s.says ≡ Events e times → new_marks ≡ marks ++ mark_at s.line text ∷ []
-      → AreAppliedInPart world e times text new → ComesTo all (Err Memory) out new_marks new
+      → AreAppliedInPart job world e times text new → ComesTo all (Err Memory) out new_marks new
   wants e times new new_marks is more a =
       let last = listed e times new is a in
       record {
@@ -210,7 +213,7 @@ module _ (all before rest : List Statement) (s : Statement) (c : Configuration) 
 
   wants_first : (e : Event) (times : ℕ) → s.says ≡ Events e times → ComesTo all (Err Memory) out marks text
   wants_first e times is =
-      let last = listed e times text is (record { done = 0; within = omega arith; after = world; applied = AreApplied-none world text }) in
+      let last = listed e times text is (record { done = 0; within = omega arith; after = world; applied = AreApplied-none job world text }) in
       record {
         outcome = inl (record {
           before = last.before;
@@ -226,59 +229,75 @@ module _ (all before rest : List Statement) (s : Statement) (c : Configuration) 
   has_begun_here : (says : Says) → s.says ≡ says → has_events says ≡ false → LastIsEvent before
   has_begun_here says is none = ⊎_elim (λ l. l) (λ next. absurd (let e : true ≡ false = sym next ∙ ap has_events is ∙ none in cc)) p.begun
 
-  late : (statement : ConfigStatement) (has_end : Bool) (fault : SessionFault) → s.says ≡ Config statement has_end
-      → IsLate (config_fault c statement) has_end s.line fault → ComesTo all (Err fault) out marks text
-  late statement has_end (Stopped f at) is h =
+  found_here : (statement : ConfigStatement) (has_end : Bool) → s.says ≡ Config statement has_end
+      → late ≡ unless_late (config_fault (config_of before) statement) has_end true
+  found_here statement has_end is = p.found ∙ ap (λ x. late_by (config_of before) x (late_in (config_of before) rest)) is
+
+  found_some : (statement : ConfigStatement) (has_end : Bool) → s.says ≡ Config statement has_end → is_some late ≡ true
+  found_some statement has_end is =
+      ap is_some (found_here statement has_end is) ∙ late_some (config_fault (config_of before) statement) has_end
+
+  stops_late : (statement : ConfigStatement) (has_end : Bool) (f : Fault) → s.says ≡ Config statement has_end → late ≡ Some f
+      → ComesTo all (Err (Stopped f s.line)) out marks text
+  stops_late statement has_end f is told =
       let l = has_begun_here (Config statement has_end) is refl in
       let some : fault_behind before s.says ≡ Some f
       = ap (fault_behind before) is ∙ ap (unless_late (config_fault (config_of before) statement) has_end) (begun_last before l)
-      ∙ ap (λ x. unless_late (config_fault x statement) has_end true) (sym p.configured) ∙ h.1 in
-      rw h.0 (stops f some)
-  late statement has_end (WriteFailed at) is h = absurd h
-  late statement has_end Memory is h = absurd h
+      ∙ sym (found_here statement has_end is) ∙ told in
+      stops f some
 
   fails_by : (says : Says) (fault : SessionFault) (after : World) (new_marks : List Mark) (new : List ℕ) → s.says ≡ says
-      → StatementRuns {T = Unit {0}} c s.line says world marks text (Err fault) after new_marks new
+      → StatementRuns {T = Unit {0}} late job s.line says world marks text (Err fault) after new_marks new
       → ComesTo all (Err fault) out new_marks new
   fails_by (Events e times) Memory after new_marks new is h =
       ⊎_elim (λ a. wants e times new new_marks is a.0 a.1) (λ silent. rw (silent.marks_so, silent.text_so) (wants_first e times is)) h
   fails_by (Events e times) (Stopped f at) after new_marks new is h = absurd h
   fails_by (Events e times) (WriteFailed at) after new_marks new is h = absurd h
   fails_by (Refused own) fault after new_marks new is h = rw (h.0, h.1.marks_so, h.1.text_so) (stops own (ap (fault_behind before) is))
-  fails_by (Config statement has_end) fault after new_marks new is h = rw (h.1.marks_so, h.1.text_so) (late statement has_end fault is h.0)
+  fails_by (Config statement has_end) fault after new_marks new is h =
+      rw (h.2, h.3.marks_so, h.3.text_so) (stops_late statement has_end h.0 is h.1)
 
   Progress-fails : (fault : SessionFault) (after : World) (new_marks : List Mark) (new : List ℕ)
-      → StatementRuns {T = Unit {0}} c s.line s.says world marks text (Err fault) after new_marks new → ComesTo all (Err fault) out new_marks new
+      → StatementRuns {T = Unit {0}} late job s.line s.says world marks text (Err fault) after new_marks new → ComesTo all (Err fault) out new_marks new
   Progress-fails fault after new_marks new h = fails_by s.says fault after new_marks new refl h
 
   runs_by : (says : Says) (after : World) (new_marks : List Mark) (new : List ℕ) → s.says ≡ says
-      → StatementRuns {T = Unit {0}} c s.line says world marks text (Ok tt) after new_marks new
-      → Progress all (before ++ s ∷ []) rest c after out new_marks new
+      → StatementRuns {T = Unit {0}} late job s.line says world marks text (Ok tt) after new_marks new
+      → Progress all (before ++ s ∷ []) rest late job after out new_marks new
   runs_by (Events e times) after new_marks new is h = Progress-more e times after new new_marks is h.0 h.1
   runs_by (Refused own) after new_marks new is h = absurd h
   runs_by (Config statement has_end) after new_marks new is h = absurd h
 
   Progress-runs : (after : World) (new_marks : List Mark) (new : List ℕ)
-      → StatementRuns {T = Unit {0}} c s.line s.says world marks text (Ok tt) after new_marks new
-      → Progress all (before ++ s ∷ []) rest c after out new_marks new
+      → StatementRuns {T = Unit {0}} late job s.line s.says world marks text (Ok tt) after new_marks new
+      → Progress all (before ++ s ∷ []) rest late job after out new_marks new
   Progress-runs after new_marks new h = runs_by s.says after new_marks new refl h
 
 -- the statement at an index of the rest behind the configuration
 module _ (all rest : List Statement) (from index : ℕ) (s : Statement) (back : rest ≡ drop from all) (within : index < length rest)
     (item : s ≡ get_or rest index s) where
-  pub Progress-next : (c same : Configuration) (world after : World) (out : List ℕ) (marks new_marks : List Mark) (text new : List ℕ) → same ≡ c
-      → Progress all (take (from + index) all) (drop (from + index) all) c world out marks text
-      → StatementRuns {T = Unit {0}} c s.line s.says world marks text (Ok tt) after new_marks new
-      → Progress all (take (from + (index + 1)) all) (drop (from + (index + 1)) all) same after out new_marks new
-  Progress-next c same world after out marks new_marks text new is p h =
+  pub Progress-next : (late : Option Fault) (job next : Denoting) (world after : World) (out : List ℕ) (marks new_marks : List Mark) (text new : List ℕ)
+      → next ≡ job → Progress all (take (from + index) all) (drop (from + index) all) late job world out marks text
+      → StatementRuns {T = Unit {0}} late job s.line s.says world marks text (Ok tt) after new_marks new
+      → Progress all (take (from + (index + 1)) all) (drop (from + (index + 1)) all) late next after out new_marks new
+  Progress-next late job next world after out marks new_marks text new is p h =
       let at = rest_at all rest from index s back within item in
       let here = rw at.0 at p in
-      rw (at.1, is) (Progress-runs all (take (from + index) all) (drop (from + (index + 1)) all) s c world out marks text here after new_marks new h)
+      rw (at.1, is)
+      (Progress-runs all (take (from + index) all) (drop (from + (index + 1)) all) s late job world out marks text here after new_marks new h)
 
-  pub Progress-last : (c : Configuration) (world after : World) (out : List ℕ) (marks new_marks : List Mark) (text new : List ℕ) (fault : SessionFault)
-      → Progress all (take (from + index) all) (drop (from + index) all) c world out marks text
-      → StatementRuns {T = Unit {0}} c s.line s.says world marks text (Err fault) after new_marks new → ComesTo all (Err fault) out new_marks new
-  Progress-last c world after out marks new_marks text new fault p h =
+  pub Progress-found : (late : Option Fault) (job : Denoting) (world : World) (out : List ℕ) (marks : List Mark) (text : List ℕ)
+      (statement : ConfigStatement) (has_end : Bool) → Progress all (take (from + index) all) (drop (from + index) all) late job world out marks text
+      → s.says ≡ Config statement has_end → is_some late ≡ true
+  Progress-found late job world out marks text statement has_end p is =
       let at = rest_at all rest from index s back within item in
       let here = rw at.0 at p in
-      Progress-fails all (take (from + index) all) (drop (from + (index + 1)) all) s c world out marks text here fault after new_marks new h
+      found_some all (take (from + index) all) (drop (from + (index + 1)) all) s late job world out marks text here statement has_end is
+
+  pub Progress-last : (late : Option Fault) (job : Denoting) (world after : World) (out : List ℕ) (marks new_marks : List Mark) (text new : List ℕ)
+      (fault : SessionFault) → Progress all (take (from + index) all) (drop (from + index) all) late job world out marks text
+      → StatementRuns {T = Unit {0}} late job s.line s.says world marks text (Err fault) after new_marks new → ComesTo all (Err fault) out new_marks new
+  Progress-last late job world after out marks new_marks text new fault p h =
+      let at = rest_at all rest from index s back within item in
+      let here = rw at.0 at p in
+      Progress-fails all (take (from + index) all) (drop (from + (index + 1)) all) s late job world out marks text here fault after new_marks new h

@@ -1,17 +1,21 @@
 -- How the configuration is read, statement by statement.
-use Rattle.std.specs.Prelude.{◌≡◌, ℕ, ◌≤◌, Bool, true, false, List, [], ◌∷◌, length, take, drop, Option, Some}
-use Rattle.machine_meaning.specs.declared.config.ConfigFault.{ConfigFault}
-use Rattle.machine_meaning.specs.Configs.{Configuration}
+use Rattle.std.specs.Prelude.{◌≡◌, ℕ, ◌≤◌, Bool, true, false, List, [], ◌∷◌, length, take, drop, Option, None}
+use Rattle.config_core.specs.Configs.{Configuration, config_fault}
+use Rattle.session_text.specs.declared.fault.Fault.{Fault}
+use Rattle.session_text.specs.declared.statement.Says.{Says}
+use Rattle.session_text.specs.declared.statement.Says.TheVariants.{Config, Events, Refused}
 use Rattle.session_text.specs.declared.statement.Statement.{Statement}
-use Rattle.session_core.specs.declared.SessionFault.{SessionFault}
-use Rattle.session_core.specs.declared.SessionFault.TheVariants.{Stopped, WriteFailed, Memory}
 use Rattle.session_core.specs.Sessions.{config_of, has_begun, has_events, session_behind, unless_late}
 
--- the fault of a statement of the configuration behind the first event
-abbrev pub IsLate : Option ConfigFault → Bool → ℕ → SessionFault → Type 0
-IsLate own has_end line (Stopped f at) = (at ≡ line) × (unless_late own has_end true ≡ Some f)
-IsLate own has_end line (WriteFailed at) = ⊥
-IsLate own has_end line Memory = ⊥
+-- what is told of the first of these statements that is configuration, where they stand behind the first event
+abbrev pub late_by : Configuration → Says → Option Fault → Option Fault
+late_by c (Config s has_end) more = unless_late (config_fault c s) has_end true
+late_by c (Events e times) more = more
+late_by c (Refused f) more = more
+
+abbrev pub late_in : Configuration → List Statement → Option Fault
+late_in c [] = None
+late_in c (s ∷ statements) = late_by c s.says (late_in c statements)
 
 abbrev pub begins_with_event : List Statement → Bool
 begins_with_event [] = true

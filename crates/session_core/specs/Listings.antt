@@ -1,18 +1,24 @@
 -- What a session writes.
-use Rattle.std.specs.Prelude.{◌≡◌, ℕ, ◌≤◌, ◌<◌, List, ◌∷◌, ◌++◌, length, take}
+use Rattle.std.specs.Prelude.{◌≡◌, ℕ, ◌≤◌, ◌<◌, List, ◌∷◌, ◌++◌, length, map, take}
+use Rattle.std.specs.List.{flat_map}
 use Rattle.jcl_plan.specs.declared.entry.Entry.{Entry}
-use Rattle.machine_meaning.specs.declared.event.Event.{Event}
-use Rattle.machine_meaning.specs.Transitions.{Runs, text_of_all}
-use Rattle.machine_meaning.specs.Worlds.{World}
-use Rattle.sched_core.specs.Jobs.{job_run}
+use Rattle.jcl_plan.specs.Lines.{text_of}
+use Rattle.input_core.specs.declared.event.Event.{Event}
+use Rattle.sched_core.specs.Systems.{meant_by}
+use Rattle.world_meaning.specs.Transitions.{Runs}
+use Rattle.world_meaning.specs.Worlds.{World}
 use Rattle.session_text.specs.declared.statement.Statement.{Statement}
-use Rattle.session_core.specs.Sessions.{events_in, events_of, world_of}
+use Rattle.session_core.specs.Sessions.{denoting_of, events_in, events_of, world_of}
+
+-- the lines of events as text
+abbrev pub text_of_all : List (List Entry) → List ℕ
+text_of_all entries = flat_map (λ lines. flat_map text_of lines) entries
 
 -- a run of these events, from the machine that these statements configure, writes this listing
 pub record Lists (config : List Statement) (events : List Event) (listing : List ℕ) : Type 0 where
   pub entries : List (List Entry)
   pub world : World
-  pub run : Runs job_run (world_of config) events entries world
+  pub run : Runs (denoting_of config) (world_of config) (map meant_by events) entries world
   pub text : listing ≡ text_of_all entries
 
 -- the events of these statements, and of one more as many as were done

@@ -3,9 +3,15 @@ use Rattle.std.specs.Prelude.{ℕ, Bool, true, false, List, [], ◌∷◌, ◌++
 use Rattle.std.specs.List.{flat_map, list_any}
 use Rattle.machine_meaning.specs.declared.config.ConfigFault.{ConfigFault}
 use Rattle.machine_meaning.specs.declared.config.ConfigFault.TheVariants as config
-use Rattle.machine_meaning.specs.declared.event.Event.{Event}
-use Rattle.machine_meaning.specs.Configs.{Configuration, config_fault, configured, nothing_configured, start_of}
-use Rattle.machine_meaning.specs.Worlds.{World}
+use Rattle.cb_meaning.specs.declared.layout.TheConstants.{LAYOUT_1}
+use Rattle.config_core.specs.Configs.{Configuration, config_fault, configured, nothing_configured, unit_names}
+use Rattle.config_core.specs.Starts.{start_of}
+use Rattle.input_core.specs.declared.event.Event.{Event}
+use Rattle.jcl_job.specs.Jobs.{job_of}
+use Rattle.sched_core.specs.declared.start.TheConstants.{FIRST_DAY}
+use Rattle.world_meaning.specs.Readings.{Denoting}
+use Rattle.world_meaning.specs.Worlds.{World}
+use Rattle.session_core.specs.declared.run.TheConstants.{MOST_VIEWS}
 use Rattle.session_text.specs.declared.fault.Fault.{Fault}
 use Rattle.session_text.specs.declared.fault.Fault.TheVariants as fault
 use Rattle.session_text.specs.declared.statement.Ending.{Ending}
@@ -32,8 +38,18 @@ configured_by c (Refused f) = c
 abbrev pub config_of : List Statement → Configuration
 config_of statements = fold (λ c s. configured_by c s.says) nothing_configured statements
 
+-- the machine that they configure, before its first event, and the job that a deck denotes in it; nothing analyses jobs yet
+abbrev pub start_in : Configuration → World
+start_in c = start_of c false MOST_VIEWS LAYOUT_1 FIRST_DAY
+
 abbrev pub world_of : List Statement → World
-world_of statements = start_of (config_of statements)
+world_of statements = start_in (config_of statements)
+
+abbrev pub denoting_in : Configuration → Denoting
+denoting_in c = job_of (unit_names c.units) c.library
+
+abbrev pub denoting_of : List Statement → Denoting
+denoting_of statements = denoting_in (config_of statements)
 
 abbrev pub has_events : Says → Bool
 has_events (Events e times) = true

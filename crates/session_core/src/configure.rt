@@ -1,14 +1,15 @@
 //! The statements of the configuration.
 ghost use Rattle.std.specs.Prelude.{◌≡◌, [], Err, IfErr, IfOk, Some, false, true};
-ghost use Rattle.machine_meaning.specs.Configs.{config_fault, nothing_configured};
-ghost use Rattle.session_core.specs.Configuring.{IsConfigured};
+ghost use Rattle.config_core.specs.Configs.{config_fault, nothing_configured};
+ghost use Rattle.session_core.specs.Configuring.{IsConfigured, late_in};
 ghost use Rattle.session_core.specs.Outcomes.{IsOutcome, is_write_fault};
 ghost use Rattle.session_core.specs.Sessions.{session_behind, told, unless_late};
 ghost use Rattle.session_core.specs.declared.SessionEnd.{SessionEnd};
 
 use crate::SessionFault;
-use machine_meaning::config::{ConfigFault, ConfigStatement};
-use sched_core::config::{Config, ConfigError};
+use config_core::config::{Config, ConfigError};
+use input_core::statement::ConfigStatement;
+use machine_meaning::config::ConfigFault;
 use session_text::fault::Fault;
 use session_text::statement::{Says, Statement};
 
@@ -21,15 +22,33 @@ fn told(fault: ConfigFault) -> Fault
     }
 }
 
-/// The fault of a statement of the configuration that stands behind the first event.
-pub(crate) fn late_fault(config: &Config, statement: &ConfigStatement<'_>, has_end: bool) -> Fault
-    ensures { unless_late (config_fault config.now statement.now) has_end true ≡ Some result }
+/// The fault of a statement of the configuration that stands behind the first event. The configuration stays.
+fn late_fault(config: &mut Config, statement: &ConfigStatement<'_>, has_end: bool) -> Fault
+    ensures fault { unless_late (config_fault config.old statement.now) has_end true ≡ Some result }
+    ensures same { config.new ≡ config.old }
 {
     match config.fault(statement) {
         Some(fault) => told(fault),
         None if has_end => Fault::LateConfiguration,
         None => Fault::NoEnd,
     }
+}
+
+/// The fault of the first of these statements that is configuration, if one is, where they stand behind the first event. The configuration stays.
+pub(crate) fn late_in(config: &mut Config, statements: &[Statement<'_>]) -> Option<Fault>
+    ensures late { result ≡ late_in config.old statements.now }
+    ensures same { config.new ≡ config.old }
+{
+    for statement in statements {
+        if let Says::Config {
+            statement: says,
+            has_end,
+        } = &statement.says
+        {
+            return Some(late_fault(config, says, *has_end));
+        }
+    }
+    None
 }
 
 /// Adds what the statements before the first event configure, and tells where that stands.

@@ -5,6 +5,10 @@ mod configure;
 mod listing;
 #[cfg(test)]
 mod refused;
+#[cfg(test)]
+mod repeated;
+#[cfg(test)]
+mod rows;
 mod run;
 pub mod stream;
 #[cfg(test)]
@@ -37,7 +41,7 @@ pub enum RiskChoice {
     Refuse,
 }
 
-/// How a session is run. No event asks for it yet.
+/// How a session is run. Nothing asks for it yet: no job is analysed.
 #[derive(Clone, Copy, Debug, PartialEq, Eq)]
 pub struct Options {
     pub risk: RiskChoice,

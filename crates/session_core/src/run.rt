@@ -1,32 +1,44 @@
 //! The events of the statements, and their lines.
-ghost use Rattle.std.specs.Prelude.{◌≡◌, [], OnErr, OnOk, false, replicate};
-ghost use Rattle.machine_meaning.specs.Configs.{start_of};
-ghost use Rattle.session_core.specs.Configuring.{IsConfigured};
+ghost use Rattle.std.specs.Prelude.{◌≡◌, [], Bool, OnErr, OnOk, drop, false, is_some, replicate, true};
+ghost use Rattle.input_core.specs.declared.statement.ConfigStatement.{ConfigStatement};
+ghost use Rattle.config_core.specs.Configs.{Configuration};
+ghost use Rattle.session_core.specs.Configuring.{IsConfigured, late_in};
 ghost use Rattle.session_core.specs.Outcomes.{WritesOutcome, is_write_fault};
 ghost use Rattle.session_core.specs.Running.{AreApplied, AreAppliedInPart, IsApplied, StatementRuns};
-ghost use Rattle.session_core.specs.Sessions.{session_behind};
+ghost use Rattle.session_core.specs.Sessions.{denoting_in, session_behind, start_in};
 ghost use Rattle.session_core.specs.Streams.{sink_state};
+ghost use Rattle.session_text.specs.declared.statement.Says.TheVariants as says;
+ghost use Rattle.sched_core.specs.Systems.{IsSameFixed, denoting, world_of};
 
-use crate::configure::{configure, late_fault};
+use crate::configure::{configure, late_in};
 use crate::listing::{Listing, MOST_HELD, Mark};
 use crate::stream::Sink;
 use crate::{SessionEnd, SessionFault};
+use cb_meaning::layout::LAYOUT_1;
+use cb_queue::list_store::ListStore;
+use config_core::config::Config;
+use input_core::event::Event;
 use jcl_plan::entry::Entry;
-use machine_meaning::event::Event;
-use sched_core::config::Config;
-use sched_core::system::{ApplyFault, System};
+use sched_core::fault::ApplyFault;
+use sched_core::start::first_layout_is_for_machine;
+use sched_core::system::System;
+use session_text::fault::Fault;
 use session_text::statement::{Says, Statement};
 use std::alloc::{AllocError, Global};
 use std::io::Write;
 
+/// The most views of a job. Nothing analyses jobs yet.
+pub const MOST_VIEWS: usize = 1_024;
+
 /// Applies an event and lists its lines, or lists nothing.
 fn run_event(
-    system: &mut System<'_>,
+    system: &mut System<'_, ListStore>,
     event: &Event<'_>,
     listing: &mut Listing,
 ) -> Result<(), AllocError>
-    ensures ok { OnOk result (IsApplied system.old event.now system.new listing.old.text.kept listing.new.text.kept) }
+    ensures ok { OnOk result (IsApplied (denoting system.old) (world_of system.old) event.now (world_of system.new) listing.old.text.kept listing.new.text.kept) }
     ensures err { OnErr result (listing.new.text.kept ≡ listing.old.text.kept) }
+    ensures fixed { IsSameFixed system.old system.new }
     ensures marks { listing.new.marks.items ≡ listing.old.marks.items }
 {
     match system.apply(event) {
@@ -38,13 +50,15 @@ fn run_event(
 
 /// Applies an event so many times and lists its lines. With an `Err` it lists those of the first times.
 fn run_events(
-    system: &mut System<'_>,
+    system: &mut System<'_, ListStore>,
     event: &Event<'_>,
     times: u16,
     listing: &mut Listing,
 ) -> Result<(), AllocError>
-    ensures ok { OnOk result (AreApplied system.old (replicate times event.now) system.new listing.old.text.kept listing.new.text.kept) }
-    ensures err { OnErr result (AreAppliedInPart system.old event.now times listing.old.text.kept listing.new.text.kept) }
+    ensures ok { OnOk result (AreApplied (denoting system.old) (world_of system.old) (replicate times event.now) (world_of system.new)
+        listing.old.text.kept listing.new.text.kept) }
+    ensures err { OnErr result (AreAppliedInPart (denoting system.old) (world_of system.old) event.now times listing.old.text.kept listing.new.text.kept) }
+    ensures fixed { IsSameFixed system.old system.new }
     ensures marks { listing.new.marks.items ≡ listing.old.marks.items }
 {
     for done in 0..times {
@@ -57,12 +71,14 @@ fn run_events(
 /// Runs a statement behind the configuration, and lists its lines.
 fn run_statement(
     statement: &Statement<'_>,
-    config: &Config,
-    system: &mut System<'_>,
+    late: Option<Fault>,
+    system: &mut System<'_, ListStore>,
     listing: &mut Listing,
 ) -> Result<(), SessionFault>
-    ensures runs { StatementRuns config.now statement.now.line statement.now.says system.old listing.old.marks.items listing.old.text.kept result
-        system.new listing.new.marks.items listing.new.text.kept }
+    requires late { (s : ConfigStatement) (has_end : Bool) → statement.now.says ≡ says.Config s has_end → is_some late ≡ true }
+    ensures runs { StatementRuns late (denoting system.old) statement.now.line statement.now.says (world_of system.old) listing.old.marks.items
+        listing.old.text.kept result (world_of system.new) listing.new.marks.items listing.new.text.kept }
+    ensures fixed { IsSameFixed system.old system.new }
     ensures writes_none { is_write_fault result ≡ false }
 {
     let line = statement.line;
@@ -78,13 +94,10 @@ fn run_statement(
             }
         }
         Says::Refused(fault) => Err(SessionFault::Stopped(*fault, line)),
-        Says::Config {
-            statement: says,
-            has_end,
-        } => {
-            let fault = late_fault(config, says, *has_end);
-            Err(SessionFault::Stopped(fault, line))
-        }
+        Says::Config { .. } => match late {
+            Some(fault) => Err(SessionFault::Stopped(fault, line)),
+            None => unreachable!(),
+        },
     }
 }
 
@@ -93,12 +106,12 @@ fn run_from<W: Write>(
     alloc: Global,
     statements: &[Statement<'_>],
     from: usize,
-    config: &Config,
-    system: &mut System<'_>,
+    late: Option<Fault>,
+    system: &mut System<'_, ListStore>,
     sink: &mut Sink<'_, W>,
 ) -> Result<SessionEnd, SessionFault>
-    requires configured { IsConfigured statements.now from config.now }
-    requires started { system.old ≡ start_of config.now }
+    requires configured { (c : Configuration) × IsConfigured statements.now from c × (late ≡ late_in c (drop from statements.now))
+        × (world_of system.old ≡ start_in c) × (denoting system.old ≡ denoting_in c) }
     requires unfailed { sink.old.failed ≡ false }
     ensures outcome { WritesOutcome (sink_state W.contents sink.old) (sink_state W.contents sink.new) [] (session_behind [] statements.now) result }
     ensures failed { sink.new.failed ≡ is_write_fault result }
@@ -107,7 +120,7 @@ fn run_from<W: Write>(
     let mut listing = Listing::empty(alloc);
     let (_, rest) = statements.split_at(from);
     for statement in rest {
-        match run_statement(statement, config, system, &mut listing) {
+        match run_statement(statement, late, system, &mut listing) {
             Ok(()) => {}
             Err(fault) => return listing.end(sink, Err(fault)),
         }
@@ -138,8 +151,19 @@ pub(crate) fn run<W: Write>(
         Ok(from) => from,
         Err(fault) => return Err(fault),
     };
-    let Ok(mut system) = System::new(alloc, &config) else {
+    let (_, rest) = statements.split_at(from);
+    let late = late_in(&mut config, rest);
+    let Ok((store, fixed)) = config.take_apart() else {
         return Err(SessionFault::Memory);
     };
-    run_from(alloc, statements, from, &config, &mut system, sink)
+    first_layout_is_for_machine();
+    let Ok(queue) = ListStore::new(alloc, LAYOUT_1) else {
+        return Err(SessionFault::Memory);
+    };
+    let Ok(mut system) = System::new(alloc, store, queue, &fixed, false, MOST_VIEWS) else {
+        return Err(SessionFault::Memory);
+    };
+    let outcome = run_from(alloc, statements, from, late, &mut system, sink);
+    system.close();
+    outcome
 }

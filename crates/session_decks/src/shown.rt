@@ -1,17 +1,17 @@
 //! The decks of a session.
 ghost use Rattle.std.specs.Prelude.{◌≡◌, IfOk, None, length, true};
 ghost use Rattle.cb_meaning.specs.Writable.{IsWritable};
-ghost use Rattle.machine_meaning.specs.Configs.{config_fault, configured, unit_names};
+ghost use Rattle.config_core.specs.Configs.{config_fault, configured, unit_names};
 
+use config_core::config::{Config, ConfigError};
+use input_core::event::Event;
+use input_core::statement::ConfigStatement;
 use jcl_job::job::job_of;
 use jcl_plan::plan::JobPlan;
-use machine_meaning::config::ConfigStatement;
-use machine_meaning::event::Event;
 use machine_meaning::machine::{MOST_EVENTS, MOST_JOBS};
 use plain::draft::Draft;
 use plain::lent::Lent;
 use plan_text::words::{push_cause, push_numbered};
-use sched_core::config::{Config, ConfigError};
 use session_text::parse::statements;
 use session_text::statement::{Ending, Says};
 use std::alloc::{AllocError, Global};

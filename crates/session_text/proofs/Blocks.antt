@@ -3,7 +3,8 @@ use Rattle.std.proofs.Common.{◌≡◌, ℕ, suc, ◌+◌, ◌-◌, ◌<◌, Bo
 use Rattle.std.specs.List.{position_or_len}
 use Rattle.session_text.specs.declared.statement.Block.{Block}
 use Rattle.session_text.specs.declared.statement.Ending.{Ending}
-use Rattle.session_text.specs.Statements.{behind_end, block_says, block_to, is_end, statement_at, statements_from}
+use Rattle.session_text.specs.Statements.{behind_end, block_to, is_end, statement_at, statements_from}
+use Rattle.session_text.specs.Blocks.{block_says}
 use Rattle.session_text.proofs.Places.{first_at}
 
 behind_row : (ending : Ending) (n : ℕ) (row : List ℕ) (rows : List (List ℕ)) (k : ℕ) (b : Bool) → is_end row ≡ b → position_or_len is_end (row ∷ rows) ≡ k → k < length (row ∷ rows)

@@ -2,5 +2,9 @@ pub mod Numbers
 pub mod Lines
 pub mod Fields
 pub mod Rows
+pub mod Volumes
+pub mod Records
+pub mod Programs
+pub mod Blocks
+pub mod Begun
 pub mod Statements
-pub mod Kept

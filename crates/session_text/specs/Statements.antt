@@ -2,13 +2,14 @@
 use Rattle.std.specs.Prelude.{ℕ, ◌+◌, Bool, true, false, not, ◌&&◌, List, [], ◌∷◌, take, codes, Option, Some, None, is_none, if◌then◌else◌}
 use Rattle.std.specs.List.{list_any, position}
 use Rattle.std.specs.Str.{bytes_eq}
+use Rattle.extent_core.specs.declared.extent.Extent.{Extent}
 use Rattle.jname_core.specs.Faults.{is_no_serial, name8_fault, unit_name_fault}
-use Rattle.machine_meaning.specs.declared.config.ConfigStatement.{ConfigStatement}
-use Rattle.machine_meaning.specs.declared.config.ConfigStatement.TheVariants as config
-use Rattle.machine_meaning.specs.declared.event.Event.TheVariants as event
+use Rattle.input_core.specs.declared.statement.ConfigStatement.{ConfigStatement}
+use Rattle.input_core.specs.declared.statement.ConfigStatement.TheVariants as config
+use Rattle.input_core.specs.declared.event.Event.TheVariants as event
 use Rattle.session_text.specs.declared.fault.Fault.TheVariants as fault
 use Rattle.session_text.specs.declared.statement.Block.{Block}
-use Rattle.session_text.specs.declared.statement.Block.TheVariants.{Deck, Procedure, Faulty}
+use Rattle.session_text.specs.declared.statement.Block.TheVariants.{Deck, Procedure, Set, Program, Faulty}
 use Rattle.session_text.specs.declared.statement.Ending.{Ending}
 use Rattle.session_text.specs.declared.statement.Ending.TheVariants.{Whole, TooLong, ReadFailed}
 use Rattle.session_text.specs.declared.statement.LineSays.{LineSays}
@@ -17,8 +18,10 @@ use Rattle.session_text.specs.declared.statement.Says.{Says}
 use Rattle.session_text.specs.declared.statement.Says.TheVariants as says
 use Rattle.session_text.specs.declared.statement.Statement.{Statement}
 use Rattle.jname_core.specs.Decimals.{number_within}
-use Rattle.session_text.specs.Fields.{before_star, class_of, fields_of, is_marked, listed_in, times_in}
+use Rattle.session_text.specs.Blocks.{block_says, open_says}
+use Rattle.session_text.specs.Fields.{base_in, before_star, class_of, fields_of, flag_of, is_marked, listed_in, name_in, serial_in, set_name_in, times_in}
 use Rattle.session_text.specs.Lines.{lines_of}
+use Rattle.session_text.specs.Volumes.{used_of}
 
 abbrev pub bad : Says
 bad = says.Refused fault.BadValue
@@ -27,14 +30,17 @@ bad = says.Refused fault.BadValue
 abbrev pub configures : ConfigStatement → Says
 configures s = says.Config s true
 
--- `./ VOLUME serial tracks`
-abbrev pub volume_with : List ℕ → Option ℕ → Says
-volume_with serial None = bad
-volume_with serial (Some tracks) = if is_no_serial serial then bad else configures (config.Volume serial tracks)
+-- `./ VOLUME serial tracks [USED list]`
+abbrev pub volume_with : Option (List ℕ) → Option ℕ → Option (List Extent) → Says
+volume_with None tracks used = bad
+volume_with (Some serial) None used = bad
+volume_with (Some serial) (Some tracks) None = bad
+volume_with (Some serial) (Some tracks) (Some used) = configures (config.Volume serial tracks used)
 
 abbrev pub volume_of : List (List ℕ) → Says
-volume_of (serial ∷ tracks ∷ []) = volume_with serial (number_within 0 65535 tracks)
-volume_of _ = bad
+volume_of [] = bad
+volume_of (serial ∷ []) = bad
+volume_of (serial ∷ tracks ∷ behind) = volume_with (serial_in serial) (number_within 0 65535 tracks) (used_of behind)
 
 -- `./ UNIT name serial[,serial..]`
 abbrev pub unit_with : List ℕ → List (List ℕ) → Says
@@ -43,6 +49,18 @@ unit_with name serials = if is_none (unit_name_fault name) && not (list_any is_n
 abbrev pub unit_of : List (List ℕ) → Says
 unit_of (name ∷ serials ∷ []) = unit_with name (listed_in serials)
 unit_of _ = bad
+
+-- `./ GROUP base limit [SCRATCH]`
+abbrev pub group_with : Option (List ℕ) → Option ℕ → Option Bool → Says
+group_with None limit scratch = bad
+group_with (Some base) None scratch = bad
+group_with (Some base) (Some limit) None = bad
+group_with (Some base) (Some limit) (Some scratch) = configures (config.Group base limit scratch)
+
+abbrev pub group_of : List (List ℕ) → Says
+group_of [] = bad
+group_of (base ∷ []) = bad
+group_of (base ∷ limit ∷ behind) = group_with (base_in base) (number_within 0 65535 limit) (flag_of (codes "SCRATCH") behind)
 
 -- `./ INIT i classes`
 abbrev pub initiator_with : Option ℕ → List ℕ → Says
@@ -73,6 +91,29 @@ abbrev pub writes_of : List (List ℕ) → Says
 writes_of (text ∷ []) = writes_with (class_of (before_star text)) (times_in text)
 writes_of _ = bad
 
+-- `./ DEV serial`
+abbrev pub device_end_with : Option (List ℕ) → Says
+device_end_with None = bad
+device_end_with (Some serial) = says.Events (event.DeviceEnd serial) 1
+
+abbrev pub device_end_of : List (List ℕ) → Says
+device_end_of (serial ∷ []) = device_end_with (serial_in serial)
+device_end_of _ = bad
+
+-- `./ CANCEL jobno`
+abbrev pub cancel_with : Option ℕ → Says
+cancel_with None = bad
+cancel_with (Some job) = says.Events (event.Cancel job) 1
+
+abbrev pub cancel_of : List (List ℕ) → Says
+cancel_of (job ∷ []) = cancel_with (number_within 1 9999 job)
+cancel_of _ = bad
+
+-- `./ DISPLAY`
+abbrev pub display_of : List (List ℕ) → Says
+display_of [] = says.Events event.Display 1
+display_of (operand ∷ operands) = bad
+
 -- `./ READ`
 abbrev pub deck_of : List (List ℕ) → Block
 deck_of [] = Deck
@@ -86,16 +127,53 @@ abbrev pub procedure_of : List (List ℕ) → Block
 procedure_of (name ∷ []) = procedure_with name
 procedure_of _ = Faulty fault.BadValue
 
+-- `./ SET name serial tracks [CAT]`
+abbrev pub set_with : Option (List ℕ) → Option (List ℕ) → Option ℕ → Option Bool → Block
+set_with None serial tracks catalogued = Faulty fault.BadValue
+set_with (Some name) None tracks catalogued = Faulty fault.BadValue
+set_with (Some name) (Some serial) None catalogued = Faulty fault.BadValue
+set_with (Some name) (Some serial) (Some tracks) None = Faulty fault.BadValue
+set_with (Some name) (Some serial) (Some tracks) (Some catalogued) =
+    Set (record { name = name; serial = serial; tracks = tracks; catalogued = catalogued; records = [] })
+
+abbrev pub set_of : List (List ℕ) → Block
+set_of [] = Faulty fault.BadValue
+set_of (name ∷ []) = Faulty fault.BadValue
+set_of (name ∷ serial ∷ []) = Faulty fault.BadValue
+set_of (name ∷ serial ∷ tracks ∷ behind) =
+    set_with (set_name_in name) (serial_in serial) (number_within 0 65535 tracks) (flag_of (codes "CAT") behind)
+
+-- `./ PROGRAM name`
+abbrev pub program_with : Option (List ℕ) → Block
+program_with None = Faulty fault.BadValue
+program_with (Some name) = Program name
+
+abbrev pub program_of : List (List ℕ) → Block
+program_of (name ∷ []) = program_with (name_in name)
+program_of _ = Faulty fault.BadValue
+
+-- events
+abbrev pub event_by : List ℕ → List (List ℕ) → LineSays
+event_by word operands =
+    if bytes_eq word (codes "READ") then line.Opens (deck_of operands)
+    else (if bytes_eq word (codes "TURN") then line.One (turns_of operands)
+    else (if bytes_eq word (codes "DEV") then line.One (device_end_of operands)
+    else (if bytes_eq word (codes "WRITE") then line.One (writes_of operands)
+    else (if bytes_eq word (codes "CANCEL") then line.One (cancel_of operands)
+    else (if bytes_eq word (codes "DISPLAY") then line.One (display_of operands)
+    else line.One (says.Refused fault.UnknownStatement))))))
+
+-- configuration, or an event
 abbrev pub says_by : List ℕ → List (List ℕ) → LineSays
 says_by word operands =
     if bytes_eq word (codes "VOLUME") then line.One (volume_of operands)
     else (if bytes_eq word (codes "UNIT") then line.One (unit_of operands)
-    else (if bytes_eq word (codes "INIT") then line.One (initiator_of operands)
+    else (if bytes_eq word (codes "GROUP") then line.One (group_of operands)
+    else (if bytes_eq word (codes "SET") then line.Opens (set_of operands)
     else (if bytes_eq word (codes "PROC") then line.Opens (procedure_of operands)
-    else (if bytes_eq word (codes "READ") then line.Opens (deck_of operands)
-    else (if bytes_eq word (codes "TURN") then line.One (turns_of operands)
-    else (if bytes_eq word (codes "WRITE") then line.One (writes_of operands)
-    else line.One (says.Refused fault.UnknownStatement)))))))
+    else (if bytes_eq word (codes "PROGRAM") then line.Opens (program_of operands)
+    else (if bytes_eq word (codes "INIT") then line.One (initiator_of operands)
+    else event_by word operands))))))
 
 abbrev pub says_in : Bool → List (List ℕ) → LineSays
 says_in marked [] = line.Blank
@@ -115,17 +193,6 @@ is_end_by _ = false
 abbrev pub is_end : List ℕ → Bool
 is_end text = is_marked text && is_end_by (fields_of text)
 
--- a block that the text's end leaves open: a text that was cut there tells so
-abbrev pub left_open : Block → Says
-left_open Deck = says.Refused fault.NoEnd
-left_open (Procedure name) = says.Config (config.Procedure name []) false
-left_open (Faulty own) = says.Refused own
-
-abbrev pub open_says : Ending → Block → Says
-open_says Whole block = left_open block
-open_says TooLong block = says.Refused fault.TooLong
-open_says ReadFailed block = says.Refused fault.ReadFailed
-
 abbrev pub statement_at : ℕ → Says → Statement
 statement_at n s = record { line = n; says = s }
 
@@ -135,15 +202,9 @@ at_end Whole n = []
 at_end TooLong n = statement_at n (says.Refused fault.TooLong) ∷ []
 at_end ReadFailed n = statement_at n (says.Refused fault.ReadFailed) ∷ []
 
--- a block with these lines
-abbrev pub block_says : Block → List (List ℕ) → Says
-block_says Deck lines = says.Events (event.Read lines) 1
-block_says (Procedure name) lines = says.Config (config.Procedure name lines) true
-block_says (Faulty own) lines = says.Refused own
-
 -- a block that begins with line n: its lines are the rows before its END
 abbrev pub block_to : Option ℕ → Ending → ℕ → Block → List (List ℕ) → List Statement → List Statement
-block_to None ending n block rows behind = statement_at n (open_says ending block) ∷ []
+block_to None ending n block rows behind = statement_at n (open_says ending block rows) ∷ []
 block_to (Some end) ending n block rows behind = statement_at n (block_says block (take end rows)) ∷ behind
 
 -- What begins with line n, by what it says. Of the rows behind it two readings are at hand: next, where they are statements, and behind,

@@ -1,12 +1,18 @@
 //! The text of a session, and the statements that it is.
 #![tactic(auto)]
 
+mod begun;
+mod events;
 pub mod fault;
 mod fields;
+mod groups;
 mod lines;
 pub mod parse;
+mod programs;
 mod says;
+mod sets;
 pub mod statement;
 #[cfg(test)]
 mod tests;
 mod values;
+mod volumes;

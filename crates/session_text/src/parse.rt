@@ -1,16 +1,14 @@
 //! Lines to statements.
-ghost use Rattle.std.specs.Prelude.{◌≡◌, ◌≤◌, ◌+◌, ◌++◌, ◌∷◌, [], drop, length, position, take, true, IfNone, IfOk, IfSome, None, OnOk, Some};
+ghost use Rattle.std.specs.Prelude.{◌≡◌, ◌≤◌, ◌+◌, ◌++◌, ◌∷◌, [], drop, length, position, take, IfNone, IfOk, IfSome, None, OnOk, Some};
+ghost use Rattle.session_text.specs.Blocks.{block_says, open_says};
 ghost use Rattle.session_text.specs.Lines.{lines_of};
-ghost use Rattle.session_text.specs.Statements.{at_end, block_says, block_with, is_end, left_open, open_says, statements_from, statements_of};
-ghost use Rattle.session_text.specs.Kept.{keeps_lines};
+ghost use Rattle.session_text.specs.Statements.{at_end, block_with, is_end, statements_from, statements_of};
 
+use crate::begun::{opened, take_line, told_at_end, told_cut};
 use crate::fault::Fault;
 use crate::lines::next_line;
 use crate::says::line_says;
 use crate::statement::{Block, Ending, LineSays, Says, Statement};
-use machine_meaning::config::ConfigStatement;
-use machine_meaning::event::Event;
-use plain::lent::Lent;
 use plain::listed::Listed;
 use std::alloc::{AllocError, Global};
 
@@ -21,111 +19,49 @@ struct Place<'a> {
     line: usize,
 }
 
-/// A block with its END: what it says, how many lines stand before that, and what stands behind it.
-#[derive(Drop)]
-struct Ended<'a> {
-    says: Says<'a>,
+/// The END of a block: how many lines stand before it, and what stands behind it.
+#[derive(Clone, Copy)]
+struct End<'a> {
     count: usize,
     behind: &'a [u8],
 }
 
-fn block_says<'a>(block: &Block, lines: Listed<Lent<'a>>) -> Says<'a>
-    ensures { result ≡ block_says block.now lines.entry }
-{
-    match *block {
-        Block::Deck => Says::Events(Event::Read(lines), 1),
-        Block::Procedure(name) => Says::Config {
-            statement: ConfigStatement::Procedure { name, lines },
-            has_end: true,
-        },
-        Block::Faulty(fault) => Says::Refused(fault),
-    }
+/// What a block says, and its END, where it has one.
+#[derive(Drop)]
+struct Taken<'a> {
+    says: Says<'a>,
+    end: Option<End<'a>>,
 }
 
-/// Whether the lines of a block are wanted: not where it has a fault of its own.
-fn keeps_lines(block: &Block) -> bool
-    ensures { result ≡ keeps_lines block.now }
-{
-    match block {
-        Block::Deck => true,
-        Block::Procedure(_) => true,
-        Block::Faulty(_) => false,
-    }
-}
-
-/// Puts a line behind the others, where they are wanted.
-fn keep_line<'a>(
-    wanted: bool,
-    line: &'a [u8],
-    lines: &mut Listed<Lent<'a>>,
-) -> Result<(), AllocError>
-    ensures { OnOk result (wanted ≡ true → lines.new ≡ lines.old ++ line.now ∷ []) }
-{
-    if wanted {
-        lines.push(Lent::new(line))
-    } else {
-        Ok(())
-    }
-}
-
-/// The block before the first END, where there is one.
+/// The block up to the first END, or up to the text's end.
 fn block_in<'a>(
     alloc: Global,
     text: &'a [u8],
     block: &Block,
     ending: Ending,
-) -> Result<Option<Ended<'a>>, AllocError>
-    ensures end { IfOk result (λ r. IfSome r (λ b. position is_end (lines_of ending text.now) ≡ Some b.count)) }
-    ensures says { IfOk result (λ r. IfSome r (λ b. b.says ≡ block_says block.now (take b.count (lines_of ending text.now)))) }
-    ensures behind { IfOk result (λ r. IfSome r (λ b. lines_of ending b.behind.now ≡ drop (b.count + 1) (lines_of ending text.now))) }
-    ensures bound { IfOk result (λ r. IfSome r (λ b. b.count + 1 + length b.behind.now ≤ length text.now)) }
-    ensures none { IfOk result (λ r. IfNone r (position is_end (lines_of ending text.now) ≡ None)) }
+) -> Result<Taken<'a>, AllocError>
+    ensures end { IfOk result (λ t. IfSome t.end (λ e. position is_end (lines_of ending text.now) ≡ Some e.count)) }
+    ensures says { IfOk result (λ t. IfSome t.end (λ e. t.says ≡ block_says block.now (take e.count (lines_of ending text.now)))) }
+    ensures behind { IfOk result (λ t. IfSome t.end (λ e. lines_of ending e.behind.now ≡ drop (e.count + 1) (lines_of ending text.now))) }
+    ensures bound { IfOk result (λ t. IfSome t.end (λ e. e.count + 1 + length e.behind.now ≤ length text.now)) }
+    ensures none { IfOk result (λ t. IfNone t.end (position is_end (lines_of ending text.now) ≡ None)) }
+    ensures left { IfOk result (λ t. IfNone t.end (t.says ≡ open_says ending block.now (lines_of ending text.now))) }
 {
-    let wanted = keeps_lines(block);
-    let mut lines = Listed::empty(alloc);
+    let mut begun = opened(alloc, block);
     let mut rest = text;
     let mut count = 0;
     while let Some((row, behind)) = next_line(rest, ending) {
         if row.is_end() {
-            let says = block_says(block, lines);
-            return Ok(Some(Ended {
-                says,
-                count,
-                behind,
-            }));
+            let says = told_at_end(begun);
+            let end = Some(End { count, behind });
+            return Ok(Taken { says, end });
         }
-        keep_line(wanted, row.bytes, &mut lines)?;
+        take_line(&mut begun, row.bytes)?;
         count += 1;
         rest = behind;
     }
-    Ok(None)
-}
-
-/// What a block says that a whole text's end leaves open.
-fn left_open(alloc: Global, block: &Block) -> Says<'static>
-    ensures { result ≡ left_open block.now }
-{
-    match *block {
-        Block::Deck => Says::Refused(Fault::NoEnd),
-        Block::Procedure(name) => Says::Config {
-            statement: ConfigStatement::Procedure {
-                name,
-                lines: Listed::empty(alloc),
-            },
-            has_end: false,
-        },
-        Block::Faulty(fault) => Says::Refused(fault),
-    }
-}
-
-fn open_says(alloc: Global, ending: Ending, block: &Block) -> Says<'static>
-    ensures { result ≡ open_says ending block.now }
-{
-    match ending {
-        Ending::Whole => left_open(alloc, block),
-        Ending::TooLong => Says::Refused(Fault::TooLong),
-        Ending::ReadFailed => Says::Refused(Fault::ReadFailed),
-    }
+    let says = told_cut(alloc, ending, begun);
+    Ok(Taken { says, end: None })
 }
 
 /// Puts a block behind the statements, which begins at this line and before this text, and tells what stands behind it. With `None` it was the last.
@@ -144,21 +80,15 @@ fn push_block<'a>(
     ensures lines { IfOk result (λ r. IfSome r (λ next. next.line + length next.rest.now ≤ line + 1 + length text.now)) }
     ensures shorter { IfOk result (λ r. IfSome r (λ next. length next.rest.now ≤ length text.now)) }
 {
-    let Some(ended) = block_in(alloc, text, block, ending)? else {
-        let says = open_says(alloc, ending, block);
-        out.push(Statement { line, says })?;
-        return Ok(None);
-    };
-    let Ended {
-        says,
-        count,
-        behind,
-    } = ended;
+    let Taken { says, end } = block_in(alloc, text, block, ending)?;
     out.push(Statement { line, says })?;
-    Ok(Some(Place {
-        rest: behind,
-        line: line + count + 2,
-    }))
+    match end {
+        None => Ok(None),
+        Some(end) => Ok(Some(Place {
+            rest: end.behind,
+            line: line + end.count + 2,
+        })),
+    }
 }
 
 /// Puts what begins with a line behind the statements, and tells what stands behind it. With `None` it was the last.

@@ -1,8 +1,8 @@
 //! The statements of a session.
 use crate::fault::Fault;
+use input_core::event::Event;
+use input_core::statement::{ConfigStatement, SetStatement};
 use jname_core::name8::Name8;
-use machine_meaning::config::ConfigStatement;
-use machine_meaning::event::Event;
 
 /// How a text ended: whole, or cut where it was too long or could not be read further.
 #[derive(Clone, Copy, Debug, PartialEq, Eq)]
@@ -40,6 +40,9 @@ pub enum Block {
     Deck,
     /// A procedure of the library.
     Procedure(Name8),
+    /// A set, without records yet.
+    Set(SetStatement),
+    Program(Name8),
     /// The line has a fault of its own.
     Faulty(Fault),
 }

@@ -2,13 +2,55 @@
 ghost use Rattle.std.specs.Prelude.{◌≡◌, ◌==◌, ◌<◌, IfOk, IfSome, MatchOption, false, true, length, position};
 ghost use Rattle.std.specs.List.{list_any};
 ghost use Rattle.jname_core.specs.Faults.{is_no_serial};
-ghost use Rattle.session_text.specs.Fields.{before_star, class_of, listed_in, star_in, times_in};
+ghost use Rattle.session_text.specs.Fields.{base_in, before_star, class_of, listed_in, name_in, serial_in, set_name_in, star_in, times_in};
 
 use jname_core::character::is_letter_or_digit;
 use jname_core::decimal::number_within;
+use jname_core::ds_name::{DsName, read_base, read_ds_name};
+use jname_core::name8::Name8;
 use jname_core::serial::Serial;
 use plain::listed::Listed;
 use std::alloc::{AllocError, Global};
+
+/// The name that the text is.
+pub(crate) fn name_in(text: &[u8]) -> Option<Name8>
+    ensures { result ≡ name_in text.now }
+{
+    match Name8::read(text) {
+        Err(_) => None,
+        Ok(name) => Some(name),
+    }
+}
+
+/// The serial that the text is.
+pub(crate) fn serial_in(text: &[u8]) -> Option<Serial>
+    ensures { result ≡ serial_in text.now }
+{
+    match Serial::read(text) {
+        None => None,
+        Some(serial) => Some(serial),
+    }
+}
+
+/// The name of a data set that the text is.
+pub(crate) fn set_name_in(text: &[u8]) -> Option<DsName>
+    ensures { result ≡ set_name_in text.now }
+{
+    match read_ds_name(text) {
+        Err(_) => None,
+        Ok(name) => Some(name),
+    }
+}
+
+/// The base of a group that the text is.
+pub(crate) fn base_in(text: &[u8]) -> Option<DsName>
+    ensures { result ≡ base_in text.now }
+{
+    match read_base(text) {
+        Err(_) => None,
+        Ok(base) => Some(base),
+    }
+}
 
 /// The class of a writer that the text is.
 pub(crate) fn class_of(text: &[u8]) -> Option<u8>
@@ -47,7 +89,7 @@ pub(crate) fn times_in(text: &[u8]) -> Option<u16>
     }
 }
 
-fn comma_in(text: &[u8]) -> Option<usize>
+pub(crate) fn comma_in(text: &[u8]) -> Option<usize>
     ensures comma { result ≡ position (λ b. b == 44) text.now }
     ensures bound { IfSome result (λ k. k < length text.now) }
 {

@@ -1,10 +1,14 @@
 use Rattle.std.proofs.Common.{◌∙◌}
 use Rattle.session_core.proofs.Applied.{AreApplied-more}
+use Rattle.session_core.proofs.Fixed.{IsSameFixed-twice, same_denoting}
 use Rattle.session_core.proofs.run.run_events.Goals as goal
 
 pub loop-done-preserved : goal.loop-done-preserved
-loop-done-preserved c = (
-  AreApplied-more _ c.loop-done.system _ c.args.event.now c.loop-done.done _ c.loop-done.listing.text.kept _ c.loop-done.invariant.0
-      c.in_ok-run_event.ensures.ok,
-  c.run_event.ensures.marks ∙ c.loop-done.invariant.1,
-)
+loop-done-preserved c =
+    let done = c.loop-done.invariant in
+    let one = rw (same_denoting _ _ done.fixed) at c.in_ok-run_event.ensures.ok in
+    record {
+      applied = AreApplied-more _ _ _ _ c.args.event.now c.loop-done.done _ c.loop-done.listing.text.kept _ done.applied one;
+      fixed = IsSameFixed-twice _ _ _ done.fixed c.run_event.ensures.fixed;
+      marks = c.run_event.ensures.marks ∙ done.marks;
+    }

@@ -1,5 +1,5 @@
 use Rattle.std.proofs.Common.{sym, ap, ◌∙◌, subst}
-use Rattle.machine_meaning.specs.Configs.{unit_names}
+use Rattle.config_core.specs.Configs.{unit_names}
 use Rattle.jcl_job.specs.Jobs.{job_of}
 use Rattle.value_core.specs.Reads.{Gives}
 use Rattle.session_decks.proofs.Writable.{each_is_writable}

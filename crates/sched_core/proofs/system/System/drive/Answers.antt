@@ -1,12 +1,21 @@
-use Rattle.std.proofs.Common.{◌+◌, ◌++◌, ◌∷◌, [], ap, ◌∙◌}
-use Rattle.sched_core.specs.Jobs.{job_run}
-use Rattle.sched_core.proofs.Driving.{next_driven}
+use Rattle.std.proofs.Common.{◌<◌, ◌+◌, length, List, [], ◌∷◌, ◌++◌, sym, ap, ◌∙◌, subst}
+use Rattle.std.specs.Prelude.{get_or}
+use Rattle.sched_core.specs.Systems.{IsDriven}
+use Rattle.sched_core.proofs.Driving.{driven_more}
 use Rattle.sched_core.proofs.system.System.drive.Goals as goal
 
 pub loop-event-preserved : goal.loop-event-preserved
-loop-event-preserved c = (
-  ap (λ n. n + 1) c.loop-event.invariant.0,
-  next_driven job_run c.args.self.now c.loop-event.self c.apply_shown.new.self c.args.events.now c.loop-event.done c.loop-event.event-index c.loop-event.entries.items c.push_reserved.new.self.items
-      c.event-item.result c.in-Ok-apply_shown.lines c.loop-event.invariant.0 c.loop-event-test.true c.event-item.is c.loop-event.invariant.1 c.in-Ok-apply_shown.ensures.step
-      (c.push_reserved.ensures.items ∙ ap (λ l. l ++ c.in-Ok-apply_shown.lines ∷ []) c.reserve.ensures.items),
-)
+loop-event-preserved g c =
+    let events = c.args.events.now in
+    let entries = c.loop-event.entries.items in
+    let lines = c.in-Ok-apply_shown.lines in
+    let e = c.event-item.result in
+    let same = c.loop-event.invariant.0 in
+    let less = subst (λ n. n < length events) (sym same) c.loop-event-test.true in
+    let is = c.event-item.is ∙ ap (λ n. get_or events n e) (sym same) in
+    let grown = c.push_reserved.ensures.items ∙ ap (λ l. l ++ lines ∷ []) c.reserve.ensures.items in (
+      ap (λ n. n + 1) same,
+      subst (λ ys. IsDriven c.args.self.now events ys (c.loop-event.done + 1) c.apply_shown.new.self) (sym grown)
+          (driven_more c.args.self.now c.loop-event.self c.apply_shown.new.self events entries c.loop-event.done e lines c.loop-event.invariant.1 less is
+          c.in-Ok-apply_shown.ensures.step c.apply_shown.ensures.fixed),
+    )

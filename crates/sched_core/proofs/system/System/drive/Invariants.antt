@@ -1,7 +1,6 @@
-use Rattle.std.proofs.Common.{◌≡◌, take}
-use Rattle.machine_meaning.specs.Transitions.{Runs}
-use Rattle.sched_core.specs.Jobs.{job_run}
+use Rattle.std.proofs.Common.{◌≡◌}
+use Rattle.sched_core.specs.Systems.{IsDriven}
 use Rattle.sched_core.proofs.system.System.drive.Given as goal
 
 abbrev pub invariant-loop-event : goal.invariant-loop-event
-invariant-loop-event l = (l.done ≡ l.event-index) × Runs job_run l.initial.self (take l.done l.events) l.entries.items l.self
+invariant-loop-event g l = (l.done ≡ l.event-index) × IsDriven l.initial.self l.events l.entries.items l.done l.self

@@ -1,5 +1,45 @@
-use Rattle.sched_core.proofs.Selecting.{kept_start}
+use Rattle.std.proofs.Common.{map, length, refl, sym, ap, ◌∙◌}
+use Rattle.config_core.specs.Configs.{unit_names}
+use Rattle.init_core.specs.declared.running.Profile.{Profile}
+use Rattle.sched_core.specs.declared.start.TheConstants.{FIRST_DAY}
+use Rattle.sched_core.proofs.Begun.{begins_kept, idle_seat, units_counted, world_at}
 use Rattle.sched_core.proofs.system.System.new.Goals as goal
 
 pub invariant_of-result : goal.invariant_of-result
-invariant_of-result c = kept_start c.new.result c.new.ensures
+invariant_of-result g c =
+    let fixed = c.args.fixed.now in
+    let p : Profile = record {
+      volumes = c.as_slice-2.result;
+      units = c.volumes.result;
+      programs = record { ref_ptr = c.args.fixed.ref_ptr; now = fixed.programs };
+      refuses = c.args.refuses;
+      most_views = c.args.most_views;
+    } in
+    record {
+      kept = begins_kept g.Q.RecordStore.queue c.args.store c.args.queue fixed p c.started.result c.started.ensures.parts
+          (c.started.ensures.initiators ∙ c.in_ok-initiators.ensures ∙ ap (map idle_seat) c.as_slice.ensures)
+          c.started.ensures.backlog c.started.ensures.jobs c.started.ensures.events c.as_slice-2.ensures c.volumes.ensures refl c.requires.empty c.requires.layout
+          c.requires.configured.0 c.requires.configured.2 c.requires.configured.1
+          c.configuration_is_start.ensures c.starts_sound.ensures c.layout_reads_what_it_holds.ensures;
+      named = ap length c.names.ensures ∙ units_counted fixed.units ∙ sym (ap length c.volumes.ensures);
+    }
+
+pub returns : goal.returns
+returns g c = λ config configured apart.
+    let fixed = c.args.fixed.now in
+    let p : Profile = record {
+      volumes = c.as_slice-2.result;
+      units = c.volumes.result;
+      programs = record { ref_ptr = c.args.fixed.ref_ptr; now = fixed.programs };
+      refuses = c.args.refuses;
+      most_views = c.args.most_views;
+    } in
+    record {
+      is_start = c.configuration_is_start.ensures config c.args.refuses c.args.most_views FIRST_DAY _ configured c.requires.layout.link;
+      world = world_at g.Q.RecordStore.queue c.args.store c.args.queue fixed p c.started.result c.started.ensures.parts
+          (c.started.ensures.initiators ∙ c.in_ok-initiators.ensures ∙ ap (map idle_seat) c.as_slice.ensures)
+          c.started.ensures.backlog c.started.ensures.jobs c.started.ensures.events c.as_slice-2.ensures c.volumes.ensures refl c.requires.empty c.requires.layout
+          config apart;
+      unit_names = c.names.ensures ∙ ap unit_names apart.units;
+      library = apart.library;
+    }

@@ -1,0 +1,257 @@
+-- A turn of an admitted job is the machine's case.
+use Rattle.std.proofs.Common.{◌≡◌, ◌≢◌, ℕ, suc, ◌≤◌, Bool, true, false, not, cond, List, [], ◌∷◌, ◌++◌, All, drop, map, Option, Some, None, length, refl, sym, ap, ◌∙◌, subst}
+use Rattle.std.specs.Prelude.{IfOk, IfSome, OnErr, OnOk, Result, Ok, Err}
+use Rattle.std.specs.List.{Contains}
+use Rattle.std.proofs.lemmas.List.Elements.{All-append, All-cons, All-head, All-nil, All-tail}
+use Rattle.enq_core.specs.Holds.{HoldsNone}
+use Rattle.jcl_plan.specs.declared.entry.JobLine.{JobLine}
+use Rattle.jcl_plan.specs.declared.entry.JobLine.TheVariants as line
+use Rattle.jcl_plan.specs.declared.plan.JobPlan.{JobPlan}
+use Rattle.cb_queue.specs.RecordQueues.{RecordQueue}
+use Rattle.prog_core.specs.declared.units.Operation.{Operation}
+use Rattle.prog_core.specs.Operations.{IsRoomFor, OneEach, is_owner, without_owner}
+use Rattle.jcl_meaning.specs.NoSets.{HasNoSets}
+use Rattle.machine_meaning.specs.Spools.{sets_of, with_sets}
+use Rattle.world_meaning.specs.Admissions.{names_a_set}
+use Rattle.world_meaning.specs.Holdings.{cancels_without, released}
+use Rattle.world_meaning.specs.Lenses.{WorldStore, seen}
+use Rattle.world_meaning.specs.Records.{Reopened}
+use Rattle.world_meaning.specs.Turns.{Advances, has_cancel}
+use Rattle.world_meaning.specs.Worlds as world
+use Rattle.world_meaning.specs.Worlds.{Config, Shared}
+use Rattle.world_meaning.proofs.Conserved.{conserved_same}
+use Rattle.world_meaning.proofs.Following.{unopened}
+use Rattle.world_meaning.proofs.JobLens.{put_same}
+use Rattle.shared_core.specs.Shown.{world_of}
+use Rattle.shared_core.specs.Tracks.{free_on}
+use Rattle.shared_core.specs.declared.store.SharedStore.{SharedStore}
+use Rattle.turn_core.specs.MachineTurns.{ActsAdvance, EndsAdvance, WaitsAdvance, shared_ended, shared_told}
+use Rattle.turn_core.specs.Standing.{JobActs, JobEnds, TellsJob, count_at, undone}
+use Rattle.turn_core.specs.TurnLaws.{FewLines, NoneRefused}
+use Rattle.turn_core.specs.Turning.{Around, Waits, operations_by}
+use Rattle.turn_core.specs.declared.walk.Acted.{Acted}
+use Rattle.turn_core.specs.declared.walk.Turned.{Turned}
+use Rattle.turn_core.specs.declared.walk.Walk.{Walk}
+use Rattle.admission_core.specs.declared.admission.Admission.{Admission}
+use Rattle.admit_core.proofs.Wanted.{releasing_leaves, releasing_leaves_none}
+use Rattle.machine_core.specs.declared.parts.Parts.{Parts}
+use Rattle.machine_core.specs.Shown.{shown}
+use Rattle.init_core.specs.declared.running.Profile.{Profile}
+use Rattle.init_core.specs.declared.running.Progress.{Progress}
+use Rattle.init_core.specs.declared.running.Progress.TheVariants.{GoesOn, Over}
+use Rattle.init_core.specs.declared.running.Running.{Running}
+use Rattle.init_core.specs.declared.running.Stage.TheVariants as stage
+use Rattle.init_core.specs.Going.{Went}
+use Rattle.init_core.specs.Running.{AreOn, IsAt, IsGood, config_of, shown_admission, shown_running}
+use Rattle.init_core.specs.Turning.{IsAsBefore, IsEnded, IsSameStore, IsWritten, answers_of, around_in, with_spool}
+use Rattle.init_core.proofs.Reading.{good_again}
+use Rattle.init_core.proofs.Rooms.{known_on, room_if, stand_on}
+use Rattle.init_core.proofs.Volumes.{IsOnOne, StandOn, acted_on}
+use Rattle.init_core.proofs.Wanting.{lines_behind, none_told, nothing_behind, one_told}
+
+not_so : (b : Bool) → not b ≡ true → b ≡ false
+not_so true e = absurd cc
+not_so false e = refl
+
+-- operations stay on configured volumes
+not_owned : (job : ℕ) (o : Operation) (b : Bool) → (cond b (record { serial = o.serial; owner = None }) o).serial ≡ o.serial
+not_owned job o true = refl
+not_owned job o false = refl
+
+abandoned_on : (volumes : List (List ℕ)) (job : ℕ) (os : List Operation) → All (λ o. Contains volumes o.serial) os → All (λ o. Contains volumes o.serial) (map (without_owner job) os)
+abandoned_on volumes job [] all = All-nil (λ o. Contains volumes o.serial)
+abandoned_on volumes job (o ∷ os) all =
+    All-cons (λ o. Contains volumes o.serial) (without_owner job o) (map (without_owner job) os)
+    (subst (λ s. Contains volumes s) (sym (not_owned job o (is_owner job o.owner))) (All-head (λ o. Contains volumes o.serial) o os all))
+    (abandoned_on volumes job os (All-tail (λ o. Contains volumes o.serial) o os all))
+
+abandoned_if : (b : Bool) (volumes : List (List ℕ)) (job : ℕ) (os : List Operation) → All (λ o. Contains volumes o.serial) os →
+    All (λ o. Contains volumes o.serial) (cond b (map (without_owner job) os) os)
+abandoned_if true volumes job os all = abandoned_on volumes job os all
+abandoned_if false volumes job os all = all
+
+operations_on : (volumes : List (List ℕ)) (job : ℕ) (os : List Operation) (starts : Option (List ℕ)) (cancelled : Bool) → IfSome starts (λ serial. Contains volumes serial) →
+    All (λ o. Contains volumes o.serial) os → All (λ o. Contains volumes o.serial) (operations_by os job starts cancelled)
+operations_on volumes job os (Some serial) cancelled on all =
+    All-append (λ o. Contains volumes o.serial) os (record { serial = serial; owner = Some job } ∷ []) all
+    (All-cons (λ o. Contains volumes o.serial) (record { serial = serial; owner = Some job }) [] on (All-nil (λ o. Contains volumes o.serial)))
+operations_on volumes job os None cancelled on all = abandoned_if cancelled volumes job os all
+
+module _ {Q : Type 0} (queue_of : Q → RecordQueue) (profile : Profile) (p : Parts Q) (job : ℕ) (walk : Walk) (plan : JobPlan) (held : ℕ) (a : Admission)
+    (g : IsGood queue_of (config_of profile (queue_of p.queue).layout) p) where
+  abbrev pub c : Config
+  c = config_of profile (queue_of p.queue).layout
+
+  abbrev pub at_walk : Walk → Running
+  at_walk w = record { job = job; walk = w; stage = stage.Admitted plan held a }
+
+  abbrev pub its : Running
+  its = at_walk walk
+
+  abbrev pub its_around : Around
+  its_around = around_in profile p.units job plan a (has_cancel p.cancels job) p.store
+
+  abbrev pub from : ℕ
+  from = length walk.course.lines
+
+  abbrev advances_to : List JobLine → Shared → Option world.Running → Type 0
+  advances_to lines new runs =
+      Advances c (shown queue_of p) (shown_running c its) plan (shown_admission c plan a) (count_at plan c.programs walk.todo) walk.course.own lines new runs
+
+  -- the store is as it was
+  same_shown : (st : SharedStore) → IsSameStore p.store st → shown queue_of (record p { store = st }) ≡ shown queue_of p
+  same_shown st is = λ i. record (shown queue_of p) { store = is.world i; free = λ serial. is.free serial i }
+
+  good_there : (st : SharedStore) → IsSameStore p.store st → IsGood queue_of c (record p { store = st })
+  good_there st is = record { kept = is.kept; volumes = is.volumes ∙ g.volumes; layout = g.layout; fields = g.fields; operations = g.operations; few = g.few }
+
+  pub as_before : (st : SharedStore) → IsSameStore p.store st → IsAsBefore queue_of c p (record p { store = st })
+  as_before st is = record { same = same_shown st is; queue = refl; good = good_there st is }
+
+  pub told_as : (st : SharedStore) (after : Walk) (cancelled : Bool) (told same : Turned) → cancelled ≡ has_cancel p.cancels job → told ≡ same →
+      TellsJob (around_in profile p.units job plan a cancelled p.store) plan (seen job (world_of p.store)) walk (seen job (world_of st)) after told →
+      TellsJob its_around plan (seen job (world_of p.store)) walk (seen job (world_of st)) after same
+  told_as st after cancelled told same due is t =
+      subst (λ x. TellsJob its_around plan (seen job (world_of p.store)) walk (seen job (world_of st)) after x) is
+      (subst (λ b. TellsJob (around_in profile p.units job plan a b p.store) plan (seen job (world_of p.store)) walk (seen job (world_of st)) after told) due t)
+
+  pub ended_err : (r : Result Progress Running) (st : SharedStore) (new : Parts Q) → IsSameStore p.store st → OnErr r (new ≡ record p { store = st }) →
+      OnErr r (IsAsBefore queue_of c p new)
+  ended_err (Ok came) st new is same = tt
+  ended_err (Err back) st new is same = subst (IsAsBefore queue_of c p) (sym same) (as_before st is)
+
+  module _ (some : job ≢ 0) (at : IsAt c p.names job walk (stage.Admitted plan held a)) where
+    -- where the job's sets are, and its operation starts
+    pub moved_on : (st : SharedStore) (after : Walk) (told : Acted) → JobActs its_around plan (seen job (world_of p.store)) (seen job (world_of st)) walk after told →
+        AreOn c.volumes after.course.own.dds × IsOnOne c.volumes told.starts
+    moved_on st after told t = acted_on c.volumes its_around plan (seen job (world_of p.store)) (seen job (world_of st)) walk after told (known_on c.volumes) at.1.on
+        (subst (λ vs. StandOn vs (seen job (world_of p.store))) g.volumes (stand_on job p.store)) t
+
+    pub room : (st : SharedStore) (after : Walk) (told : Acted) → JobActs its_around plan (seen job (world_of p.store)) (seen job (world_of st)) walk after told →
+        OneEach p.units → IfSome told.starts (IsRoomFor p.units)
+    room st after told t each = room_if c.volumes p.units told.starts g.few each g.operations (moved_on st after told t).1
+
+    pub waits : WaitsAdvance → (st : SharedStore) (after : Walk) → IsSameStore p.store st → after ≡ walk →
+        Waits its_around (undone plan c.programs walk.todo) (seen job (world_of p.store)) walk.course.own (count_at plan c.programs walk.todo) →
+        Went queue_of c p its (record p { store = st }) (GoesOn (at_walk after) from)
+    waits law st after is same w = subst (λ x. Went queue_of c p its (record p { store = st }) (GoesOn (at_walk x) from)) (sym same) (record {
+      middle = shown queue_of p;
+      goes = subst (λ ls. advances_to ls (shown queue_of p) (Some (shown_running c its)))
+          (sym (lines_behind walk.course.lines walk.course.lines [] (sym (nothing_behind walk.course.lines))))
+          (law c (shown queue_of p) (shown_running c its) plan (shown_admission c plan a) (answers_of job p.store) walk w);
+      reopened = subst (λ s. Reopened c.layout (shown queue_of p) s) (sym (same_shown st is)) (unopened c.layout (shown queue_of p));
+      decides = λ told. absurd (told (lines_behind walk.course.lines walk.course.lines [] (sym (nothing_behind walk.course.lines))));
+      few = none_told (drop from walk.course.lines) (length walk.course.own.dds)
+          (lines_behind walk.course.lines walk.course.lines [] (sym (nothing_behind walk.course.lines)));
+      good = good_there st is;
+      left = record { same = refl; ready = record { some = some; at = at } };
+      rest = record { waiting = refl; others = λ other apart none. none };
+    })
+
+    module _ (st : SharedStore) (after : Walk) (told : Acted) (is : IsWritten job p.store st)
+        (t : JobActs its_around plan (seen job (world_of p.store)) (seen job (world_of st)) walk after told) where
+      abbrev pub told_free : List ℕ → ℕ
+      told_free = λ serial. free_on st.volumes serial
+
+      abbrev pub told_shared : Shared
+      told_shared = shared_told (shown queue_of p) job (seen job (world_of st)) told told_free
+
+      pub acted : ActsAdvance → FewLines → (a.assured ≡ true → t.acts.primary ≡ true) → IfSome told.starts (λ serial. Contains c.volumes serial) →
+          IsAt c p.names job after (stage.Admitted plan held a) →
+          (units : List Operation) (cancels : List ℕ) → units ≡ operations_by p.units job told.starts told.cancelled →
+          cancels ≡ cond told.cancelled (cancels_without p.cancels job) p.cancels →
+          Went queue_of c p its (record p { store = st; units = units; cancels = cancels }) (GoesOn (at_walk after) from)
+      acted law short granted on there units cancels us cs = record {
+        middle = told_shared;
+        goes = subst (λ ls. advances_to ls told_shared (Some (shown_running c (at_walk after))))
+            (sym (lines_behind walk.course.lines after.course.lines t.acts.its_turn.done.lines t.acts.lines))
+            (law c (shown queue_of p) (shown_running c its) plan (shown_admission c plan a) (answers_of job p.store) walk after (seen job (world_of st)) told told_free refl t granted
+            (is.conserves (shown queue_of p) told_shared (record { store = refl; free = λ v. refl; kept = refl })
+            (record { store = sym is.world; free = λ v. refl; kept = refl })));
+        reopened = subst (λ s. Reopened c.layout told_shared s)
+            (λ i. record (shown queue_of p) {
+              store = sym is.world i;
+              free = told_free;
+              operations = sym us i;
+              cancels = sym cs i;
+            })
+            (unopened c.layout told_shared);
+        decides = λ told. record {
+          its_turn = t.acts.its_turn;
+          growth = t.acts.growth;
+          primary = t.acts.primary;
+          advances = t.acts.advances;
+          growth_answered = t.acts.growth_answered;
+          primary_answered = t.acts.primary_answered;
+          told = lines_behind walk.course.lines after.course.lines t.acts.its_turn.done.lines t.acts.lines;
+        };
+        few = subst (λ (ls : List JobLine). length ls ≤ suc (length walk.course.own.dds))
+            (sym (lines_behind walk.course.lines after.course.lines t.acts.its_turn.done.lines t.acts.lines))
+            (short its_around plan (seen job (world_of p.store)) (seen job (world_of st)) walk after told t);
+        good = record {
+          kept = is.kept;
+          volumes = is.volumes ∙ g.volumes;
+          layout = g.layout;
+          fields = g.fields;
+          operations = subst (λ os. All (λ o. Contains c.volumes o.serial) os) (sym us) (operations_on c.volumes job p.units told.starts told.cancelled on g.operations);
+          few = g.few;
+        };
+        left = record { same = refl; ready = record { some = some; at = there } };
+        rest = record { waiting = refl; others = λ other apart none. none };
+      }
+
+    -- its last line: what it held is given back
+    module _ (st : SharedStore) (is : IsSameStore p.store st) (new : Parts Q) (e : IsEnded queue_of job walk plan (record p { store = st }) new) where
+      abbrev pub mid : Parts Q
+      mid = with_spool job walk plan (record p { store = st })
+
+      abbrev pub ended_shared : Shared
+      ended_shared = shared_ended c (shown queue_of p) job plan walk.course.lines walk.course.own.outputs (shown queue_of p).free
+
+      released_there : released c (shown queue_of mid) job (shown queue_of mid).free ≡ ended_shared
+      released_there = λ i. released c (record (shown queue_of p) {
+        store = (is.world ∙ sym (put_same job (world_of p.store))) i;
+        free = λ serial. is.free serial i;
+        spool = with_sets p.spool (sets_of job plan.message_class (walk.course.lines ++ line.End ∷ []) walk.course.own.outputs);
+      }) job (λ serial. is.free serial i)
+
+      back_good : IsGood queue_of c mid
+      back_good = let h : IsGood queue_of c (record p { store = st }) = good_there st is in
+          record { kept = h.kept; volumes = h.volumes; layout = h.layout; fields = h.fields; operations = h.operations; few = h.few }
+
+      pub ended : EndsAdvance → JobEnds its_around plan (seen job (world_of p.store)) walk → Went queue_of c p its new (Over line.End)
+      ended law h = record {
+        middle = ended_shared;
+        goes = law c (shown queue_of p) (shown_running c its) plan (shown_admission c plan a) (answers_of job p.store) walk (shown queue_of p).free refl h
+            (conserved_same (shown queue_of p) ended_shared (ap (λ (w : WorldStore). w.set) (put_same job (world_of p.store))) refl refl);
+        reopened = subst (λ s. Reopened c.layout s (shown queue_of new)) released_there (e.released c refl).reopened;
+        decides = tt;
+        few = one_told (line.End ∷ []) line.End (length walk.course.own.dds) refl;
+        good = good_again queue_of c job mid new e.back back_good;
+        left = subst (λ hs. HoldsNone hs job) (sym e.back.names) (releasing_leaves_none p.names job);
+        rest = record {
+          waiting = e.back.records.waiting;
+          others = λ other apart none. subst (λ hs. HoldsNone hs other) (sym e.back.names) (releasing_leaves p.names job other none);
+        };
+      }
+
+    pub ended_by : (r : Result Progress Running) (st : SharedStore) (after : Walk) (is : IsSameStore p.store st) (new : Parts Q) → after ≡ walk →
+        IfOk r (λ came. came ≡ Over line.End) → OnOk r (IsEnded queue_of job after plan (record p { store = st }) new) → EndsAdvance →
+        JobEnds its_around plan (seen job (world_of p.store)) walk → IfOk r (Went queue_of c p its new)
+    ended_by (Ok came) st after is new same over e law h =
+        subst (Went queue_of c p its new) (sym over) (ended st is new (subst (λ w. IsEnded queue_of job w plan (record p { store = st }) new) same e) law h)
+    ended_by (Err back) st after is new same over e law h = tt
+
+    pub acted_so : (st : SharedStore) (after : Walk) (told : Acted) (is : IsWritten job p.store st)
+        (t : JobActs its_around plan (seen job (world_of p.store)) (seen job (world_of st)) walk after told) → ActsAdvance → FewLines → NoneRefused →
+        ((plan : JobPlan) → names_a_set plan ≡ false → HasNoSets plan) →
+        (units : List Operation) (cancels : List ℕ) → units ≡ operations_by p.units job told.starts told.cancelled →
+        cancels ≡ cond told.cancelled (cancels_without p.cancels job) p.cancels →
+        Went queue_of c p its (record p { store = st; units = units; cancels = cancels }) (GoesOn (at_walk after) from)
+    acted_so st after told is t law short refused setless units cancels us cs =
+        acted st after told is t law short
+        (λ e. refused its_around plan (seen job (world_of p.store)) (seen job (world_of st)) walk after told
+        (setless plan (not_so (names_a_set plan) (sym at.1.unless_set ∙ e))) t)
+        (moved_on st after told t).1
+        (at.0, record { stands = t.stands; unless_set = at.1.unless_set; on = (moved_on st after told t).0 })
+        units cancels us cs

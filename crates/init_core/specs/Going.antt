@@ -1,0 +1,42 @@
+-- What a job's turn came to, as a case of the machine's table, and what it leaves for the next event.
+use Rattle.std.specs.Prelude.{◌≡◌, ◌≢◌, ℕ, suc, ◌≤◌, List, length, Option, Some, None}
+use Rattle.std.specs.Option.{option_map}
+use Rattle.enq_core.specs.declared.table.Hold.{Hold}
+use Rattle.enq_core.specs.Holds.{HoldsNone}
+use Rattle.cb_queue.specs.RecordQueues.{RecordQueue}
+use Rattle.world_meaning.specs.Records.{Reopened}
+use Rattle.world_meaning.specs.Transitions as world
+use Rattle.world_meaning.specs.Worlds.{Config, Shared}
+use Rattle.machine_core.specs.declared.parts.Parts.{Parts}
+use Rattle.machine_core.specs.Shown.{shown}
+use Rattle.init_core.specs.declared.running.Progress.{Progress}
+use Rattle.init_core.specs.declared.running.Running.{Running}
+use Rattle.init_core.specs.Deciding.{Decides}
+use Rattle.init_core.specs.Running.{IsGood, IsReady, lines_told, runs_after, shown_running}
+
+-- the job that goes on is at its place, and one that is over holds no name
+pub record IsOn (c : Config) (holds : List Hold) (job : ℕ) (r : Running) : Type 0 where
+  pub same : r.job ≡ job
+  pub ready : IsReady c holds r
+
+abbrev pub IsLeft : Config → List Hold → ℕ → Option Running → Type 0
+IsLeft c holds job None = HoldsNone holds job
+IsLeft c holds job (Some r) = IsOn c holds job r
+
+-- what stays as it was in the queue, and of the holds of other jobs
+pub record LeavesRest {Q : Type 0} (queue_of : Q → RecordQueue) (job : ℕ) (old new : Parts Q) : Type 0 where
+  pub waiting : (queue_of new.queue).waiting ≡ (queue_of old.queue).waiting
+  pub others : (other : ℕ) → other ≢ job → HoldsNone old.names other → HoldsNone new.names other
+
+-- A case of the table, but for what is open in records; what the table leaves to the volumes is as they decide it; the lines are few; and what the
+-- next event goes by holds again.
+pub record Went {Q : Type 0} (queue_of : Q → RecordQueue) (c : Config) (old : Parts Q) (r : Running) (new : Parts Q) (came : Progress) : Type 0 where
+  pub middle : Shared
+  pub goes : world.GoesOn c (shown queue_of old) (shown_running c r) (shown_running c r).stage (lines_told came) middle
+      (option_map (shown_running c) (runs_after came))
+  pub reopened : Reopened c.layout middle (shown queue_of new)
+  pub decides : Decides c old.store (shown queue_of old) r came
+  pub few : length (lines_told came) ≤ suc (length r.walk.course.own.dds)
+  pub good : IsGood queue_of c new
+  pub left : IsLeft c new.names r.job (runs_after came)
+  pub rest : LeavesRest queue_of r.job old new

@@ -1,0 +1,74 @@
+-- What a turn of an admitted job leaves of the store of all jobs, and of the parts.
+use Rattle.std.specs.Prelude.{◌≡◌, ℕ, Bool, List, [], ◌∷◌, ◌++◌}
+use Rattle.jcl_plan.specs.declared.entry.JobLine.TheVariants as line
+use Rattle.jcl_plan.specs.declared.plan.JobPlan.{JobPlan}
+use Rattle.cb_queue.specs.RecordQueues.{RecordQueue}
+use Rattle.prog_core.specs.declared.units.Operation.{Operation}
+use Rattle.world_meaning.specs.Lenses.{put_back, seen}
+use Rattle.world_meaning.specs.Tracks.{Conserves}
+use Rattle.world_meaning.specs.Worlds.{Config, Shared}
+use Rattle.shared_core.specs.Rooms.{grants_growth, grants_new}
+use Rattle.shared_core.specs.Shown.{world_of}
+use Rattle.shared_core.specs.Tracks.{IsShown, NothingKept, free_on}
+use Rattle.shared_core.specs.declared.store.SharedStore.{SharedStore}
+use Rattle.place_core.specs.Placings.{serials_of}
+use Rattle.admission_core.specs.Admitted.{fixed_for}
+use Rattle.admission_core.specs.declared.admission.Admission.{Admission}
+use Rattle.turn_core.specs.Performing.{StoreAnswers}
+use Rattle.turn_core.specs.Turning.{Around}
+use Rattle.machine_core.specs.declared.parts.Parts.{Parts}
+use Rattle.machine_core.specs.Released.{GivesBack, IsReleased}
+use Rattle.machine_core.specs.Shown.{shown}
+use Rattle.machine_meaning.specs.Spools.{sets_of, with_sets}
+use Rattle.turn_core.specs.declared.walk.Walk.{Walk}
+use Rattle.init_core.specs.declared.running.Profile.{Profile}
+use Rattle.init_core.specs.Running.{IsGood}
+
+-- what the store answers a job
+abbrev pub answers_of : ℕ → SharedStore → StoreAnswers
+answers_of job s = record {
+  new = λ key place tracks. grants_new job s key place tracks;
+  growth = λ key serial tracks. grants_growth job s key serial tracks;
+}
+
+-- what a job's turn goes by
+abbrev pub around_in : Profile → List Operation → ℕ → JobPlan → Admission → Bool → SharedStore → Around
+around_in p operations job plan a cancelled store = record {
+  programs = p.programs.now;
+  steps = plan.steps;
+  fixed = fixed_for p.volumes.now plan a;
+  operations = operations;
+  job = job;
+  cancel = cancelled;
+  grants = answers_of job store;
+}
+
+-- A job wrote what it sees: nothing is kept, the volumes are the same, and their tracks are conserved.
+pub record IsWritten (job : ℕ) (old new : SharedStore) : Type 0 where
+  pub world : world_of new ≡ put_back job (world_of old) (seen job (world_of new))
+  pub kept : NothingKept new
+  pub volumes : serials_of new.volumes ≡ serials_of old.volumes
+  pub conserves : (before after : Shared) → IsShown old before → IsShown new after → Conserves before after
+
+-- The store is as it was: its sets and its catalog, and its free tracks; nothing is kept, and the volumes are the same.
+pub record IsSameStore (old new : SharedStore) : Type 0 where
+  pub world : world_of new ≡ world_of old
+  pub free : (serial : List ℕ) → free_on new.volumes serial ≡ free_on old.volumes serial
+  pub kept : NothingKept new
+  pub volumes : serials_of new.volumes ≡ serials_of old.volumes
+
+-- The parts are as they were: what is shown of them, and the queue; and what holds between two events holds again.
+pub record IsAsBefore {Q : Type 0} (queue_of : Q → RecordQueue) (c : Config) (old new : Parts Q) : Type 0 where
+  pub same : shown queue_of new ≡ shown queue_of old
+  pub queue : queue_of new.queue ≡ queue_of old.queue
+  pub good : IsGood queue_of c new
+
+-- The spool took over the job's listing, with its last line, and its outputs.
+abbrev pub with_spool : {Q : Type 0} → ℕ → Walk → JobPlan → Parts Q → Parts Q
+with_spool job walk plan p =
+    record p { spool = with_sets p.spool (sets_of job plan.message_class (walk.course.lines ++ line.End ∷ []) walk.course.own.outputs) }
+
+-- And then it gave back what it had.
+pub record IsEnded {Q : Type 0} (queue_of : Q → RecordQueue) (job : ℕ) (walk : Walk) (plan : JobPlan) (old new : Parts Q) : Type 0 where
+  pub back : GivesBack queue_of job (with_spool job walk plan old) new
+  pub released : (c : Config) → c.layout ≡ (queue_of old.queue).layout → IsReleased queue_of c job (with_spool job walk plan old) new

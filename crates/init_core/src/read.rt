@@ -1,0 +1,92 @@
+//! A selected job's records are read: BROKEN, or its names at once.
+ghost use Rattle.std.specs.Prelude.{◌≡◌, ◌≢◌, IfErr, IfOk, OnErr, length};
+ghost use Rattle.enq_core.specs.Holds.{HoldsNone};
+ghost use Rattle.cb_meaning.specs.Layouts.{HasOwnFields};
+ghost use Rattle.init_core.specs.Finding.{IsFound};
+ghost use Rattle.init_core.specs.Going.{Went};
+ghost use Rattle.init_core.specs.Running.{IsGood, config_of};
+ghost use Rattle.init_core.specs.declared.running.Stage.TheVariants as stage;
+
+use crate::names::want;
+use crate::running::{Profile, Progress, Running, Stage};
+use admit_core::read::{Read, read_job};
+use admit_core::wants::wants_of;
+use cb_queue::store::RecordStore;
+use enq_core::table::Want;
+use jcl_plan::entry::JobLine;
+use jcl_plan::plan::JobPlan;
+use machine_core::over::release_unnamed;
+use machine_core::parts::Parts;
+use plain::listed::Listed;
+use std::alloc::{AllocError, Global};
+use turn_core::walk::Walk;
+
+/// What a job's records say, with the names that it wants.
+#[derive(Debug, Drop)]
+enum Found {
+    Broken(u8),
+    Job(JobPlan, Listed<Want>),
+}
+
+/// Reads the records of a job. More unit names than two bytes count are answered as want of memory.
+fn find<Q: RecordStore>(
+    alloc: Global,
+    queue: &Q,
+    profile: &Profile<'_>,
+    job: u16,
+    first: u32,
+) -> Result<Found, AllocError>
+    requires { HasOwnFields (Q.queue queue.now).layout }
+    ensures { IfOk result (IsFound (Q.queue queue.now) (length profile.now.units.now) job first) }
+{
+    let Ok(units) = u16::try_from(profile.units.len()) else {
+        return Err(AllocError);
+    };
+    match read_job(alloc, queue, units, job, first)? {
+        Read::Broken(fault) => Ok(Found::Broken(fault)),
+        Read::Plan(plan) => {
+            let wants = wants_of(alloc, &plan)?;
+            Ok(Found::Job(plan, wants))
+        }
+    }
+}
+
+fn selected(job: u16, walk: Walk, first: u32) -> Running
+    ensures { result ≡ record { job = job; walk = walk; stage = stage.Selected first } }
+{
+    Running {
+        job,
+        walk,
+        stage: Stage::Selected { first },
+    }
+}
+
+/// A selected job's turn. Where memory is wanting the job is given back as it was, and nothing has changed.
+pub(crate) fn read<Q: RecordStore>(
+    alloc: Global,
+    parts: &mut Parts<Q>,
+    profile: &Profile<'_>,
+    job: u16,
+    walk: Walk,
+    first: u32,
+) -> Result<Progress, Running>
+    requires some { job ≢ 0 }
+    requires none { HoldsNone parts.old.names job }
+    requires good { IsGood Q.queue (config_of profile.now (Q.queue parts.old.queue).layout) parts.old }
+    ensures ok { IfOk result (Went Q.queue (config_of profile.now (Q.queue parts.old.queue).layout) parts.old
+        (record { job = job; walk = walk; stage = stage.Selected first }) parts.new) }
+    ensures err { IfErr result (λ r. r ≡ record { job = job; walk = walk; stage = stage.Selected first }) }
+    ensures same { OnErr result (parts.new ≡ parts.old) }
+{
+    match find(alloc, &parts.queue, profile, job, first) {
+        Ok(Found::Broken(fault)) => {
+            release_unnamed(parts, job);
+            Ok(Progress::Over(JobLine::Broken(fault)))
+        }
+        Ok(Found::Job(plan, wants)) => match want(parts, job, walk, plan, wants) {
+            Ok(came) => Ok(came),
+            Err((walk, _, _)) => Err(selected(job, walk, first)),
+        },
+        Err(_) => Err(selected(job, walk, first)),
+    }
+}

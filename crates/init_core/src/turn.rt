@@ -1,0 +1,214 @@
+//! A turn of an admitted job: its actions up to the first that writes, or its end.
+ghost use Rattle.std.specs.Prelude.{◌≡◌, ◌≢◌, false, IfErr, IfOk, IfSome, OnErr, OnOk, if◌then◌else◌};
+ghost use Rattle.jcl_plan.specs.declared.entry.JobLine.TheVariants as line;
+ghost use Rattle.prog_core.specs.Operations.{IsRoomFor, is_busy};
+ghost use Rattle.world_meaning.specs.Holdings.{cancels_without};
+ghost use Rattle.world_meaning.specs.Lenses.{seen};
+ghost use Rattle.shared_core.specs.Shown.{world_of};
+ghost use Rattle.shared_core.specs.Tracks.{NothingKept};
+ghost use Rattle.disp_core.specs.Courses.{fixed_by};
+ghost use Rattle.admission_core.specs.Admitted.{fixed_for};
+ghost use Rattle.turn_core.specs.Standing.{Stands, TellsJob};
+ghost use Rattle.turn_core.specs.Turning.{acts, operations_by};
+ghost use Rattle.init_core.specs.Going.{Went};
+ghost use Rattle.init_core.specs.Running.{IsAt, IsGood, config_of};
+ghost use Rattle.init_core.specs.Turning.{IsAsBefore, IsEnded, IsSameStore, IsWritten, around_in};
+ghost use Rattle.init_core.specs.declared.running.Progress.TheVariants as progress;
+ghost use Rattle.init_core.specs.declared.running.Stage.TheVariants as stage;
+
+use crate::running::{Profile, Progress, Running, Stage};
+use admission_core::admission::Admission;
+use admission_core::sets::names_none;
+use admit_core::cancels::Cancels;
+use cb_queue::store::RecordStore;
+use disp_core::course::Given;
+use enq_core::table::Held;
+use jcl_plan::entry::JobLine;
+use jcl_plan::plan::JobPlan;
+use machine_core::over::release;
+use machine_core::parts::Parts;
+use prog_core::units::{Units, operations_are_apart};
+use shared_core::laws::{nothing_kept_stays, sets_of_others_stay, tracks_are_conserved};
+use shared_core::store::SharedStore;
+use shared_core::sums::volumes_add_up;
+use std::alloc::{AllocError, Global};
+use turn_core::laws::{acts_advance, ends_advance, few_lines, none_refused, waits_advance};
+use turn_core::turn::turn;
+use turn_core::walk::{Acted, Turned, Walk};
+
+/// What is fixed for an admitted job.
+fn given<'a>(profile: &Profile<'a>, plan: &'a JobPlan, admission: &'a Admission) -> Given<'a>
+    ensures { fixed_by result ≡ fixed_for profile.now.volumes.now plan.now admission.now }
+{
+    Given {
+        job_tests: plan.tests.as_slice(),
+        volumes: profile.volumes,
+        places: admission.places.as_slice(),
+        meanings: admission.meanings.as_slice(),
+        date: admission.date,
+    }
+}
+
+/// Its actions up to the first that writes. Where none did, and on an `Err`, all is as it was.
+fn take_turn(
+    alloc: Global,
+    profile: &Profile<'_>,
+    store: &mut SharedStore,
+    units: &Units,
+    job: u16,
+    plan: &JobPlan,
+    admission: &Admission,
+    walk: &mut Walk,
+    cancelled: bool,
+) -> Result<Turned, AllocError>
+    requires stands { Stands plan.now profile.now.programs.now walk.old.todo }
+    requires kept { NothingKept store.old }
+    ensures ok { IfOk result (TellsJob (around_in profile.now units.now job plan.now admission.now cancelled store.old) plan.now
+        (seen job (world_of store.old)) walk.old (seen job (world_of store.new)) walk.new) }
+    ensures written { IsWritten job store.old store.new }
+    ensures same { IfOk result (λ told. acts told ≡ false → IsSameStore store.old store.new × (walk.new ≡ walk.old)) }
+    ensures err { OnErr result (IsSameStore store.old store.new × (walk.new ≡ walk.old)) }
+{
+    sets_of_others_stay();
+    nothing_kept_stays();
+    tracks_are_conserved();
+    volumes_add_up(&*store);
+    let given = given(profile, plan, admission);
+    let told = turn(
+        alloc,
+        plan,
+        profile.programs,
+        store,
+        units,
+        job,
+        &given,
+        walk,
+        cancelled,
+    );
+    volumes_add_up(&*store);
+    told
+}
+
+/// What an action that wrote leaves of the operations and the cancels.
+fn enter_acted(units: &mut Units, cancels: &mut Cancels, job: u16, acted: &Acted)
+    requires room { IfSome acted.now.starts (IsRoomFor units.old) }
+    requires idle { is_busy units.old acted.now.starts ≡ false }
+    ensures units { units.new ≡ operations_by units.old job acted.now.starts acted.now.cancelled }
+    ensures cancels { cancels.new ≡ if acted.now.cancelled then cancels_without cancels.old job else cancels.old }
+{
+    match acted.starts {
+        Some(serial) => {
+            if units.start(serial, job).is_err() {
+                unreachable!();
+            }
+        }
+        None => {
+            if acted.cancelled {
+                units.abandon(job);
+            }
+        }
+    }
+    if acted.cancelled {
+        cancels.remove(job);
+    }
+}
+
+fn admitted(job: u16, walk: Walk, plan: JobPlan, held: Held, admission: Admission) -> Running
+    ensures { result ≡ record { job = job; walk = walk; stage = stage.Admitted plan held admission } }
+{
+    Running {
+        job,
+        walk,
+        stage: Stage::Admitted {
+            plan,
+            held,
+            admission,
+        },
+    }
+}
+
+/// END: the writers have what the job wrote, and what it held is given back. Where memory is wanting the job is given back as it was, and nothing has changed.
+fn end<Q: RecordStore>(
+    parts: &mut Parts<Q>,
+    job: u16,
+    mut walk: Walk,
+    plan: JobPlan,
+    held: Held,
+    admission: Admission,
+) -> Result<Progress, Running>
+    requires some { job ≢ 0 }
+    requires its_own { held ≡ job }
+    ensures over { IfOk result (λ came. came ≡ progress.Over line.End) }
+    ensures ok { OnOk result (IsEnded Q.queue job walk plan parts.old parts.new) }
+    ensures err { IfErr result (λ r. r ≡ record { job = job; walk = walk; stage = stage.Admitted plan held admission }) }
+    ensures same { OnErr result (parts.new ≡ parts.old) }
+{
+    match parts.spool.enter(
+        job,
+        plan.message_class,
+        &mut walk.course.lines,
+        JobLine::End,
+        &mut walk.course.own.outputs,
+    ) {
+        Ok(()) => {
+            release(parts, job, held);
+            Ok(Progress::Over(JobLine::End))
+        }
+        Err(_) => Err(admitted(job, walk, plan, held, admission)),
+    }
+}
+
+/// A turn of an admitted job. Where memory is wanting the job is given back as it was, and nothing has changed.
+pub(crate) fn advance<Q: RecordStore>(
+    alloc: Global,
+    parts: &mut Parts<Q>,
+    profile: &Profile<'_>,
+    job: u16,
+    mut walk: Walk,
+    plan: JobPlan,
+    held: Held,
+    admission: Admission,
+) -> Result<Progress, Running>
+    requires some { job ≢ 0 }
+    requires at { IsAt (config_of profile.now (Q.queue parts.old.queue).layout) parts.old.names job walk (stage.Admitted plan held admission) }
+    requires good { IsGood Q.queue (config_of profile.now (Q.queue parts.old.queue).layout) parts.old }
+    ensures ok { IfOk result (Went Q.queue (config_of profile.now (Q.queue parts.old.queue).layout) parts.old
+        (record { job = job; walk = walk; stage = stage.Admitted plan held admission }) parts.new) }
+    ensures err { IfErr result (λ r. r ≡ record { job = job; walk = walk; stage = stage.Admitted plan held admission }) }
+    ensures same { OnErr result (IsAsBefore Q.queue (config_of profile.now (Q.queue parts.old.queue).layout) parts.old parts.new) }
+{
+    waits_advance();
+    acts_advance();
+    ends_advance();
+    few_lines();
+    none_refused();
+    names_none();
+    operations_are_apart(&parts.units);
+    let from = walk.course.lines.len();
+    let cancelled = parts.cancels.has(job);
+    match take_turn(
+        alloc,
+        profile,
+        &mut parts.store,
+        &parts.units,
+        job,
+        &plan,
+        &admission,
+        &mut walk,
+        cancelled,
+    ) {
+        Ok(Turned::Waits) => Ok(Progress::GoesOn {
+            job: admitted(job, walk, plan, held, admission),
+            from,
+        }),
+        Ok(Turned::Acts(acted)) => {
+            enter_acted(&mut parts.units, &mut parts.cancels, job, &acted);
+            Ok(Progress::GoesOn {
+                job: admitted(job, walk, plan, held, admission),
+                from,
+            })
+        }
+        Ok(Turned::Ends) => end(parts, job, walk, plan, held, admission),
+        Err(_) => Err(admitted(job, walk, plan, held, admission)),
+    }
+}

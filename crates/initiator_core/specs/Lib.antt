@@ -1,6 +1,0 @@
-pub mod Running
-pub mod Finding
-pub mod Naming
-pub mod Going
-pub mod Turning
-pub mod Deciding

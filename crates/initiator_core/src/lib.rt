@@ -1,9 +1,0 @@
-//! What an initiator does with its job, turn by turn. (This profile)
-#![tactic(auto)]
-
-pub mod admission;
-pub mod go_on;
-pub mod names;
-pub mod read;
-pub mod running;
-pub mod turn;

@@ -1,0 +1,290 @@
+-- What happens at an event is a case of the table.
+use Rattle.std.proofs.Common.{◌≡◌, ◌≢◌, ◌≤◌, ◌<◌, ◌+◌, ℕ, zero, suc, Bool, true, false, is_some, List, [], ◌∷◌, ◌++◌, All, map, Option, Some, None, slice_get, refl, sym, ap, ◌∙◌, subst, arith}
+use Rattle.std.specs.Option.{option_map}
+use Rattle.std.specs.Prelude.{Result, Ok, Err, IfOk, get_or}
+use Rattle.std.proofs.lemmas.Option.{get_or_from_slice_get}
+use Rattle.std.proofs.lemmas.List.Elements.{All-head, All-map, All-tail}
+use Rattle.cb_queue.specs.RecordQueues.{RecordQueue}
+use Rattle.input_core.specs.declared.event.Event.{Event}
+use Rattle.input_core.specs.declared.event.Event.TheVariants as input
+use Rattle.jcl_plan.specs.declared.entry.Entry.{Entry}
+use Rattle.jcl_plan.specs.declared.entry.Entry.TheVariants as entry
+use Rattle.jcl_plan.specs.declared.entry.JobLine.{JobLine}
+use Rattle.jcl_plan.specs.declared.fault.Cause.{Cause}
+use Rattle.jcl_plan.specs.declared.fault.Cause.TheVariants.{A}
+use Rattle.jcl_plan.specs.declared.fault.EventFault.TheVariants.{NoSuchInitiator, PastLimit}
+use Rattle.machine_meaning.specs.declared.machine.TheConstants.{MOST_EVENTS}
+use Rattle.run_laws.specs.Soundness.{IsSound, SoundnessIsKept}
+use Rattle.world_meaning.specs.declared.event.Event as meant
+use Rattle.world_meaning.specs.Readings.{Denoting}
+use Rattle.world_meaning.specs.Selections.{Selects}
+use Rattle.world_meaning.specs.Selections as selecting
+use Rattle.world_meaning.specs.Starts.{Differ}
+use Rattle.world_meaning.specs.Devices.{Writes, nothing_written, wrote}
+use Rattle.world_meaning.specs.Displays.{queue_line, volume_line}
+use Rattle.world_meaning.specs.Transitions.{Acts, Does, Shows, Transition, Turns, acts, past, shown, taken, unknown}
+use Rattle.world_meaning.specs.Worlds as world
+use Rattle.world_meaning.specs.Worlds.{Config, HasNoInitiator, IsAt, World, counted, of_job}
+use Rattle.world_meaning.proofs.Following.{unopened}
+use Rattle.init_core.specs.Running.{shown_running}
+use Rattle.init_core.specs.declared.running.Running.{Running}
+use Rattle.world_laws.proofs.Beside.{one_there}
+use Rattle.sched_core.specs.Events.{ActsAt, Answers, LeadsTo, RefusesFirst, SelectsAt}
+use Rattle.sched_core.specs.Going.{IsDecidedAt}
+use Rattle.sched_core.specs.Happening.{HasDecided, HasDecidedAt, IsSeat}
+use Rattle.sched_core.specs.Machines.{RunsIn, shown_initiator, world_in}
+use Rattle.sched_core.specs.declared.fault.ApplyFault.{ApplyFault}
+use Rattle.sched_core.specs.declared.fault.ApplyFault.TheVariants.{Memory, Refused}
+use Rattle.sched_core.specs.declared.state.Initiator.{Initiator}
+use Rattle.sched_core.specs.declared.state.State.{State}
+use Rattle.sched_core.specs.Fits.{IsFit, IsKept}
+use Rattle.sched_core.proofs.Counting.{fit_at}
+use Rattle.sched_core.proofs.Seats.{shown_at}
+
+-- no turn of a job, and no selection, writes a refusal
+no_job_line : (cause : Cause) (job : ℕ) (lines : List JobLine) → entry.Refused cause ∷ [] ≡ of_job job lines → ⊥
+no_job_line cause job [] e = absurd cc
+no_job_line cause job (line ∷ lines) e = absurd cc
+
+never_acts : (old new : World) (place : ℕ) (x : world.Initiator) (o : Option world.Running) (cause : Cause) → Acts old place x o (entry.Refused cause ∷ []) new → ⊥
+never_acts old new place x None cause (selecting.nothing none told same) = absurd cc
+never_acts old new place x None cause (selecting.selected w first told leaves) = absurd cc
+never_acts old new place x (Some r) cause g = no_job_line cause r.job g.job_lines g.told
+
+-- initiators of one number are at one place
+no_other : (ns : List ℕ) (n k : ℕ) → All (λ m. n ≢ m) ns → slice_get ns k ≡ Some n → ⊥
+no_other [] n k all e = absurd cc
+no_other (m ∷ ns) n zero all e = let is : m ≡ n = cc in All-head (λ m. n ≢ m) m ns all (sym is)
+no_other (m ∷ ns) n (suc k) all e = no_other ns n k (All-tail (λ m. n ≢ m) m ns all) e
+
+same_place : (ns : List ℕ) (j k n : ℕ) → Differ ns → slice_get ns j ≡ Some n → slice_get ns k ≡ Some n → j ≡ k
+same_place [] j k n d e f = absurd cc
+same_place (m ∷ ns) zero zero n d e f = refl
+same_place (m ∷ ns) zero (suc k) n d e f = let is : m ≡ n = cc in absurd (no_other ns m k d.0 (f ∙ ap Some (sym is)))
+same_place (m ∷ ns) (suc j) zero n d e f = let is : m ≡ n = cc in absurd (no_other ns m j d.0 (e ∙ ap Some (sym is)))
+same_place (m ∷ ns) (suc j) (suc k) n d e f = ap suc (same_place ns j k n d.1 e f)
+
+number_at : (c : Config) (xs : List Initiator) (k : ℕ) (x : Initiator) → slice_get xs k ≡ Some x →
+    slice_get (map (λ (y : world.Initiator). y.number) (map (shown_initiator c) xs)) k ≡ Some x.number
+number_at c [] k x e = absurd cc
+number_at c (y ∷ xs) zero x e = let is : y ≡ x = cc in ap (λ (z : Initiator). Some z.number) is
+number_at c (y ∷ xs) (suc k) x e = number_at c xs k x e
+
+seats_apart : (number place : ℕ) (xs : List Initiator) (x : Initiator) → slice_get xs place ≡ Some x → x.number ≡ number → All (λ (y : Initiator). y.number ≢ number) xs → ⊥
+seats_apart number place [] x at is all = absurd cc
+seats_apart number zero (y ∷ xs) x at is all =
+    let same : y ≡ x = cc in All-head (λ (z : Initiator). z.number ≢ number) y xs all (ap (λ (z : Initiator). z.number) same ∙ is)
+seats_apart number (suc place) (y ∷ xs) x at is all = seats_apart number place xs x at is (All-tail (λ (z : Initiator). z.number ≢ number) y xs all)
+
+module _ {Q : Type 0} (queue_of : Q → RecordQueue) (c : Config) (s : State Q) (number : ℕ) where
+  abbrev pub w : World
+  w = world_in queue_of c s
+
+  pub nobody : All (λ (x : Initiator). x.number ≢ number) s.initiators.items → HasNoInitiator w number
+  nobody all = All-map (λ (x : world.Initiator). x.number ≢ number) (shown_initiator c) s.initiators.items all
+
+  pub refused : All (λ (x : Initiator). x.number ≢ number) s.initiators.items → Turns w number (entry.Refused (A NoSuchInitiator) ∷ []) w
+  refused all = unknown (nobody all) refl refl
+
+  by_unknown : (cause : Cause) → entry.Refused cause ∷ [] ≡ entry.Refused (A NoSuchInitiator) ∷ [] → cause ≡ A NoSuchInitiator
+  by_unknown cause e = cc
+
+  pub refused_first : (result : Result (List Entry) ApplyFault) → result ≡ Err (Refused (A NoSuchInitiator)) → RefusesFirst result (Turns w number)
+  refused_first result is cause new (unknown none told same) = is ∙ ap (λ x. Err (Refused x)) (sym (by_unknown cause told))
+  refused_first result is cause new (acts place x at numbered does) = absurd (never_acts w new place x x.running cause does)
+
+  module _ (place : ℕ) (seat : IsSeat s.initiators.items number place) where
+    pub turned : (lines : List Entry) (new : World) → LeadsTo (ActsAt w place lines) new → LeadsTo (Turns w number lines) new
+    turned lines new l = record {
+      middle = l.middle;
+      does_so = acts place (shown_initiator c seat.it) (shown_at c s.initiators.items place seat.it seat.at) seat.numbered
+          (l.does_so (shown_initiator c seat.it) (shown_at c s.initiators.items place seat.it seat.at));
+      reopened = l.reopened;
+      rest = l.rest;
+    }
+
+    there : (none : HasNoInitiator w number) → ⊥
+    there none = no_number s.initiators.items place seat.it seat.at seat.numbered none
+      where
+        no_number : (xs : List Initiator) (k : ℕ) (x : Initiator) → slice_get xs k ≡ Some x → x.number ≡ number →
+            All (λ (y : world.Initiator). y.number ≢ number) (map (shown_initiator c) xs) → ⊥
+        no_number [] k x at is all = absurd cc
+        no_number (y ∷ xs) zero x at is all =
+            let same : y ≡ x = cc in
+            All-head (λ (z : world.Initiator). z.number ≢ number) (shown_initiator c y) (map (shown_initiator c) xs) all (ap (λ (z : Initiator). z.number) same ∙ is)
+        no_number (y ∷ xs) (suc k) x at is all =
+            no_number xs k x at is (All-tail (λ (z : world.Initiator). z.number ≢ number) (shown_initiator c y) (map (shown_initiator c) xs) all)
+
+    pub never_refused : (result : Result (List Entry) ApplyFault) → RefusesFirst result (Turns w number)
+    never_refused result cause new (unknown none told same) = absurd (there none)
+    never_refused result cause new (acts at x is numbered does) = absurd (never_acts w new at x x.running cause does)
+
+    pub only_there : IsSound w → (other : ℕ) (r : Running) (h : RunsIn s.initiators.items other r) → h.it.number ≡ number → other ≡ place
+    only_there sound other r h is =
+        same_place (map (λ (y : world.Initiator). y.number) w.initiators) other place number sound.initiators
+        (number_at c s.initiators.items other h.it h.at ∙ ap Some is) (number_at c s.initiators.items place seat.it seat.at ∙ ap Some seat.numbered)
+
+    pub idle_decides : IsSound w → seat.it.running ≡ None → (lines : List Entry) → HasDecided queue_of c s number lines
+    idle_decides sound idle lines other r h is =
+        let same : Some h.it ≡ Some seat.it = sym h.at ∙ (ap (slice_get s.initiators.items) (only_there sound other r h is) ∙ seat.at) in
+        let one : h.it ≡ seat.it = cc in
+        let none : Some r ≡ None = sym h.running ∙ (ap (λ (z : Initiator). z.running) one ∙ idle) in
+        absurd cc
+
+    pub job_decides : IsSound w → (lines : List Entry) → IsDecidedAt queue_of c s place lines → HasDecided queue_of c s number lines
+    job_decides sound lines d other r h is = subst (λ p. IsDecidedAt queue_of c s p lines) (sym (only_there sound other r h is)) d
+
+    -- the answer of a turn
+    pub turn_answer : (result : Result (List Entry) ApplyFault) (new : World) → Answers result w new (ActsAt w place) → ((cause : Cause) → result ≢ Err (Refused cause)) →
+        Answers result w new (Turns w number)
+    turn_answer (Ok lines) new h never = turned lines new h
+    turn_answer (Err (Refused cause)) new h never = absurd (never cause refl)
+    turn_answer (Err Memory) new h never = h
+
+    acts_so : (idle : seat.it.running ≡ None) (lines : List Entry) (new : World) → LeadsTo (SelectsAt w place lines) new → LeadsTo (ActsAt w place lines) new
+    acts_so idle lines new l = record {
+      middle = l.middle;
+      does_so = λ x at. subst (λ (y : world.Initiator). Acts w place y y.running lines l.middle)
+          (one_there w.initiators place place (shown_initiator c seat.it) x refl (shown_at c s.initiators.items place seat.it seat.at) at)
+          (subst (λ o. Acts w place (shown_initiator c seat.it) o lines l.middle) (sym (ap (option_map (shown_running c)) idle))
+          (l.does_so (shown_initiator c seat.it) (shown_at c s.initiators.items place seat.it seat.at)));
+      reopened = l.reopened;
+      rest = l.rest;
+    }
+
+    pub selects_acts : seat.it.running ≡ None → (result : Result (List Entry) ApplyFault) (new : World) → Answers result w new (SelectsAt w place) →
+        ((cause : Cause) → result ≢ Err (Refused cause)) → Answers result w new (ActsAt w place)
+    selects_acts idle (Ok lines) new h never = acts_so idle lines new h
+    selects_acts idle (Err (Refused cause)) new h never = absurd (never cause refl)
+    selects_acts idle (Err Memory) new h never = h
+
+    pub job_decided : IsSound w → (result : Result (List Entry) ApplyFault) → IfOk result (IsDecidedAt queue_of c s place) → IfOk result (HasDecided queue_of c s number)
+    job_decided sound (Ok lines) h = job_decides sound lines h
+    job_decided sound (Err fault) h = tt
+
+    pub idle_decided : IsSound w → seat.it.running ≡ None → (result : Result (List Entry) ApplyFault) → IfOk result (HasDecided queue_of c s number)
+    idle_decided sound idle (Ok lines) = idle_decides sound idle lines
+    idle_decided sound idle (Err fault) = tt
+
+-- who is at a seat that was looked at
+some_of : (o : Option Running) (b : Bool) → b ≡ is_some o → b ≡ true → (r : Running) × (o ≡ Some r)
+some_of None b e t = let no : true ≡ false = sym t ∙ e in absurd cc
+some_of (Some r) b e t = (r, refl)
+
+none_of : (o : Option Running) (b : Bool) → b ≡ is_some o → b ≡ false → o ≡ None
+none_of None b e t = refl
+none_of (Some r) b e t = let no : false ≡ true = sym t ∙ e in absurd cc
+
+module _ (xs : List Initiator) (number place : ℕ) (seat : IsSeat xs number place) (x : Initiator) (is : x ≡ get_or xs place x) (b : Bool) (busy : b ≡ is_some x.running) where
+  its : x ≡ seat.it
+  its = is ∙ get_or_from_slice_get xs place seat.it x seat.at
+
+  pub seat_runs : b ≡ true → (r : Running) × RunsIn xs place r
+  seat_runs t =
+      let (r, e) = some_of seat.it.running b (busy ∙ ap (λ (z : Initiator). is_some z.running) its) t in
+      (r, record { it = seat.it; at = seat.at; running = e })
+
+  pub seat_idle : b ≡ false → seat.it.running ≡ None
+  seat_idle f = none_of seat.it.running b (busy ∙ ap (λ (z : Initiator). is_some z.running) its) f
+
+-- an event that was counted
+module _ (job_of : Denoting) (e : meant.Event) (old new : World) (few : old.events < MOST_EVENTS) where
+  happened : (lines : List Entry) → LeadsTo (Does job_of (counted old) e lines) new → Transition job_of old e lines new
+  happened lines l = taken few (record { middle = l.middle; does = l.does_so; reopened = l.reopened; rest = l.rest })
+
+  refused_so : (cause : Cause) → Does job_of (counted old) e (entry.Refused cause ∷ []) (counted old) → new ≡ counted old →
+      Transition job_of old e (entry.Refused cause ∷ []) new
+  refused_so cause does same = subst (Transition job_of old e (entry.Refused cause ∷ [])) (sym same) (taken few (record {
+    middle = counted old;
+    does = does;
+    reopened = unopened old.config.layout old.shared;
+    rest = refl;
+  }))
+
+  pub done : (lines : List Entry) → LeadsTo (Does job_of (counted old) e lines) new → Transition job_of old e lines new
+  done = happened
+
+  pub refuses : (cause : Cause) → Does job_of (counted old) e (entry.Refused cause ∷ []) (counted old) × (new ≡ counted old) →
+      Transition job_of old e (entry.Refused cause ∷ []) new × (new ≡ record old { events = new.events })
+  refuses cause h = (
+    refused_so cause h.0 h.1,
+    h.1 ∙ (λ i. record old { events = sym (ap (λ (w : World). w.events) h.1) i }),
+  )
+
+pub refuses_first : (job_of : Denoting) (e : meant.Event) (old : World) (result : Result (List Entry) ApplyFault) → old.events < MOST_EVENTS →
+    RefusesFirst result (Does job_of (counted old) e) → RefusesFirst result (Transition job_of old e)
+refuses_first job_of e old result few first cause new (past many told same) = absurd (omega (arith, few, many))
+refuses_first job_of e old result few first cause new (taken few_too h) = first cause h.middle h.does
+
+past_cause : (cause : Cause) → entry.Refused cause ∷ [] ≡ entry.Refused (A PastLimit) ∷ [] → cause ≡ A PastLimit
+past_cause cause e = cc
+
+pub past_first : (job_of : Denoting) (e : meant.Event) (old : World) (result : Result (List Entry) ApplyFault) → MOST_EVENTS ≤ old.events →
+    result ≡ Err (Refused (A PastLimit)) → RefusesFirst result (Transition job_of old e)
+past_first job_of e old result many is cause new (past more told same) = is ∙ ap (λ x. Err (Refused x)) (sym (past_cause cause told))
+past_first job_of e old result many is cause new (taken few h) = absurd (omega (arith, few, many))
+
+-- what was decided does not depend on the count of events
+pub decided_before : {Q : Type 0} (queue_of : Q → RecordQueue) (c : Config) (s : State Q) (n : ℕ) (e : Event) (lines : List Entry) →
+    HasDecidedAt queue_of c (record s { events = n }) e lines → HasDecidedAt queue_of c s e lines
+decided_before queue_of c s n (input.Read deck) lines h = tt
+decided_before queue_of c s n (input.Turn number) lines h = λ place r at is. let d = h place r at is in
+    record { running = d.running; runs = d.runs; came = d.came; told = d.told; decides = d.decides }
+decided_before queue_of c s n (input.DeviceEnd serial) lines h = tt
+decided_before queue_of c s n (input.Write class) lines h = tt
+decided_before queue_of c s n (input.Cancel job) lines h = tt
+decided_before queue_of c s n input.Display lines h = tt
+
+-- what no event writes that cannot be refused
+pub writes_never : (v : World) (class : ℕ) (cause : Cause) (new : World) → Writes v class (entry.Refused cause ∷ []) new → ⊥
+writes_never v class cause new (nothing_written n l s) = absurd cc
+writes_never v class cause new (wrote job line left t l s) = absurd cc
+
+no_volume_line : (v : World) (volumes : List (List ℕ)) (cause : Cause) → entry.Refused cause ∷ [] ≡ map (volume_line v.shared) volumes ++ queue_line v ∷ [] → ⊥
+no_volume_line v [] cause e = absurd cc
+no_volume_line v (serial ∷ volumes) cause e = absurd cc
+
+pub shows_never : (v : World) (cause : Cause) (new : World) → Shows v (entry.Refused cause ∷ []) new → ⊥
+shows_never v cause new (shown l s) = no_volume_line v v.config.volumes cause l
+
+pub never_so : (does : List Entry → World → Type 0) (result : Result (List Entry) ApplyFault) → ((cause : Cause) (new : World) → does (entry.Refused cause ∷ []) new → ⊥) →
+    RefusesFirst result does
+never_so does result never cause new h = absurd (never cause new h)
+
+pub no_decision : (result : Result (List Entry) ApplyFault) → IfOk result (λ lines. Unit {0})
+no_decision (Ok lines) = tt
+no_decision (Err fault) = tt
+
+-- one event more, and what it leaves
+module _ {Q : Type 0} (queue_of : Q → RecordQueue) (c : Config) (s : State Q) (kept : IsKept queue_of c s) (job_of : Denoting) (e : meant.Event) where
+  abbrev pub first : World
+  first = world_in queue_of c s
+
+  module _ (few : s.events < MOST_EVENTS) (law : SoundnessIsKept) (after : State Q) (fit : IsFit queue_of c after) where
+    abbrev pub then : World
+    then = world_in queue_of c after
+
+    pub kept_done : (lines : List Entry) → LeadsTo (Does job_of (counted first) e lines) then → IsKept queue_of c after
+    kept_done lines l = record { sound = law job_of first then e lines kept.sound (done job_of e first then few lines l); fit = fit }
+
+    pub kept_refused : (cause : Cause) → Does job_of (counted first) e (entry.Refused cause ∷ []) (counted first) × (then ≡ counted first) → IsKept queue_of c after
+    kept_refused cause h = record {
+      sound = law job_of first then e (entry.Refused cause ∷ []) kept.sound (refuses job_of e first then few cause h).0;
+      fit = fit;
+    }
+
+    -- the count is taken back
+    pub as_before : (n : ℕ) → n ≡ s.events → then ≡ counted first → world_in queue_of c (record after { events = n }) ≡ first
+    as_before n same is = λ i. record (is i) { events = same i }
+
+    pub kept_before : (n : ℕ) → n ≡ s.events → then ≡ counted first → IsKept queue_of c (record after { events = n })
+    kept_before n same is = record {
+      sound = subst IsSound (sym (as_before n same is)) kept.sound;
+      fit = fit_at queue_of c after n (subst (λ k. k ≤ MOST_EVENTS) (sym same) kept.fit.few_events) fit;
+    }
+
+    pub events_back : then ≡ counted first → after.events ≡ s.events + 1
+    events_back is = ap (λ (w : World). w.events) is
+
+  pub past_so : MOST_EVENTS ≤ s.events → Transition job_of first e (entry.Refused (A PastLimit) ∷ []) first
+  past_so many = past many refl refl

@@ -1,0 +1,26 @@
+use Rattle.std.proofs.Common.{refl}
+use Rattle.sched_core.specs.Machines.{config_in}
+use Rattle.sched_core.proofs.Turning.{fit, fit_before, leads}
+use Rattle.sched_core.proofs.going.go_on_at.Goals as goal
+
+pub turn_at-requires-clause-runs : goal.turn_at-requires-clause-runs
+turn_at-requires-clause-runs g c =
+    (c.requires.runs.0, c.requires.runs.1, c.requires.kept.fit.ready c.args.place c.requires.runs.0 c.requires.runs.1)
+
+pub returns-in-Ok-clause-answer : goal.returns-in-Ok-clause-answer
+returns-in-Ok-clause-answer g c =
+    let s = c.args.state.now in
+    leads g.Q.RecordStore.queue (config_in g.Q.RecordStore.queue c.args.profile.now s) s c.requires.kept c.args.place
+    (record s { parts = c.turn_at.new.parts; initiators = c.turn_at.new.initiators }) c.in-Ok.lines refl refl refl c.in-Ok.ensures.ok
+
+pub returns-in-Ok-clause-fit : goal.returns-in-Ok-clause-fit
+returns-in-Ok-clause-fit g c =
+    let s = c.args.state.now in
+    fit g.Q.RecordStore.queue (config_in g.Q.RecordStore.queue c.args.profile.now s) s c.requires.kept c.args.place
+    (record s { parts = c.turn_at.new.parts; initiators = c.turn_at.new.initiators }) c.in-Ok.lines refl refl refl c.in-Ok.ensures.ok
+
+pub returns-in-Err-clause-fit : goal.returns-in-Err-clause-fit
+returns-in-Err-clause-fit g c =
+    let s = c.args.state.now in
+    fit_before g.Q.RecordStore.queue (config_in g.Q.RecordStore.queue c.args.profile.now s) s c.requires.kept c.turn_at.new.parts c.in-Err.ensures.err.0
+    (record s { parts = c.turn_at.new.parts; initiators = c.turn_at.new.initiators }) refl c.in-Err.ensures.err.1 refl refl refl

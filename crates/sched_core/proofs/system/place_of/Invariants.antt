@@ -1,5 +1,0 @@
-use Rattle.std.proofs.Common.{◌≢◌, All, take}
-use Rattle.sched_core.proofs.system.place_of.Given as goal
-
-abbrev pub invariant-loop-place : goal.invariant-loop-place
-invariant-loop-place l = All (λ x. x.number ≢ l.number) (take l.place l.initiators)

@@ -1,0 +1,143 @@
+//! An initiator goes on with its job.
+ghost use Rattle.std.specs.Prelude.{◌≡◌, ◌≢◌, ◌+◌, ◌≤◌, ◌++◌, [], All, Err, IfOk, None, OnErr, Some, length, slice_get, slice_set};
+ghost use Rattle.std.specs.Vec.{vec_capacity, vec_len};
+ghost use Rattle.jcl_plan.specs.declared.fault.Cause.{Cause};
+ghost use Rattle.world_meaning.specs.Worlds.{of_job};
+ghost use Rattle.init_core.specs.Running.{IsGood, IsReady, config_of};
+ghost use Rattle.init_core.specs.Turning.{IsAsBefore};
+ghost use Rattle.init_core.specs.declared.running.Running.{Running};
+ghost use Rattle.sched_core.specs.Copies.{unless_risk};
+ghost use Rattle.sched_core.specs.Events.{ActsAt, Answers};
+ghost use Rattle.sched_core.specs.Fits.{IsFit, IsKept};
+ghost use Rattle.sched_core.specs.Going.{IsDecidedAt, TurnsAt, TurnsJob};
+ghost use Rattle.sched_core.specs.Machines.{RunsIn, config_in, world_in};
+ghost use Rattle.sched_core.specs.declared.fault.ApplyFault.TheVariants.{Refused};
+
+use crate::copies::copied;
+use crate::fault::ApplyFault;
+use crate::seating::seat;
+use crate::state::{Initiator, State};
+use cb_queue::store::RecordStore;
+use init_core::go_on::go_on;
+use init_core::running::{Profile, Progress, Running};
+use jcl_plan::entry::{Entry, JobLine};
+use machine_core::parts::Parts;
+use plain::listed::Listed;
+use std::alloc::{AllocError, Global};
+use std::mem;
+
+/// A line that is no RISK.
+fn copied_line(line: &JobLine) -> JobLine
+    requires { unless_risk line.now ≡ Some line.now }
+    ensures { result ≡ line.now }
+{
+    match copied(line) {
+        Some(line) => line,
+        None => unreachable!(),
+    }
+}
+
+/// Puts lines of a job behind the entries, in the room that is there for them.
+fn tell(entries: &mut Vec<Entry>, job: u16, lines: &[JobLine])
+    requires room { vec_len entries.old + length lines.now ≤ vec_capacity entries.old }
+    requires no_risk { All (λ l. unless_risk l ≡ Some l) lines.now }
+    ensures { entries.new.items ≡ entries.old.items ++ of_job job lines.now }
+{
+    for line in lines {
+        entries.push_reserved(Entry::Job(job, copied_line(line)));
+    }
+}
+
+/// Room for the lines of a turn: one, or that of a fault and one for each DD that the step took.
+fn room_for(alloc: Global, running: &Running) -> Result<Vec<Entry>, AllocError>
+    ensures items { IfOk result (λ entries. (entries.items ≡ []) × (vec_len entries ≡ 0)) }
+    ensures room { IfOk result (λ entries. 1 + length running.now.walk.course.own.dds ≤ vec_capacity entries) }
+{
+    let Some(count) = running.walk.course.own.dds.len().checked_add(1) else {
+        return Err(AllocError);
+    };
+    Vec::with_capacity(alloc, count)
+}
+
+/// A turn of the job of an initiator. Where memory is wanting nothing that is shown has changed.
+fn turn_of<Q: RecordStore>(
+    alloc: Global,
+    parts: &mut Parts<Q>,
+    profile: &Profile<'_>,
+    x: &mut Initiator,
+) -> Result<Listed<Entry>, AllocError>
+    requires good { IsGood Q.queue (config_of profile.now (Q.queue parts.old.queue).layout) parts.old }
+    requires runs { (r : Running) × (x.old.running ≡ Some r) × IsReady (config_of profile.now (Q.queue parts.old.queue).layout) parts.old.names r }
+    ensures ok { IfOk result (TurnsJob Q.queue (config_of profile.now (Q.queue parts.old.queue).layout) parts.old x.old parts.new x.new) }
+    ensures err { OnErr result (IsAsBefore Q.queue (config_of profile.now (Q.queue parts.old.queue).layout) parts.old parts.new × (x.new ≡ x.old)) }
+{
+    let Some(running) = mem::replace(&mut x.running, None) else {
+        unreachable!();
+    };
+    let job = running.job;
+    let Ok(mut entries) = room_for(alloc, &running) else {
+        seat(x, Some(running));
+        return Err(AllocError);
+    };
+    match go_on(alloc, parts, profile, running) {
+        Ok(Progress::GoesOn { job: running, from }) => {
+            tell(&mut entries, job, running.lines_from(from));
+            seat(x, Some(running));
+            Ok(Listed::new(entries))
+        }
+        Ok(Progress::Over(line)) => {
+            tell(&mut entries, job, &[line]);
+            Ok(Listed::new(entries))
+        }
+        Err(running) => {
+            seat(x, Some(running));
+            Err(AllocError)
+        }
+    }
+}
+
+/// A turn of the job of the initiator at a place.
+fn turn_at<Q: RecordStore>(
+    alloc: Global,
+    parts: &mut Parts<Q>,
+    profile: &Profile<'_>,
+    initiators: &mut Vec<Initiator>,
+    place: usize,
+) -> Result<Listed<Entry>, AllocError>
+    requires good { IsGood Q.queue (config_of profile.now (Q.queue parts.old.queue).layout) parts.old }
+    requires runs { (r : Running) × RunsIn initiators.old.items place r × IsReady (config_of profile.now (Q.queue parts.old.queue).layout) parts.old.names r }
+    ensures ok { IfOk result (TurnsAt Q.queue (config_of profile.now (Q.queue parts.old.queue).layout) place parts.old initiators.old.items
+        parts.new initiators.new.items) }
+    ensures err { OnErr result (IsAsBefore Q.queue (config_of profile.now (Q.queue parts.old.queue).layout) parts.old parts.new
+        × (initiators.new.items ≡ initiators.old.items)) }
+{
+    let x = &mut initiators[place];
+    turn_of(alloc, parts, profile, x)
+}
+
+/// The initiator at a place goes on with its job.
+pub(crate) fn go_on_at<Q: RecordStore>(
+    alloc: Global,
+    state: &mut State<Q>,
+    profile: &Profile<'_>,
+    place: usize,
+) -> Result<Listed<Entry>, ApplyFault>
+    requires kept { IsKept Q.queue (config_in Q.queue profile.now state.old) state.old }
+    requires runs { (r : Running) × RunsIn state.old.initiators.items place r }
+    ensures answer { Answers result (world_in Q.queue (config_in Q.queue profile.now state.old) state.old)
+        (world_in Q.queue (config_in Q.queue profile.now state.old) state.new) (ActsAt (world_in Q.queue (config_in Q.queue profile.now state.old) state.old) place) }
+    ensures decided { IfOk result (IsDecidedAt Q.queue (config_in Q.queue profile.now state.old) state.old place) }
+    ensures never_refused { (cause : Cause) → result ≢ Err (Refused cause) }
+    ensures fit { IsFit Q.queue (config_in Q.queue profile.now state.old) state.new }
+{
+    match turn_at(
+        alloc,
+        &mut state.parts,
+        profile,
+        &mut state.initiators,
+        place,
+    ) {
+        Ok(lines) => Ok(lines),
+        Err(_) => Err(ApplyFault::Memory),
+    }
+}

@@ -1,0 +1,132 @@
+//! What happens at an event.
+ghost use Rattle.std.specs.Prelude.{◌≡◌, ◌≢◌, ◌+◌, ◌<◌, ◌≤◌, All, IfNone, IfOk, IfSome, length};
+ghost use Rattle.jcl_job.specs.Jobs.{job_of};
+ghost use Rattle.machine_meaning.specs.declared.machine.TheConstants.{MOST_EVENTS};
+ghost use Rattle.world_meaning.specs.Transitions.{Does, Transition, Turns};
+ghost use Rattle.sched_core.specs.Events.{Answers, RefusesFirst};
+ghost use Rattle.sched_core.specs.Fits.{IsFit, IsKept};
+ghost use Rattle.sched_core.specs.Happening.{HasDecided, HasDecidedAt, IsSeat};
+ghost use Rattle.sched_core.specs.Machines.{config_in, world_in};
+ghost use Rattle.sched_core.specs.Systems.{Applies, KeepsIfRefused, meant_by};
+
+use crate::cancelling::cancel;
+use crate::fault::ApplyFault;
+use crate::going::go_on_at;
+use crate::reading::read;
+use crate::selecting::select_at;
+use crate::showing::{display, end_device, write};
+use crate::state::{Initiator, State};
+use cb_queue::store::RecordStore;
+use init_core::running::Profile;
+use input_core::event::Event;
+use jcl_plan::entry::Entry;
+use jcl_plan::fault::{Cause, EventFault};
+use jcl_refs::units::UnitNames;
+use machine_meaning::machine::MOST_EVENTS;
+use plain::listed::Listed;
+use proc_library::library::ProcLibrary;
+use run_laws::soundness_is_kept;
+use std::alloc::Global;
+
+/// Where the initiator of a number is.
+fn place_of(initiators: &[Initiator], number: u8) -> Option<usize>
+    ensures some { IfSome result (IsSeat initiators.now number) }
+    ensures none { IfNone result (All (λ x. x.number ≢ number) initiators.now) }
+{
+    for (place, x) in initiators.iter().enumerate() {
+        if x.number == number {
+            return Some(place);
+        }
+    }
+    None
+}
+
+/// An initiator acts once.
+fn turn<Q: RecordStore>(
+    alloc: Global,
+    state: &mut State<Q>,
+    profile: &Profile<'_>,
+    number: u8,
+) -> Result<Listed<Entry>, ApplyFault>
+    requires { IsKept Q.queue (config_in Q.queue profile.now state.old) state.old }
+    ensures answer { Answers result (world_in Q.queue (config_in Q.queue profile.now state.old) state.old)
+        (world_in Q.queue (config_in Q.queue profile.now state.old) state.new)
+        (Turns (world_in Q.queue (config_in Q.queue profile.now state.old) state.old) number) }
+    ensures refusal { RefusesFirst result (Turns (world_in Q.queue (config_in Q.queue profile.now state.old) state.old) number) }
+    ensures decided { IfOk result (HasDecided Q.queue (config_in Q.queue profile.now state.old) state.old number) }
+    ensures fit { IsFit Q.queue (config_in Q.queue profile.now state.old) state.new }
+{
+    let Some(place) = place_of(state.initiators.as_slice(), number) else {
+        return Err(ApplyFault::Refused(Cause::A(EventFault::NoSuchInitiator)));
+    };
+    if state.initiators[place].running.is_some() {
+        go_on_at(alloc, state, profile, place)
+    } else {
+        select_at(alloc, state, profile, place)
+    }
+}
+
+/// An event that is not past the last.
+fn happen<Q: RecordStore>(
+    alloc: Global,
+    state: &mut State<Q>,
+    profile: &Profile<'_>,
+    units: &UnitNames,
+    library: &ProcLibrary,
+    event: &Event<'_>,
+) -> Result<Listed<Entry>, ApplyFault>
+    requires kept { IsKept Q.queue (config_in Q.queue profile.now state.old) state.old }
+    requires named { length units.now ≡ length profile.now.units.now }
+    ensures answer { Answers result (world_in Q.queue (config_in Q.queue profile.now state.old) state.old)
+        (world_in Q.queue (config_in Q.queue profile.now state.old) state.new)
+        (Does (job_of units.now library.now) (world_in Q.queue (config_in Q.queue profile.now state.old) state.old) (meant_by event.now)) }
+    ensures refusal { RefusesFirst result
+        (Does (job_of units.now library.now) (world_in Q.queue (config_in Q.queue profile.now state.old) state.old) (meant_by event.now)) }
+    ensures decided { IfOk result (HasDecidedAt Q.queue (config_in Q.queue profile.now state.old) state.old event.now) }
+    ensures fit { IsFit Q.queue (config_in Q.queue profile.now state.old) state.new }
+{
+    match event {
+        Event::Read(deck) => read(alloc, state, profile, units, library, deck.as_slice()),
+        Event::Turn(number) => turn(alloc, state, profile, *number),
+        Event::DeviceEnd(serial) => end_device(alloc, state, profile, *serial),
+        Event::Write(class) => write(alloc, state, profile, *class),
+        Event::Cancel(job) => cancel(alloc, state, profile, *job),
+        Event::Display => display(alloc, state, profile),
+    }
+}
+
+/// One event. A refusal changes the count of events alone and takes no memory; want of memory changes nothing that is shown.
+pub(crate) fn apply_in<Q: RecordStore>(
+    alloc: Global,
+    state: &mut State<Q>,
+    profile: &Profile<'_>,
+    units: &UnitNames,
+    library: &ProcLibrary,
+    event: &Event<'_>,
+) -> Result<Listed<Entry>, ApplyFault>
+    requires kept { IsKept Q.queue (config_in Q.queue profile.now state.old) state.old }
+    requires named { length units.now ≡ length profile.now.units.now }
+    ensures answer { Applies result (world_in Q.queue (config_in Q.queue profile.now state.old) state.old)
+        (world_in Q.queue (config_in Q.queue profile.now state.old) state.new)
+        (Transition (job_of units.now library.now) (world_in Q.queue (config_in Q.queue profile.now state.old) state.old) (meant_by event.now)) }
+    ensures refusal { RefusesFirst result
+        (Transition (job_of units.now library.now) (world_in Q.queue (config_in Q.queue profile.now state.old) state.old) (meant_by event.now)) }
+    ensures unless_refused { KeepsIfRefused result (world_in Q.queue (config_in Q.queue profile.now state.old) state.old)
+        (world_in Q.queue (config_in Q.queue profile.now state.old) state.new) }
+    ensures decided { IfOk result (HasDecidedAt Q.queue (config_in Q.queue profile.now state.old) state.old event.now) }
+    ensures kept { IsKept Q.queue (config_in Q.queue profile.now state.old) state.new }
+{
+    soundness_is_kept();
+    if MOST_EVENTS <= state.events {
+        return Err(ApplyFault::Refused(Cause::A(EventFault::PastLimit)));
+    }
+    state.events += 1;
+    match happen(alloc, state, profile, units, library, event) {
+        Ok(lines) => Ok(lines),
+        Err(ApplyFault::Refused(cause)) => Err(ApplyFault::Refused(cause)),
+        Err(ApplyFault::Memory) => {
+            state.events -= 1;
+            Err(ApplyFault::Memory)
+        }
+    }
+}

@@ -1,0 +1,113 @@
+//! An initiator selects a job.
+ghost use Rattle.std.specs.Prelude.{◌≡◌, ◌≢◌, ◌∷◌, ◌++◌, [], IfOk, OnErr, OnOk, Some};
+ghost use Rattle.jcl_plan.specs.declared.entry.JobLine.TheVariants as line;
+ghost use Rattle.jcl_plan.specs.declared.fault.Cause.{Cause};
+ghost use Rattle.queue_core.specs.declared.queue.Queued.{Queued};
+ghost use Rattle.world_meaning.specs.Selections.{Selects};
+ghost use Rattle.admit_core.specs.Backlogs.{IsListingOf, told};
+ghost use Rattle.admit_core.specs.Listed.{AreListed, but_listing};
+ghost use Rattle.admit_core.specs.declared.backlog.Listing.{Listing};
+ghost use Rattle.sched_core.specs.Events.{Answers, SelectsAt};
+ghost use Rattle.sched_core.specs.Fits.{IsFit, IsKept};
+ghost use Rattle.sched_core.specs.Machines.{config_in, world_in};
+ghost use Rattle.sched_core.specs.Selecting.{IsIdleAt, Seats, queue_without, selected_as};
+ghost use Rattle.sched_core.specs.declared.fault.ApplyFault.TheVariants.{Refused};
+
+use crate::fault::ApplyFault;
+use crate::lines::one;
+use crate::seating::seat;
+use crate::state::{Initiator, State};
+use admit_core::backlog::{Backlog, Listing};
+use admit_core::selecting::select;
+use cb_queue::store::RecordStore;
+use init_core::running::{Profile, Running, Stage};
+use jcl_plan::entry::{Entry, JobLine};
+use plain::listed::Listed;
+use queue_core::queue::Queued;
+use std::alloc::{AllocError, Global};
+use turn_core::walk::first_walk;
+
+/// A job that was selected, with its listing.
+fn selected(alloc: Global, queued: Queued, listing: Listing) -> Running
+    ensures { result ≡ selected_as queued listing.lines }
+{
+    let Listing { job: _, lines } = listing;
+    Running {
+        job: queued.job,
+        walk: first_walk(alloc, lines),
+        stage: Stage::Selected { first: queued.jct },
+    }
+}
+
+/// Takes a job that waits out of the queue, and its listing with a line more. An `Err` changes nothing.
+fn take_out<Q: RecordStore>(
+    queue: &mut Q,
+    backlog: &mut Backlog,
+    job: u16,
+    line: JobLine,
+) -> Result<Listing, AllocError>
+    requires { (l : Listing) × IsListingOf backlog.old job l }
+    ensures ok { IfOk result (λ taken. (l : Listing) × IsListingOf backlog.old job l × (taken ≡ told l line)) }
+    ensures queue { OnOk result (Q.queue queue.new ≡ queue_without (Q.queue queue.old) job) }
+    ensures backlog { OnOk result (backlog.new ≡ but_listing job backlog.old) }
+    ensures err { OnErr result ((Q.queue queue.new ≡ Q.queue queue.old) × (backlog.new ≡ backlog.old)) }
+{
+    let Some(listing) = backlog.take_with(job, line)? else {
+        unreachable!();
+    };
+    queue.remove(job);
+    Ok(listing)
+}
+
+/// The initiator at a place takes the job that is selected next, if there is one. An `Err` changes nothing.
+fn seat_next<Q: RecordStore>(
+    alloc: Global,
+    queue: &mut Q,
+    backlog: &mut Backlog,
+    initiators: &mut Vec<Initiator>,
+    place: usize,
+) -> Result<Listed<Entry>, AllocError>
+    requires listed { AreListed (Q.queue queue.old).waiting backlog.old }
+    requires idle { IsIdleAt initiators.old.items place }
+    ensures ok { IfOk result (Seats (Q.queue queue.old) backlog.old initiators.old.items place (Q.queue queue.new) backlog.new initiators.new.items) }
+    ensures err { OnErr result ((Q.queue queue.new ≡ Q.queue queue.old) × (backlog.new ≡ backlog.old) × (initiators.new.items ≡ initiators.old.items)) }
+{
+    let number = initiators[place].number;
+    let classes = initiators[place].classes;
+    let Some(queued) = select(queue, classes.as_slice()) else {
+        return Ok(Listed::empty(alloc));
+    };
+    let lines = one(alloc, Entry::Job(queued.job, JobLine::Selected(number)))?;
+    let listing = take_out(queue, backlog, queued.job, JobLine::Selected(number))?;
+    let running = selected(alloc, queued, listing);
+    seat(&mut initiators[place], Some(running));
+    Ok(lines)
+}
+
+/// The initiator at a place selects a job, if one waits for it.
+pub(crate) fn select_at<Q: RecordStore>(
+    alloc: Global,
+    state: &mut State<Q>,
+    profile: &Profile<'_>,
+    place: usize,
+) -> Result<Listed<Entry>, ApplyFault>
+    requires kept { IsKept Q.queue (config_in Q.queue profile.now state.old) state.old }
+    requires idle { IsIdleAt state.old.initiators.items place }
+    ensures answer { Answers result (world_in Q.queue (config_in Q.queue profile.now state.old) state.old)
+        (world_in Q.queue (config_in Q.queue profile.now state.old) state.new)
+        (SelectsAt (world_in Q.queue (config_in Q.queue profile.now state.old) state.old) place) }
+    ensures never_refused { (cause : Cause) → result ≢ Err (Refused cause) }
+    ensures fit { IsFit Q.queue (config_in Q.queue profile.now state.old) state.new }
+{
+    let _layout = state.parts.queue.layout();
+    match seat_next(
+        alloc,
+        &mut state.parts.queue,
+        &mut state.backlog,
+        &mut state.initiators,
+        place,
+    ) {
+        Ok(lines) => Ok(lines),
+        Err(_) => Err(ApplyFault::Memory),
+    }
+}

@@ -1,0 +1,104 @@
+//! The events that change no job at an initiator: a device's end, a writer's line, and what is shown.
+ghost use Rattle.std.specs.Prelude.{◌≡◌, ◌≢◌, ◌≤◌, Err, filter, is_some, length};
+ghost use Rattle.jcl_plan.specs.declared.fault.Cause.{Cause};
+ghost use Rattle.world_meaning.specs.Devices.{EndsDevice, Writes};
+ghost use Rattle.world_meaning.specs.Transitions.{Shows};
+ghost use Rattle.sched_core.specs.Events.{Answers, RefusesFirst};
+ghost use Rattle.sched_core.specs.Fits.{IsFit, IsKept};
+ghost use Rattle.sched_core.specs.Machines.{config_in, world_in};
+ghost use Rattle.sched_core.specs.declared.fault.ApplyFault.TheVariants.{Refused};
+
+use crate::fault::ApplyFault;
+use crate::state::{Initiator, State};
+use admit_core::laws::waiting_are_listed;
+use cb_queue::store::RecordStore;
+use init_core::running::Profile;
+use jcl_plan::entry::Entry;
+use jcl_plan::fault::Cause;
+use jname_core::serial::Serial;
+use machine_core::events;
+use plain::listed::Listed;
+use std::alloc::Global;
+
+/// The operation under way on a volume ends.
+pub(crate) fn end_device<Q: RecordStore>(
+    alloc: Global,
+    state: &mut State<Q>,
+    profile: &Profile<'_>,
+    serial: Serial,
+) -> Result<Listed<Entry>, ApplyFault>
+    requires { IsKept Q.queue (config_in Q.queue profile.now state.old) state.old }
+    ensures answer { Answers result (world_in Q.queue (config_in Q.queue profile.now state.old) state.old)
+        (world_in Q.queue (config_in Q.queue profile.now state.old) state.new)
+        (EndsDevice (world_in Q.queue (config_in Q.queue profile.now state.old) state.old) serial) }
+    ensures refusal { RefusesFirst result (EndsDevice (world_in Q.queue (config_in Q.queue profile.now state.old) state.old) serial) }
+    ensures fit { IsFit Q.queue (config_in Q.queue profile.now state.old) state.new }
+{
+    match events::end_device(&mut state.parts, profile.volumes, serial) {
+        Ok(()) => Ok(Listed::empty(alloc)),
+        Err(fault) => Err(ApplyFault::Refused(Cause::A(fault))),
+    }
+}
+
+/// A writer writes a line of its class, if there is one.
+pub(crate) fn write<Q: RecordStore>(
+    alloc: Global,
+    state: &mut State<Q>,
+    profile: &Profile<'_>,
+    class: u8,
+) -> Result<Listed<Entry>, ApplyFault>
+    requires { IsKept Q.queue (config_in Q.queue profile.now state.old) state.old }
+    ensures answer { Answers result (world_in Q.queue (config_in Q.queue profile.now state.old) state.old)
+        (world_in Q.queue (config_in Q.queue profile.now state.old) state.new)
+        (Writes (world_in Q.queue (config_in Q.queue profile.now state.old) state.old) class) }
+    ensures never_refused { (cause : Cause) → result ≢ Err (Refused cause) }
+    ensures fit { IsFit Q.queue (config_in Q.queue profile.now state.old) state.new }
+{
+    let mut lines = Vec::with_capacity(alloc, 1)?;
+    let Some((job, written)) = events::write(&mut state.parts, class) else {
+        return Ok(Listed::new(lines));
+    };
+    lines.push_reserved(Entry::Writer {
+        class,
+        job,
+        written,
+    });
+    Ok(Listed::new(lines))
+}
+
+/// How many initiators have a job.
+fn count_busy(initiators: &[Initiator]) -> usize
+    ensures count { result ≡ length (filter (λ x. is_some x.running) initiators.now) }
+    ensures few { result ≤ length initiators.now }
+{
+    let all = initiators.len();
+    match initiators.split_first() {
+        None => 0,
+        Some((x, others)) => {
+            let behind = count_busy(others);
+            if x.running.is_some() && behind < all {
+                behind + 1
+            } else {
+                behind
+            }
+        }
+    }
+}
+
+/// The volumes and the queue are shown.
+pub(crate) fn display<Q: RecordStore>(
+    alloc: Global,
+    state: &State<Q>,
+    profile: &Profile<'_>,
+) -> Result<Listed<Entry>, ApplyFault>
+    requires { IsKept Q.queue (config_in Q.queue profile.now state.now) state.now }
+    ensures answer { Answers result (world_in Q.queue (config_in Q.queue profile.now state.now) state.now)
+        (world_in Q.queue (config_in Q.queue profile.now state.now) state.now)
+        (Shows (world_in Q.queue (config_in Q.queue profile.now state.now) state.now)) }
+    ensures never_refused { (cause : Cause) → result ≢ Err (Refused cause) }
+{
+    waiting_are_listed();
+    let running = count_busy(state.initiators.as_slice());
+    let lines = events::show(alloc, &state.parts, profile.volumes, running)?;
+    Ok(lines)
+}

@@ -1,0 +1,95 @@
+//! The machine before its first event.
+ghost use Rattle.std.specs.Prelude.{◌≡◌, [], IfOk, map, None};
+ghost use Rattle.cb_meaning.specs.declared.layout.TheConstants.{LAYOUT_1};
+ghost use Rattle.sched_core.specs.Starting.{IsForMachine};
+
+use crate::state::{Initiator, State};
+use admit_core::backlog::Backlog;
+use admit_core::cancels::Cancels;
+use cb_chain::laws::the_first_layout_holds_jobs;
+use cb_queue::store::RecordStore;
+use enq_core::table::EnqTable;
+use jcl_plan::day::Day;
+use machine_core::parts::Parts;
+use machine_meaning::config::ConfiguredInitiator;
+use prog_core::units::Units;
+use shared_core::store::SharedStore;
+use spool_core::spool::Spool;
+use std::alloc::{AllocError, Global};
+use world_laws::first_layout_has_own_link;
+
+/// The day 1970/001, which is the date before another is set.
+pub const FIRST_DAY: u32 = 25_567;
+
+/// The first layout is one for the machine's queue.
+pub fn first_layout_is_for_machine()
+    ensures { IsForMachine LAYOUT_1 }
+{
+    the_first_layout_holds_jobs();
+    first_layout_has_own_link();
+}
+
+/// Initiators without jobs.
+pub(crate) fn idle_of(
+    alloc: Global,
+    configured: &[ConfiguredInitiator],
+) -> Result<Vec<Initiator>, AllocError>
+    ensures { IfOk result (λ xs. xs.items ≡ map (λ x. record { number = x.number; classes = x.classes; running = None }) configured.now) }
+{
+    let mut initiators = Vec::with_capacity(alloc, configured.len())?;
+    for x in configured {
+        initiators.push_reserved(Initiator {
+            number: x.number,
+            classes: x.classes,
+            running: None,
+        });
+    }
+    Ok(initiators)
+}
+
+fn first_day() -> Day
+    ensures { result ≡ FIRST_DAY }
+{
+    match Day::new(FIRST_DAY) {
+        Some(day) => day,
+        None => unreachable!(),
+    }
+}
+
+/// The machine with this store and this queue, in which nobody waits.
+pub(crate) fn started<Q: RecordStore>(
+    alloc: Global,
+    store: SharedStore,
+    queue: Q,
+    initiators: Vec<Initiator>,
+) -> State<Q>
+    ensures parts { result.parts ≡ record {
+      store = store;
+      queue = queue;
+      names = [];
+      units = [];
+      cancels = [];
+      spool = [];
+      date = FIRST_DAY;
+    } }
+    ensures initiators { result.initiators.items ≡ initiators.items }
+    ensures backlog { result.backlog ≡ [] }
+    ensures jobs { result.jobs ≡ 0 }
+    ensures events { result.events ≡ 0 }
+{
+    State {
+        parts: Parts {
+            store,
+            queue,
+            names: EnqTable::new(alloc),
+            units: Units::new(),
+            cancels: Cancels::new(alloc),
+            spool: Spool::new(alloc),
+            date: first_day(),
+        },
+        initiators,
+        backlog: Backlog::new(alloc),
+        jobs: 0,
+        events: 0,
+    }
+}

@@ -1,0 +1,104 @@
+//! The lines that are events.
+ghost use Rattle.std.specs.Prelude.{◌≡◌};
+ghost use Rattle.session_text.specs.Fields.{fields_of};
+ghost use Rattle.session_text.specs.Statements.{cancel_of, deck_of, device_end_of, display_of, event_by, turns_of, writes_of};
+
+use crate::fault::Fault;
+use crate::fields::{next_field, only_field};
+use crate::statement::{Block, LineSays, Says};
+use crate::values::{before_star, class_of, serial_in, times_in};
+use input_core::event::Event;
+use jname_core::decimal::number_within;
+
+fn turns(operands: &[u8]) -> Says<'static>
+    ensures { result ≡ turns_of (fields_of operands.now) }
+{
+    let Some(text) = only_field(operands) else {
+        return Says::Refused(Fault::BadValue);
+    };
+    match number_within(1, 15, before_star(text.bytes)) {
+        None => Says::Refused(Fault::BadValue),
+        Some(number) => match times_in(text.bytes) {
+            None => Says::Refused(Fault::BadValue),
+            Some(times) => Says::Events(Event::Turn(number as u8), times),
+        },
+    }
+}
+
+fn writes(operands: &[u8]) -> Says<'static>
+    ensures { result ≡ writes_of (fields_of operands.now) }
+{
+    let Some(text) = only_field(operands) else {
+        return Says::Refused(Fault::BadValue);
+    };
+    match class_of(before_star(text.bytes)) {
+        None => Says::Refused(Fault::BadValue),
+        Some(class) => match times_in(text.bytes) {
+            None => Says::Refused(Fault::BadValue),
+            Some(times) => Says::Events(Event::Write(class), times),
+        },
+    }
+}
+
+fn device_end(operands: &[u8]) -> Says<'static>
+    ensures { result ≡ device_end_of (fields_of operands.now) }
+{
+    let Some(serial) = only_field(operands) else {
+        return Says::Refused(Fault::BadValue);
+    };
+    match serial_in(serial.bytes) {
+        None => Says::Refused(Fault::BadValue),
+        Some(serial) => Says::Events(Event::DeviceEnd(serial), 1),
+    }
+}
+
+fn cancel(operands: &[u8]) -> Says<'static>
+    ensures { result ≡ cancel_of (fields_of operands.now) }
+{
+    let Some(job) = only_field(operands) else {
+        return Says::Refused(Fault::BadValue);
+    };
+    match number_within(1, 9_999, job.bytes) {
+        None => Says::Refused(Fault::BadValue),
+        Some(job) => Says::Events(Event::Cancel(job), 1),
+    }
+}
+
+fn display(operands: &[u8]) -> Says<'static>
+    ensures { result ≡ display_of (fields_of operands.now) }
+{
+    match next_field(operands) {
+        None => Says::Events(Event::Display, 1),
+        Some(_) => Says::Refused(Fault::BadValue),
+    }
+}
+
+fn deck(operands: &[u8]) -> Block
+    ensures { result ≡ deck_of (fields_of operands.now) }
+{
+    match next_field(operands) {
+        None => Block::Deck,
+        Some(_) => Block::Faulty(Fault::BadValue),
+    }
+}
+
+/// What a line says by its word, where that is an event's.
+pub(crate) fn event_by(word: &[u8], operands: &[u8]) -> LineSays<'static>
+    ensures { result ≡ event_by word.now (fields_of operands.now) }
+{
+    if word == b"READ".as_slice() {
+        LineSays::Opens(deck(operands))
+    } else if word == b"TURN".as_slice() {
+        LineSays::One(turns(operands))
+    } else if word == b"DEV".as_slice() {
+        LineSays::One(device_end(operands))
+    } else if word == b"WRITE".as_slice() {
+        LineSays::One(writes(operands))
+    } else if word == b"CANCEL".as_slice() {
+        LineSays::One(cancel(operands))
+    } else if word == b"DISPLAY".as_slice() {
+        LineSays::One(display(operands))
+    } else {
+        LineSays::One(Says::Refused(Fault::UnknownStatement))
+    }
+}

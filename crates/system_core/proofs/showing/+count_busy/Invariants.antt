@@ -1,5 +1,0 @@
-use Rattle.std.proofs.Common.{length}
-use Rattle.system_core.proofs.showing.+count_busy.Given as goal
-
-abbrev pub decreases-count_busy : goal.decreases-count_busy
-decreases-count_busy l = length l.initiators.now
