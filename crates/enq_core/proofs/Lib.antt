@@ -1,3 +1,4 @@
 pub mod Holders
 pub mod Meeting
 pub mod Rising
+pub mod Alone

@@ -1,3 +1,4 @@
 pub mod Holds
 pub mod Marks
 pub mod Order
+pub mod Lowest

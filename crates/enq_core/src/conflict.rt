@@ -4,9 +4,10 @@ ghost use Rattle.std.specs.Cmp.Lexicographic.{slice_cmp};
 ghost use Rattle.std.specs.Ordering.{nat_cmp};
 ghost use Rattle.std.specs.declared.cmp.Ordering.TheVariants.{Equal};
 ghost use Rattle.enq_core.specs.Holds.{AreWants, IsFirstBlock, conflicts, is_blocked};
+ghost use Rattle.enq_core.specs.Lowest.{IsLowestHolder};
 ghost use Rattle.enq_core.specs.Order.{AreBehind, AreInOrder, ArePassed, ComesFirst, IsFirst, IsNamed, Meets};
 
-use crate::marked::{MARKS, MarkedHold, mark_wants};
+use crate::marked::{MARKS, MarkedHold, mark_of, mark_wants};
 use crate::table::{Blocked, Hold, Want};
 use jname_core::ds_name::DsName;
 use std::cmp::Ordering;
@@ -97,16 +98,64 @@ fn first_conflict(holds: &[MarkedHold], wants: &[Want]) -> Option<Conflict>
     found
 }
 
-/// The first want that a hold conflicts with.
+/// The lower of a job and the lowest so far.
+fn lower_of(lowest: Option<u16>, job: u16) -> u16
+    ensures is { (result ≡ job) ⊎ (Some result ≡ lowest) }
+    ensures job { result ≤ job }
+    ensures lowest { IfSome lowest (λ other. result ≤ other) }
+{
+    match lowest {
+        Some(other) => other.min(job),
+        None => job,
+    }
+}
+
+/// Whether a hold stands in the way of a want.
+fn stands_in_the_way(want: &Want, hold: &Hold) -> bool
+    ensures { result ≡ conflicts want.now hold.now }
+{
+    hold.name == want.name && (hold.exclusive || want.exclusive)
+}
+
+/// The lowest job whose hold conflicts with a want.
+fn lowest_holder(holds: &[MarkedHold], want: &Want) -> Option<u16>
+    ensures none { IfNone result (is_blocked holds.now want.now ≡ false) }
+    ensures some { IfSome result (IsLowestHolder holds.now want.now) }
+{
+    let mark = mark_of(&want.name);
+    let mut lowest = None;
+    for marked in holds {
+        if marked.mark() == mark && stands_in_the_way(want, marked.hold()) {
+            lowest = Some(lower_of(lowest, marked.job()));
+        }
+    }
+    lowest
+}
+
+/// The first want that a hold conflicts with. The first of all is looked at alone: a job that waits for all that another holds waits there.
 pub(crate) fn first_block(holds: &[MarkedHold], wants: &[Want]) -> Option<Blocked>
     requires holds { AreInOrder holds.now }
     requires wants { AreWants wants.now }
     ensures none { IfNone result (All (λ want. is_blocked holds.now want ≡ false) wants.now) }
     ensures some { IfSome result (IsFirstBlock holds.now wants.now) }
 {
-    let Conflict { place, job } = first_conflict(holds, wants)?;
+    let Some((first, others)) = wants.split_first() else {
+        return None;
+    };
+    if let Some(job) = lowest_holder(holds, first) {
+        return Some(Blocked {
+            job,
+            name: first.name,
+        });
+    }
+    if others.is_empty() {
+        return None;
+    }
+    let Some(Conflict { place, job }) = first_conflict(holds, others) else {
+        return None;
+    };
     Some(Blocked {
         job,
-        name: wants[place].name,
+        name: others[place].name,
     })
 }

@@ -15,5 +15,3 @@ mod showing;
 pub mod start;
 pub mod state;
 pub mod system;
-#[cfg(test)]
-mod tests;

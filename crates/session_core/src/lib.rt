@@ -2,6 +2,8 @@
 #![tactic(auto)]
 
 mod configure;
+#[cfg(test)]
+mod driven;
 mod listing;
 #[cfg(test)]
 mod refused;

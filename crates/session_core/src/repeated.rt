@@ -1,8 +1,7 @@
 //! Want of memory in the machine: an event that is refused for it changed nothing that is shown, and is done when it is repeated.
 use crate::configure::configure;
 use crate::rows::{ROWS, joined};
-use crate::run::MOST_VIEWS;
-use cb_meaning::layout::LAYOUT_1;
+use crate::run::{MOST_VIEWS, first_queue};
 use cb_queue::list_store::ListStore;
 use config_core::config::Config;
 use input_core::event::Event;
@@ -10,7 +9,6 @@ use jcl_plan::entry::Entry;
 use plain::draft::Draft;
 use plain::listed::Listed;
 use sched_core::fault::ApplyFault;
-use sched_core::start::first_layout_is_for_machine;
 use sched_core::system::System;
 use session_text::parse::statements;
 use session_text::statement::{Ending, Says, Statement};
@@ -128,8 +126,7 @@ fn list_session(
         return Err(AllocError);
     };
     let (store, fixed) = config.take_apart()?;
-    first_layout_is_for_machine();
-    let queue = ListStore::new(alloc, LAYOUT_1)?;
+    let queue = first_queue(alloc)?;
     let mut system = System::new(alloc, store, queue, &fixed, false, MOST_VIEWS)?;
     let (_, events) = statements.as_slice().split_at(from);
     let outcome = list_events(alloc, &mut system, events, text, refused);

@@ -1,5 +1,7 @@
 //! The events of the statements, and their lines.
-ghost use Rattle.std.specs.Prelude.{◌≡◌, [], Bool, OnErr, OnOk, drop, false, is_some, replicate, true};
+ghost use Rattle.std.specs.Prelude.{◌≡◌, [], Bool, IfOk, OnErr, OnOk, drop, false, is_some, replicate, true};
+ghost use Rattle.cb_meaning.specs.declared.layout.TheConstants.{LAYOUT_1};
+ghost use Rattle.cb_queue.specs.RecordQueues.{empty_queue};
 ghost use Rattle.input_core.specs.declared.statement.ConfigStatement.{ConfigStatement};
 ghost use Rattle.config_core.specs.Configs.{Configuration};
 ghost use Rattle.session_core.specs.Configuring.{IsConfigured, late_in};
@@ -8,6 +10,7 @@ ghost use Rattle.session_core.specs.Running.{AreApplied, AreAppliedInPart, IsApp
 ghost use Rattle.session_core.specs.Sessions.{denoting_in, session_behind, start_in};
 ghost use Rattle.session_core.specs.Streams.{sink_state};
 ghost use Rattle.session_text.specs.declared.statement.Says.TheVariants as says;
+ghost use Rattle.sched_core.specs.Starting.{IsForMachine};
 ghost use Rattle.sched_core.specs.Systems.{IsSameFixed, denoting, world_of};
 
 use crate::configure::{configure, late_in};
@@ -135,6 +138,16 @@ fn run_from<W: Write>(
     listing.end(sink, Ok(SessionEnd))
 }
 
+/// The queue of a machine that begins: no record is in use.
+pub(crate) fn first_queue(alloc: Global) -> Result<ListStore, AllocError>
+    ensures empty { IfOk result (λ queue. queue ≡ empty_queue LAYOUT_1) }
+    ensures layout { IfOk result (λ queue. IsForMachine queue.layout) }
+{
+    first_layout_is_for_machine();
+    let queue = ListStore::new(alloc, LAYOUT_1)?;
+    Ok(queue)
+}
+
 /// Runs the statements up to the first fault, and writes their lines.
 pub(crate) fn run<W: Write>(
     alloc: Global,
@@ -156,8 +169,7 @@ pub(crate) fn run<W: Write>(
     let Ok((store, fixed)) = config.take_apart() else {
         return Err(SessionFault::Memory);
     };
-    first_layout_is_for_machine();
-    let Ok(queue) = ListStore::new(alloc, LAYOUT_1) else {
+    let Ok(queue) = first_queue(alloc) else {
         return Err(SessionFault::Memory);
     };
     let Ok(mut system) = System::new(alloc, store, queue, &fixed, false, MOST_VIEWS) else {

@@ -18,7 +18,7 @@ loop-marked-preserved-then-not-marks-from c =
       within = c.loop-marked.invariant.within;
       passed = λ k d l h e. c.loop-marked.invariant.passed k d (omega (arith, l)) h e;
       found = first_kept holds wants n hold c.loop-marked.found c.marked-item.is (unmarked_free wants hold c.mark_wants.new.marks c.mark_wants.ensures
-          (ap (λ mark. get_or c.mark_wants.new.marks mark false) (sym c.mark.ensures ∙ sym c.from.ensures) ∙ c.if-not-marks-from.true)) c.loop-marked.invariant.found;
+          (ap (λ mark. get_or c.mark_wants.new.marks mark false) (sym c.mark.ensures.mark ∙ sym c.from.ensures) ∙ c.if-not-marks-from.true)) c.loop-marked.invariant.found;
     }
 
 pub loop-marked-preserved : goal.loop-marked-preserved

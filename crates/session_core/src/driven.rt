@@ -1,8 +1,5 @@
-//! Events one after another, with the lines that they list, and want of memory among them.
-use crate::start::first_layout_is_for_machine;
-use crate::system::System;
-use cb_meaning::layout::LAYOUT_1;
-use cb_queue::list_store::ListStore;
+//! Events driven one after another, with the lines that they list, and want of memory among them.
+use crate::run::{MOST_VIEWS, first_queue};
 use config_core::config::Config;
 use input_core::event::Event;
 use input_core::statement::ConfigStatement;
@@ -11,6 +8,7 @@ use plain::draft::Draft;
 use plain::lent::Lent;
 use plain::listed::Listed;
 use plain::text::Text;
+use sched_core::system::System;
 use std::alloc::{AllocError, Global};
 use std::test::Fail;
 
@@ -89,16 +87,15 @@ fn drive_twice(
         return Err(AllocError);
     };
     let (store, fixed) = config.take_apart()?;
-    first_layout_is_for_machine();
-    let queue = ListStore::new(alloc, LAYOUT_1)?;
-    let mut system = System::new(alloc, store, queue, &fixed, false, 1_024)?;
+    let queue = first_queue(alloc)?;
+    let mut system = System::new(alloc, store, queue, &fixed, false, MOST_VIEWS)?;
     let first = system.drive(events);
     let (_, rest) = events.split_at(first.done);
     let then = system.drive(rest);
     system.close();
     list(text, first.entries.as_slice())?;
     list(text, then.entries.as_slice())?;
-    Ok((first.done, first.done + then.done))
+    Ok((first.done, first.done.saturating_add(then.done)))
 }
 
 /// The events, and room for what they list.
