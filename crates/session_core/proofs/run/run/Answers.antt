@@ -1,4 +1,4 @@
-use Rattle.std.proofs.Common.{[], refl, sym, ap, ◌∙◌, subst, inr, false, rules}
+use Rattle.std.proofs.Common.{[], refl, ap, ◌∙◌, inr, false, rules}
 use Rattle.config_core.specs.Configs.{unit_names}
 use Rattle.config_core.specs.Starts.{IsTakenApart, start_of}
 use Rattle.jcl_job.specs.Jobs.{job_of}
