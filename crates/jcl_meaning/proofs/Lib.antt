@@ -1,3 +1,4 @@
 pub mod Budgets
 mod HeldNames
 pub mod LineCounts
+pub mod SortedNames

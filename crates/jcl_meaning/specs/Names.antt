@@ -1,5 +1,5 @@
 -- The names that a job holds, and jobs that may run together. (This profile's rule)
-use Rattle.std.specs.Prelude.{ℕ, Bool, true, false, not, ◌&&◌, ◌||◌, ◌==◌, List, [], ◌∷◌, ◌++◌, IsTrue, Option, Some, None, if◌then◌else◌, slice_index_or}
+use Rattle.std.specs.Prelude.{◌≡◌, ℕ, Bool, true, false, not, ◌&&◌, ◌||◌, ◌==◌, List, [], ◌∷◌, ◌++◌, All, IsTrue, Option, Some, None, if◌then◌else◌, slice_index_or}
 use Rattle.std.specs.List.{list_all, flat_map}
 use Rattle.std.specs.Str.{bytes_eq}
 use Rattle.std.specs.Ordering.{nat_cmp}
@@ -121,6 +121,15 @@ with_names names (h ∷ hs) = with_names (with_name names h) hs
 -- a name of a list, asked for once more
 abbrev pub asked_again : List HeldName → ℕ → HeldName → HeldName
 asked_again names i wanted = held (slice_index_or names i wanted).name ((slice_index_or names i wanted).exclusive || wanted.exclusive)
+
+-- a name stands before another in byte order
+abbrev pub IsBefore : List ℕ → List ℕ → Type 0
+IsBefore name other = slice_cmp nat_cmp name other ≡ Less
+
+-- names in byte order, each once
+abbrev pub AreSorted : List HeldName → Type 0
+AreSorted [] = Unit {0}
+AreSorted (h ∷ names) = All (λ other. IsBefore h.name other.name) names × AreSorted names
 
 -- the names of a job, each once, in byte order
 abbrev pub names_of : JobPlan → List HeldName

@@ -1,14 +1,13 @@
 //! The names that a job holds. (This profile's rule)
 ghost use Rattle.std.specs.Prelude.{◌≡◌, ◌<◌, ◌≤◌, IfOk, IfErr, OnOk, insert, length, slice_set};
 ghost use Rattle.std.specs.List.{flat_map};
-ghost use Rattle.jcl_meaning.specs.Names.{asked_again, changes, changes_after_abend, dd_names, held_under, is_shr, is_temporary, names_of, same_key, same_sign, wants_alone, with_name, with_names};
+ghost use Rattle.jcl_meaning.specs.Names.{AreSorted, asked_again, changes, changes_after_abend, dd_names, held_under, is_shr, is_temporary, names_of, same_key, same_sign, wants_alone, with_name, with_names};
 
 use jcl_plan::plan::{ConditionalWord, DdKind, DdPlan, JobPlan, SetPlan, Status, VolumePlan, Word};
 use jname_core::ds_name::DsName;
 use jname_core::key::{Key, Sign};
 use plain::listed::Listed;
 use std::alloc::{AllocError, Global};
-use std::cmp::Ordering;
 
 /// A name that a job holds, for itself alone or shared with others.
 #[derive(Clone, Copy, Debug)]
@@ -121,21 +120,16 @@ fn wants_alone(p: &SetPlan) -> bool
 
 /// The place of a name in a list in byte order, or the place where it is to be.
 fn place_of(names: &[HeldName], wanted: &HeldName) -> Result<usize, usize>
+    requires { AreSorted names.now }
     ensures there { IfOk result (λ i. (i < length names.now) × (with_name names.now wanted.now ≡ slice_set names.now i (asked_again names.now i wanted.now))) }
     ensures missing { IfErr result (λ i. (i ≤ length names.now) × (with_name names.now wanted.now ≡ insert names.now i wanted.now)) }
 {
-    for (i, there) in names.iter().enumerate() {
-        match wanted.name.as_slice().cmp(there.name.as_slice()) {
-            Ordering::Less => return Err(i),
-            Ordering::Equal => return Ok(i),
-            Ordering::Greater => {}
-        }
-    }
-    Err(names.len())
+    names.binary_search_by(|there| there.name.cmp(&wanted.name))
 }
 
 /// A name in its place; it is shared where all who want it share it.
 fn want(names: &mut Vec<HeldName>, wanted: HeldName) -> Result<(), AllocError>
+    requires { AreSorted names.old.items }
     ensures { OnOk result (names.new.items ≡ with_name names.old.items wanted) }
 {
     match place_of(names.as_slice(), &wanted) {
@@ -146,7 +140,9 @@ fn want(names: &mut Vec<HeldName>, wanted: HeldName) -> Result<(), AllocError>
 }
 
 /// The name of a DD's set, and a name to which its VOL refers.
+#[tactic(auto, using(crate::proofs::SortedNames::kept_sorted))]
 fn want_of_dd(names: &mut Vec<HeldName>, kind: &DdKind) -> Result<(), AllocError>
+    requires { AreSorted names.old.items }
     ensures { OnOk result (names.new.items ≡ with_names names.old.items (dd_names kind.now)) }
 {
     let DdKind::Set(p) = kind else {
@@ -170,6 +166,7 @@ fn want_of_dd(names: &mut Vec<HeldName>, kind: &DdKind) -> Result<(), AllocError
 }
 
 fn want_of_dds(names: &mut Vec<HeldName>, dds: &[DdPlan]) -> Result<(), AllocError>
+    requires { AreSorted names.old.items }
     ensures { OnOk result (names.new.items ≡ with_names names.old.items (flat_map (λ dd. dd_names dd.kind) dds.now)) }
 {
     for dd in dds {

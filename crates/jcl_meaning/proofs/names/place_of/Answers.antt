@@ -1,24 +1,19 @@
-use Rattle.std.proofs.Common.{◌≡◌, refl, arith}
+use Rattle.std.proofs.Common.{◌≡◌, rules}
 use Rattle.std.specs.Ordering.{nat_cmp}
 use Rattle.std.specs.Cmp.Lexicographic.{slice_cmp}
-use Rattle.std.specs.declared.cmp.Ordering.TheVariants.{Less, Equal, Greater}
-use Rattle.jcl_meaning.proofs.HeldNames.{name_before, name_behind, name_last, name_there}
+use Rattle.std.proofs.lemmas.Fn.{always_returns_same}
+use Rattle.jcl_meaning.specs.declared.names.HeldName.{HeldName}
+use Rattle.jcl_meaning.proofs.SortedNames.{searched}
 use Rattle.jcl_meaning.proofs.names.place_of.Goals as goal
 
-pub returns-in-Less-clause-missing : goal.returns-in-Less-clause-missing
-returns-in-Less-clause-missing c =
-    let o : slice_cmp nat_cmp c.args.wanted.now.name c.index-names-i.result.name ≡ Less = cc in
-    (omega arith, name_before c.args.names.now c.loop-i.i c.index-names-i.result c.args.wanted.now c.loop-i-test.true c.index-names-i.is o c.loop-i.invariant)
-
-pub returns-in-Equal-clause-there : goal.returns-in-Equal-clause-there
-returns-in-Equal-clause-there c =
-    let o : slice_cmp nat_cmp c.args.wanted.now.name c.index-names-i.result.name ≡ Equal = cc in
-    (c.loop-i-test.true, name_there c.args.names.now c.loop-i.i c.index-names-i.result c.args.wanted.now c.loop-i-test.true c.index-names-i.is o c.loop-i.invariant)
-
-pub loop-i-preserved : goal.loop-i-preserved
-loop-i-preserved c =
-    let o : slice_cmp nat_cmp c.args.wanted.now.name c.index-names-i.result.name ≡ Greater = cc in
-    name_behind c.args.names.now c.loop-i.i c.index-names-i.result c.args.wanted.now c.loop-i-test.true c.index-names-i.is o c.loop-i.invariant
+pub returns-clause-there : goal.returns-clause-there
+returns-clause-there c =
+    (searched c.args.names.now c.args.wanted.now c.requires c.binary_search_by.result c.binary_search_by.ensures.bound
+    (c.binary_search_by.ensures.position (λ (x : HeldName). slice_cmp nat_cmp x.name c.args.wanted.now.name)
+    (always_returns_same _ (λ a r. r ≡ slice_cmp nat_cmp a.0.now.name c.args.wanted.now.name) _ (λ a r q k. search rules)))).0
 
 pub returns-clause-missing : goal.returns-clause-missing
-returns-clause-missing c = (omega arith, name_last c.args.names.now c.loop-i.i _ c.args.wanted.now (omega arith) refl c.loop-i.invariant)
+returns-clause-missing c =
+    (searched c.args.names.now c.args.wanted.now c.requires c.binary_search_by.result c.binary_search_by.ensures.bound
+    (c.binary_search_by.ensures.position (λ (x : HeldName). slice_cmp nat_cmp x.name c.args.wanted.now.name)
+    (always_returns_same _ (λ a r. r ≡ slice_cmp nat_cmp a.0.now.name c.args.wanted.now.name) _ (λ a r q k. search rules)))).1
