@@ -4,7 +4,7 @@ ghost use Rattle.group_core.specs.Entries.{volume_in};
 ghost use Rattle.group_core.specs.Groups.{GroupState, RollsInRange};
 ghost use Rattle.jname_core.specs.Generations.{base_of, generation_name};
 ghost use Rattle.jname_core.specs.declared.key.Key.TheVariants as key;
-ghost use Rattle.jcl_meaning.specs.Dispositions.{catalogs, catalogs_by, catalogs_in_group, changed, disposed_by};
+ghost use Rattle.jcl_meaning.specs.Dispositions.{catalogs, catalogs_by, catalogs_in_group, changed, disposed_by, is_entered_on};
 ghost use Rattle.jcl_meaning.specs.Lists.{member_copied};
 ghost use Rattle.jcl_meaning.specs.Stores.{after_rolling, catalogued, generation_entered, generation_entered_by, group_of, is_unexpired, member_of, name_entered, rolled_off, uncatalogued};
 ghost use Rattle.store_core.specs.Numbers.{TakesNumber};
@@ -18,7 +18,7 @@ use jname_core::ds_name::DsName;
 use jname_core::key::Key;
 use jname_core::serial::Serial;
 use std::alloc::AllocError;
-use store_core::disposition::{catalogs_name, does, is_entered_on, word_does};
+use store_core::disposition::{catalogs_name, deletes, does, is_entered_on, uncatalogs};
 use store_core::job_store::JobStore;
 use store_core::store::is_later;
 
@@ -111,7 +111,14 @@ fn catalogs<S: JobStore>(store: &S, job: u16, key: &Key, serial: Serial) -> Disp
     }
 }
 
-/// What a word does to a set.
+/// Whether the catalog has a set here.
+fn is_here<S: JobStore>(store: &S, job: u16, t: &TakenSet) -> bool
+    ensures { result ≡ is_entered_on (catalogued (S.seen job store.now) t.now.key) t.now.serial }
+{
+    is_entered_on(catalogued(store, job, &t.key), t.serial)
+}
+
+/// What a word does to a set. Only what the word asks is looked up.
 pub fn disposed_by<S: JobStore>(
     store: &S,
     job: u16,
@@ -124,10 +131,21 @@ pub fn disposed_by<S: JobStore>(
     if !is_on(store, job, &t.key, t.serial) {
         return does(DispWord::F8, Change::Nothing);
     }
-    let stays = !t.made_here && is_unexpired(store, job, &t.key, t.serial, date);
-    let here = is_entered_on(catalogued(store, job, &t.key), t.serial);
-    let catlg = catalogs(store, job, &t.key, t.serial);
-    word_does(word, stays, t.by_catalog, here, catlg)
+    match word {
+        Word::Delete => {
+            let stays = !t.made_here && is_unexpired(store, job, &t.key, t.serial, date);
+            let ours = t.by_catalog && is_here(store, job, t);
+            deletes(stays, ours)
+        }
+        Word::Keep => does(DispWord::Kept, Change::Nothing),
+        Word::Pass => Disposed {
+            word: DispWord::Passed,
+            change: Change::Nothing,
+            passes: true,
+        },
+        Word::Catlg => catalogs(store, job, &t.key, t.serial),
+        Word::Uncatlg => uncatalogs(is_here(store, job, t)),
+    }
 }
 
 /// Takes the entry of a key out of the catalog.

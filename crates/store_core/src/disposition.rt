@@ -1,6 +1,6 @@
 //! What becomes of a set at its disposition and at the job's end. (DISP parameter; LEFT and BACK are this profile's)
 ghost use Rattle.std.specs.Prelude.{◌≡◌};
-ghost use Rattle.jcl_meaning.specs.Dispositions.{as_taken, back_word, catalogs_name, deletes, does, fault_in, is_deleted_back, is_entered_on, left_word, left_word_after, uncatalogs, word_does};
+ghost use Rattle.jcl_meaning.specs.Dispositions.{as_taken, back_word, catalogs_name, deletes, does, fault_in, is_deleted_back, is_entered_on, left_word, left_word_after, uncatalogs};
 
 use jcl_meaning::names::is_temporary;
 use jcl_meaning::state::{Change, Disposed, Passed, TakenSet};
@@ -37,7 +37,8 @@ pub fn catalogs_name(there: Option<Serial>, serial: Serial) -> Disposed
     }
 }
 
-fn deletes(stays: bool, ours: bool) -> Disposed
+/// What DELETE does, where the set stays or not, and where its entry goes with it or not.
+pub fn deletes(stays: bool, ours: bool) -> Disposed
     ensures { result ≡ deletes stays ours }
 {
     if stays {
@@ -49,30 +50,14 @@ fn deletes(stays: bool, ours: bool) -> Disposed
     }
 }
 
-fn uncatalogs(here: bool) -> Disposed
+/// What UNCATLG does, where the set is entered here or not.
+pub fn uncatalogs(here: bool) -> Disposed
     ensures { result ≡ uncatalogs here }
 {
     if here {
         does(DispWord::Uncataloged, Change::Uncatalog)
     } else {
         does(DispWord::F4, Change::Nothing)
-    }
-}
-
-/// What a word does to a set that is there: whether it stays, was found by the catalog, is entered here, and what CATLG does.
-pub fn word_does(word: Word, stays: bool, by_catalog: bool, here: bool, catlg: Disposed) -> Disposed
-    ensures { result ≡ word_does word stays by_catalog here catlg }
-{
-    match word {
-        Word::Delete => deletes(stays, by_catalog && here),
-        Word::Keep => does(DispWord::Kept, Change::Nothing),
-        Word::Pass => Disposed {
-            word: DispWord::Passed,
-            change: Change::Nothing,
-            passes: true,
-        },
-        Word::Catlg => catlg,
-        Word::Uncatlg => uncatalogs(here),
     }
 }
 
