@@ -1,9 +1,9 @@
 -- The records of an owner, given back one after another.
-use Rattle.std.proofs.Common.{◌≡◌, ◌≢◌, ℕ, suc, ◌+◌, ◌<◌, ◌≤◌, ◌==◌, Bool, true, false, cond, List, [], ◌∷◌, ◌++◌, length, get_or, map, take, drop, Option, None, arith, ◌∙◌, ap, sym, refl, subst}
+use Rattle.std.proofs.Common.{◌≡◌, ◌≢◌, ℕ, zero, suc, ◌+◌, ◌<◌, ◌≤◌, ◌==◌, Bool, true, false, cond, List, [], ◌∷◌, ◌++◌, length, get_or, map, take, drop, Option, None, arith, ◌∙◌, ap, sym, refl, subst}
 use Rattle.std.specs.Prelude.{slice_set}
 use Rattle.std.proofs.lemmas.Bool.{eq-eqb, ne_eqb}
 use Rattle.std.proofs.lemmas.List.{append-nil, append_assoc, drop_all, drop_more, get_or_at, length-take-le, set_at, take_all, take_more}
-use Rattle.cb_queue.specs.RecordQueues.{RecordQueue, all_given_back, given_back, numbers_of, owner_at, owner_in, unless_of}
+use Rattle.cb_queue.specs.RecordQueues.{HasNoneBetween, RecordQueue, all_given_back, given_back, numbers_of, owner_at, owner_in, unless_of}
 
 -- those above record n are given back
 abbrev pub given_above : RecordQueue → ℕ → ℕ → RecordQueue
@@ -88,3 +88,11 @@ module _ (q : RecordQueue) (owner : ℕ) where
   step_kept n i is here =
       subst (λ m. owner_at (given_above q owner m) m ≢ owner → given_above q owner m ≡ given_above q owner i) is
       (λ other. kept i here (λ same. other (owner_now i here ∙ same)))
+
+  -- records behind one number that are not the owner's stay
+  pub block_kept : (k low n : ℕ) → n ≡ low + k → n ≤ length q.records → HasNoneBetween (given_above q owner n) owner low n → given_above q owner n ≡ given_above q owner low
+  block_kept zero low n e h none = ap (λ m. given_above q owner m) (omega (arith, e))
+  block_kept (suc k) low n e h none =
+      let step : given_above q owner n ≡ given_above q owner (low + k) =
+      step_kept n (low + k) (omega (arith, e)) (omega (arith, e, h)) (none n (omega (arith, e)) (omega arith)) in
+      step ∙ block_kept k low (low + k) refl (omega (arith, e, h)) (λ m behind within. subst (λ s. owner_at s m ≢ owner) step (none m behind (omega (arith, e, within))))

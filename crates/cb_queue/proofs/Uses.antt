@@ -1,14 +1,17 @@
 -- What is done to a record in use, by its number.
-use Rattle.std.proofs.Common.{◌≡◌, ◌≢◌, ℕ, suc, ◌+◌, ◌-◌, ◌<◌, ◌≤◌, List, [], ◌∷◌, All, length, get_or, drop, reverse, take, None, Some, true, arith, ◌∙◌, ap, refl, sym, subst, length-drop}
-use Rattle.std.specs.Prelude.{is_some, slice_get, slice_set}
+use Rattle.std.proofs.Common.{◌≡◌, ◌≢◌, ℕ, suc, ◌+◌, ◌-◌, ◌<◌, ◌≤◌, ◌==◌, Bool, false, not, MatchBool, List, [], ◌∷◌, All, length, get_or, drop, reverse, take, None, Some, true, arith, ◌∙◌, ap, refl, sym, subst, length-drop}
+use Rattle.std.specs.Prelude.{is_some, slice_get, slice_range, slice_set}
+use Rattle.std.specs.List.{AllWithin}
 use Rattle.std.specs.Option.{option_map}
+use Rattle.std.proofs.lemmas.Bool.{eq-eqb, true≢false}
+use Rattle.std.proofs.lemmas.List.Edits.{get_or-between}
 use Rattle.std.proofs.lemmas.List.{get_or_read, length-take-le}
 use Rattle.std.proofs.lemmas.List.Elements.{All-head, All-same}
 use Rattle.cb_meaning.specs.Fields.{field, number_at, part}
 use Rattle.cb_meaning.specs.Spelled.{status_bytes}
 use Rattle.cb_records.specs.Writes.{ChangesOnly}
 use Rattle.cb_queue.specs.declared.list_store.ListStore.TheInside.{Inside}
-use Rattle.cb_queue.specs.RecordQueues.{IsInUse, IsLent, given_back, next_free, owner_at, owner_in, record_at, taken, with_part, with_record_at, with_status, zero_record}
+use Rattle.cb_queue.specs.RecordQueues.{HasNoneBetween, IsInUse, IsLent, given_back, next_free, owner_at, owner_in, record_at, taken, with_part, with_record_at, with_status, zero_record}
 use Rattle.cb_queue.specs.Stored.{AreStored, IsStored, seen, seen_in}
 use Rattle.cb_queue.proofs.Parts.{in_use_status, owner_status, with_part_is}
 use Rattle.cb_queue.proofs.Storing.{here, in_stack, in_use, none_seen, owned_record, owner_seen, record_is, room, seen_given, seen_put, seen_taken, stack_more, stored_given, stored_put, stored_taken, used_number}
@@ -132,3 +135,20 @@ pub none_read : (a : Inside) (h : IsStored a) (n : ℕ) → 1 ≤ n → n - 1 < 
 none_read a h n from to e =
     let is : suc (n - 1) ≡ n = omega (arith, from) in
     sym (ap (record_at (seen a)) is) ∙ none_seen a.layout a.owners.items a.records.items a.free.items a.free_count a.waiting h (n - 1) to e
+
+-- owners looked at together, none of which is one
+pub none_in : (r : Bool) (P Q : Type 0) → MatchBool r P Q → not r ≡ true → Q
+none_in true P Q m e = absurd (true≢false (sym e))
+none_in false P Q m e = m
+
+pub none_between : (a : Inside) (h : IsStored a) (owner low high : ℕ) (owners : List ℕ) → low ≤ high → high ≤ length a.owners.items → owners ≡ slice_range a.owners.items low high →
+    length owners + low ≡ high → AllWithin (λ y. (y == owner) ≡ false) owners 0 (length owners) → HasNoneBetween (seen a) owner low high
+none_between a h owner low high owners order reached cut size apart = λ n behind within same.
+    let k = n - 1 - low in
+    let within_part : k < length owners = omega (arith, size, behind, within) in
+    let place : low + k ≡ n - 1 = omega (arith, behind) in
+    let seen_there : get_or owners k 0 ≡ get_or a.owners.items (n - 1) 0 =
+    ap (λ xs. get_or xs k 0) cut ∙ get_or-between a.owners.items low high k 0 (omega (arith, size, within_part)) ∙ ap (λ m. get_or a.owners.items m 0) place in
+    let most : n - 1 < a.layout.most_records = omega (arith, reached, h.owners_room, within, behind) in
+    let owned : get_or owners k 0 ≡ owner = seen_there ∙ owner_read a h n (omega (arith, behind)) most ∙ same in
+    absurd (true≢false (sym (eq-eqb (get_or owners k 0) owner owned) ∙ apart k 0 (omega arith) within_part))

@@ -33,6 +33,10 @@ owner_in (Some r) = number_at r (field 2 2)
 abbrev pub owner_at : RecordQueue → ℕ → ℕ
 owner_at q n = owner_in (record_at q n)
 
+-- none of the records behind one number, up to another, is an owner's
+abbrev pub HasNoneBetween : RecordQueue → ℕ → ℕ → ℕ → Type 0
+HasNoneBetween q owner low high = (n : ℕ) → low < n → n ≤ high → owner_at q n ≢ owner
+
 -- a record with these bytes from a place on
 abbrev pub with_part : List ℕ → ℕ → List ℕ → List ℕ
 with_part r at bytes = take at r ++ (bytes ++ drop (at + length bytes) r)

@@ -1,7 +1,7 @@
 //! A store of records in one table.
-ghost use Rattle.std.specs.Prelude.{◌≡◌, ◌<◌, ◌^◌, IfOk, None, length, replicate, reverse};
+ghost use Rattle.std.specs.Prelude.{◌≡◌, ◌<◌, ◌^◌, IfOk, None, length, replicate, reverse, true};
 ghost use Rattle.cb_meaning.specs.declared.layout.TheConstants.{RECORD_BYTES};
-ghost use Rattle.cb_queue.specs.RecordQueues.{HasOwnLink, empty_queue, numbers_from, owner_at, record_at, with_part, zero_record};
+ghost use Rattle.cb_queue.specs.RecordQueues.{HasNoneBetween, HasOwnLink, empty_queue, numbers_from, owner_at, record_at, with_part, zero_record};
 ghost use Rattle.cb_records.specs.Laws.{AreBytes};
 ghost use Rattle.cb_records.specs.Writes.{HoldsNumber};
 
@@ -18,6 +18,9 @@ const OWNER: Field = Field { at: 2, width: 2 };
 
 /// What the scheduler writes into a record of a job that runs.
 const STATUS: Field = Field { at: 168, width: 8 };
+
+/// How many owners are looked at together.
+const BLOCK: u32 = 64;
 
 /// A store of records in one table, got when it is made.
 #[derive(Debug, Drop)]
@@ -113,6 +116,16 @@ impl ListStore {
             None => 0,
         }
     }
+
+    /// Whether none of the records behind one number, up to another, is a job's.
+    fn has_none(&self, low: u32, high: u32, owner: u16) -> bool
+        ensures { result ≡ true → HasNoneBetween self.now owner low high }
+    {
+        match self.owners.get(low as usize..high as usize) {
+            Some(owners) => !owners.contains(&owner),
+            None => false,
+        }
+    }
 }
 
 impl RecordStore for ListStore {
@@ -163,10 +176,15 @@ impl RecordStore for ListStore {
     fn give_back_all(&mut self, owner: u16) {
         let mut n = self.layout.most_records;
         while n > 0 {
-            if self.owner(n) == owner {
-                self.give_back(n);
+            let low = n.saturating_sub(BLOCK);
+            if self.has_none(low, n, owner) {
+                n = low;
+            } else {
+                if self.owner(n) == owner {
+                    self.give_back(n);
+                }
+                n -= 1;
             }
-            n -= 1;
         }
     }
 

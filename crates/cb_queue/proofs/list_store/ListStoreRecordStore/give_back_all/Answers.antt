@@ -1,6 +1,6 @@
-use Rattle.std.proofs.Common.{◌≡◌, suc, ◌-◌, ◌<◌, ◌∙◌, ap, arith, length, sym}
-use Rattle.cb_queue.specs.RecordQueues.{given_back, owner_at}
-use Rattle.cb_queue.proofs.Given.{step_given, step_kept}
+use Rattle.std.proofs.Common.{◌≡◌, suc, ◌-◌, ◌<◌, ◌≤◌, ◌∙◌, ap, arith, length, subst, sym}
+use Rattle.cb_queue.specs.RecordQueues.{HasNoneBetween, given_back, owner_at}
+use Rattle.cb_queue.proofs.Given.{block_kept, step_given, step_kept}
 use Rattle.cb_queue.proofs.list_store.ListStoreRecordStore.give_back_all.Goals as goal
 use Rattle.cb_queue.proofs.list_store.ListStoreRecordStore.give_back_all.Goals.{then-owner, else-owner}
 
@@ -26,3 +26,18 @@ loop-n-preserved c =
                 ∙ step_kept q c.args.owner n (n - 1) more here (λ same. w.if-owner.false (c.owner.ensures.value ∙ ap (λ s. owner_at s n) c.loop-n.invariant.is ∙ same));
           }
     ]
+
+pub loop-n-preserved-then-has_none : goal.loop-n-preserved-then-has_none
+loop-n-preserved-then-has_none c =
+    let n = c.loop-n.n in
+    let low = c.saturating_sub-low.result in
+    let q = c.args.self.now in
+    let lower : low ≤ n = omega (arith, c.saturating_sub-low.ensures) in
+    let invariant = c.loop-n.invariant in
+    record {
+      within = omega (arith, lower, invariant.within);
+      is =
+          invariant.is
+          ∙ block_kept q c.args.owner (n - low) low n (omega (arith, lower)) invariant.within
+          (subst (λ s. HasNoneBetween s c.args.owner low n) invariant.is (c.has_none.ensures c.if-has_none.true));
+    }
