@@ -9,6 +9,4 @@ pub mod read;
 pub mod reading;
 pub mod records;
 pub mod selecting;
-#[cfg(test)]
-mod tests;
 pub mod wants;

@@ -15,7 +15,5 @@ mod set_record;
 mod step_record;
 mod steps;
 mod take;
-#[cfg(test)]
-mod tests;
 mod texts;
 pub mod write;

@@ -4,5 +4,3 @@
 pub mod laws;
 pub mod list_store;
 pub mod store;
-#[cfg(test)]
-mod tests;

@@ -11,6 +11,4 @@ pub mod read;
 mod records;
 mod set;
 mod steps;
-#[cfg(test)]
-mod tests;
 mod tests_read;

@@ -9,5 +9,3 @@ pub mod laws;
 pub mod rec;
 pub mod sct;
 pub mod siot;
-#[cfg(test)]
-mod tests;

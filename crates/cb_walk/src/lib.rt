@@ -11,8 +11,6 @@ mod parts;
 mod set;
 mod sets;
 mod step;
-#[cfg(test)]
-mod tests;
 pub mod texts;
 mod walk_below;
 mod walk_cards;

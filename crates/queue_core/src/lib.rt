@@ -2,5 +2,3 @@
 #![tactic(auto)]
 
 pub mod queue;
-#[cfg(test)]
-mod tests;

@@ -1,5 +1,5 @@
 //! A job that waits, and is taken out. The order of many is tested where jobs are read.
-use crate::queue::{JobQueue, Queued};
+use queue_core::queue::{JobQueue, Queued};
 use std::test::Fail;
 
 #[test]

@@ -1,10 +1,10 @@
 //! A job that stands in records byte by byte, and what is read of it.
 ghost use Rattle.std.specs.Prelude.{◌≡◌};
 
-use crate::read::{ReadFault, read_chain};
 use cb_meaning::layout::LAYOUT_1;
 use cb_queue::list_store::ListStore;
 use cb_queue::store::RecordStore;
+use cb_read::read::{ReadFault, read_chain};
 use cb_records::rec::{Rec, read_rec};
 use cb_walk::arrival::record_at;
 use jcl_plan::plan::{DdKind, JobPlan, Operator, SetPlan, Status, VolumePlan, Word};

@@ -1,12 +1,12 @@
 //! What is told of a job's records, and of such that were changed in a byte or a few.
 ghost use Rattle.std.specs.Prelude.{◌≢◌};
 
-use crate::arrival::record_at;
-use crate::first_fault::first_fault;
 use cb_meaning::layout::LAYOUT_1;
 use cb_queue::list_store::ListStore;
 use cb_queue::store::RecordStore;
 use cb_records::rec::{Rec, read_rec};
+use cb_walk::arrival::record_at;
+use cb_walk::first_fault::first_fault;
 use std::alloc::Global;
 use std::process::Abort;
 use std::test::Fail;

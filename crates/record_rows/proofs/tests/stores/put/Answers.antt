@@ -1,7 +1,7 @@
 use Rattle.std.proofs.Common.{◌∙◌, sym}
 use Rattle.cb_queue.specs.RecordQueues.{record_at}
 use Rattle.cb_queue.proofs.Lent.{lent_owner}
-use Rattle.cb_queue.proofs.tests.put.Goals as goal
+use Rattle.record_rows.proofs.tests.stores.put.Goals as goal
 
 pub put-requires-clause-owner : goal.put-requires-clause-owner
 put-requires-clause-owner g c =

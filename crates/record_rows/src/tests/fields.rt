@@ -1,12 +1,12 @@
 //! Records of 176 bytes, their views, and one field written at a time.
-use crate::cards::CardsView;
-use crate::free::FreeView;
-use crate::jct::JctView;
-use crate::jfcb::JfcbView;
-use crate::rec::{Rec, read_rec};
-use crate::sct::SctView;
-use crate::siot::SiotView;
 use cb_meaning::layout::{Field, LAYOUT_1};
+use cb_records::cards::CardsView;
+use cb_records::free::FreeView;
+use cb_records::jct::JctView;
+use cb_records::jfcb::JfcbView;
+use cb_records::rec::{Rec, read_rec};
+use cb_records::sct::SctView;
+use cb_records::siot::SiotView;
 use std::process::Abort;
 use std::test::Fail;
 

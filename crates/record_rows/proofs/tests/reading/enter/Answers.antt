@@ -1,6 +1,6 @@
 use Rattle.std.proofs.Common.{◌≡◌, ◌∙◌, ap, List, [], ◌∷◌, Option, Some, refl, suc, zero, ℕ}
 use Rattle.cb_queue.specs.RecordQueues.{RecordQueue, first_taken, unlinked, with_record_at}
-use Rattle.cb_read.proofs.tests.enter.Goals as goal
+use Rattle.record_rows.proofs.tests.reading.enter.Goals as goal
 
 put_layout : (q : RecordQueue) (n : ℕ) (r : Option (List ℕ)) → (with_record_at q n r).layout ≡ q.layout
 put_layout q zero r = refl

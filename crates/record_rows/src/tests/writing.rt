@@ -4,9 +4,9 @@ ghost use Rattle.jname_core.specs.Grammar.{IsDsNameWithin, IsName8};
 ghost use Rattle.jcl_plan.specs.declared.plan.StepPlan.{StepPlan};
 ghost use Rattle.cb_meaning.specs.Writable.{IsSetAt, IsWritable};
 
-use crate::laws::the_first_layout_holds_jobs;
-use crate::room::is_room;
-use crate::write::write_job;
+use cb_chain::laws::the_first_layout_holds_jobs;
+use cb_chain::room::is_room;
+use cb_chain::write::write_job;
 use cb_meaning::layout::LAYOUT_1;
 use cb_queue::list_store::ListStore;
 use cb_queue::store::RecordStore;

@@ -1,9 +1,9 @@
 //! The order in which records are taken and given back, and what stands in them.
 ghost use Rattle.std.specs.Prelude.{◌≢◌};
 
-use crate::list_store::ListStore;
-use crate::store::RecordStore;
 use cb_meaning::layout::{LAYOUT_1, Layout};
+use cb_queue::list_store::ListStore;
+use cb_queue::store::RecordStore;
 use cb_records::rec::{Rec, read_rec};
 use queue_core::queue::Queued;
 use std::process::Abort;
