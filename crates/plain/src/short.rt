@@ -45,6 +45,21 @@ impl<const N: usize> Short<N> {
     }
 }
 
+/// The order of two texts, byte by byte: short ones mostly differ soon.
+fn order(a: &[u8], b: &[u8]) -> Ordering
+    ensures { result ≡ slice_cmp nat_cmp a.now b.now }
+{
+    let both = a.len().min(b.len());
+    let mut i = 0;
+    while i < both {
+        if a[i] != b[i] {
+            return a[i].cmp(&b[i]);
+        }
+        i += 1;
+    }
+    a.len().cmp(&b.len())
+}
+
 impl<const N: usize> PartialEq for Short<N> {
     ghost eq = { λ s t. pointwise nat_eq s t };
 
@@ -79,6 +94,6 @@ impl<const N: usize> Ord for Short<N> {
     ghost matches_eq = { λ s t. texts_ties s t };
 
     fn cmp(&self, other: &Self) -> Ordering {
-        self.as_slice().cmp(other.as_slice())
+        order(self.as_slice(), other.as_slice())
     }
 }
