@@ -49,7 +49,7 @@ fi
 
 failed=0
 input=/dev/null
-for crate in cat_core vtoc_core set_core shared_core place_core store_rows enq_core prog_core session_core; do
+for crate in volume_rows machine_rows store_rows session_rows; do
     tests=crates/$crate/out/${crate}_tests
     names=$("$tests" --list | grep -o '[a-z_:]*refused_memory[a-z_]*')
     if [ -z "$names" ]; then

@@ -10,5 +10,3 @@ mod field;
 mod operand;
 pub mod read;
 pub mod statement;
-#[cfg(test)]
-mod tests;

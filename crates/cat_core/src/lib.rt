@@ -3,7 +3,3 @@
 
 pub mod catalog;
 pub mod fault;
-#[cfg(test)]
-mod refused;
-#[cfg(test)]
-mod tests;

@@ -4,5 +4,3 @@
 pub mod classes;
 pub mod history;
 pub mod laws;
-#[cfg(test)]
-mod tests;

@@ -7,6 +7,4 @@ mod known;
 pub mod laws;
 mod sets;
 pub mod start;
-#[cfg(test)]
-mod tests;
 pub mod units;

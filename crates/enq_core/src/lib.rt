@@ -4,10 +4,4 @@
 mod conflict;
 pub mod marked;
 pub mod order;
-#[cfg(test)]
-mod random;
-#[cfg(test)]
-mod refused;
 pub mod table;
-#[cfg(test)]
-mod tests;

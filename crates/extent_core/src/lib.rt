@@ -2,11 +2,7 @@
 //! rule)
 #![tactic(auto)]
 
-#[cfg(test)]
-mod compared;
 pub mod extent;
 pub mod free;
 pub mod laws;
 mod maxima;
-#[cfg(test)]
-mod tests;

@@ -4,5 +4,3 @@
 
 pub mod entry;
 pub mod group;
-#[cfg(test)]
-mod tests;

@@ -90,7 +90,7 @@ pub enum StatementFault {
     ReferenceToNothing,
     #[error("a reference leads forward")]
     ForwardReference,
-    #[error("a test names no earlier step")]
+    #[error("a condition names no earlier step")]
     TestOfNoEarlierStep,
     #[error("there are more than 32 steps")]
     TooManySteps,

@@ -6,7 +6,5 @@ pub mod entry;
 pub mod fault;
 pub mod outcome;
 pub mod plan;
-#[cfg(test)]
-mod tests;
 mod text;
 pub mod words;

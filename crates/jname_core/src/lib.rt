@@ -12,5 +12,3 @@ pub mod fault;
 pub mod key;
 pub mod name8;
 pub mod serial;
-#[cfg(test)]
-mod tests;

@@ -5,5 +5,3 @@ pub mod laws;
 mod lists;
 pub mod mounted;
 pub mod place;
-#[cfg(test)]
-mod tests;

@@ -9,6 +9,4 @@ pub mod places;
 pub mod qualified;
 pub mod scan;
 pub mod subparameter;
-#[cfg(test)]
-mod tests;
 pub mod value;

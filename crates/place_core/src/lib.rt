@@ -4,8 +4,4 @@
 mod aside;
 pub mod laws;
 pub mod place;
-#[cfg(test)]
-mod refused;
 mod rule;
-#[cfg(test)]
-mod tests;

@@ -5,6 +5,4 @@ pub mod draft;
 pub mod lent;
 pub mod listed;
 pub mod short;
-#[cfg(test)]
-mod tests;
 pub mod text;

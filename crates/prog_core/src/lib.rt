@@ -5,8 +5,4 @@
 mod counted;
 pub mod fault;
 pub mod library;
-#[cfg(test)]
-mod refused;
-#[cfg(test)]
-mod tests;
 pub mod units;

@@ -2,19 +2,9 @@
 #![tactic(auto)]
 
 mod configure;
-#[cfg(test)]
-mod driven;
 mod listing;
-#[cfg(test)]
-mod refused;
-#[cfg(test)]
-mod repeated;
-#[cfg(test)]
-mod rows;
 mod run;
 pub mod stream;
-#[cfg(test)]
-mod tests;
 mod transfer;
 
 ghost use Rattle.std.specs.Prelude.{◌≡◌, ℕ, List, false};

@@ -12,7 +12,5 @@ mod programs;
 mod says;
 mod sets;
 pub mod statement;
-#[cfg(test)]
-mod tests;
 mod values;
 mod volumes;

@@ -2,7 +2,3 @@
 #![tactic(auto)]
 
 pub mod records;
-#[cfg(test)]
-mod refused;
-#[cfg(test)]
-mod tests;

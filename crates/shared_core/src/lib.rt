@@ -3,10 +3,6 @@
 
 pub mod key;
 pub mod laws;
-#[cfg(test)]
-mod refused;
 pub mod store;
 pub mod sums;
-#[cfg(test)]
-mod tests;
 pub mod volumes;

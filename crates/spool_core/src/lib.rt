@@ -3,5 +3,3 @@
 
 mod queued;
 pub mod spool;
-#[cfg(test)]
-mod tests;

@@ -7,10 +7,6 @@ pub mod entry;
 pub mod fault;
 pub mod laws;
 mod marks;
-#[cfg(test)]
-mod refused;
 mod space;
 mod table;
-#[cfg(test)]
-mod tests;
 pub mod volume;
