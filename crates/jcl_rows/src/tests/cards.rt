@@ -23,19 +23,19 @@ const BAD_VALUE: ReadError = ReadError::Refused(Cause::P(StatementFault::BadValu
 fn reads_a_job(rt: HostRuntime) -> Result<(), Fail> {
     let operand = b"1,SMITH,CLASS=B,PRTY=013,MSGCLASS=9,COND=(4,LT),REGION=20K";
     let job = job_card(rt.alloc(), b"J", operand)?;
-    assert_eq!(rt; job.name, Name8::read(b"J")?);
-    assert_eq!(rt; job.class, b'B');
-    assert_eq!(rt; job.priority, 13);
-    assert_eq!(rt; job.message_class, b'9');
-    assert_eq!(rt; job.tests.len(), 1);
+    assert!(rt; job.name == Name8::read(b"J")?);
+    assert!(rt; job.class == b'B');
+    assert!(rt; job.priority == 13);
+    assert!(rt; job.message_class == b'9');
+    assert!(rt; job.tests.len() == 1);
     let plain = job_card(rt.alloc(), b"J", b"")?;
-    assert_eq!(rt; plain.class, b'A');
-    assert_eq!(rt; plain.priority, 6);
-    assert_eq!(rt; plain.message_class, b'A');
-    assert_eq!(rt; plain.tests.len(), 0);
+    assert!(rt; plain.class == b'A');
+    assert!(rt; plain.priority == 6);
+    assert!(rt; plain.message_class == b'A');
+    assert!(rt; plain.tests.len() == 0);
     match job_card(rt.alloc(), b"J", b"PRTY=14") {
         Ok(_) => assert!(rt; false),
-        Err(error) => assert_eq!(rt; error, BAD_VALUE),
+        Err(error) => assert!(rt; error == BAD_VALUE),
     }
     Ok(())
 }
@@ -43,14 +43,14 @@ fn reads_a_job(rt: HostRuntime) -> Result<(), Fail> {
 #[test]
 fn reads_a_procedure(rt: HostRuntime) -> Result<(), Fail> {
     let procedure = procedure_card(rt.alloc(), true, b"P", b"A=1,1X=,B='X Y'")?;
-    assert_eq!(rt; procedure.name, Some(Name8::read(b"P")?));
+    assert!(rt; procedure.name == Some(Name8::read(b"P")?));
     let symbols = procedure.symbols.as_slice();
-    assert_eq!(rt; symbols.len(), 3);
-    assert_eq!(rt; symbols[1].name.as_slice(), b"1X".as_slice());
-    assert_eq!(rt; symbols[1].value.as_slice(), b"".as_slice());
-    assert_eq!(rt; symbols[2].value.as_slice(), b"X Y".as_slice());
+    assert!(rt; symbols.len() == 3);
+    assert!(rt; symbols[1].name.as_slice() == b"1X".as_slice());
+    assert!(rt; symbols[1].value.as_slice() == b"".as_slice());
+    assert!(rt; symbols[2].value.as_slice() == b"X Y".as_slice());
     let of_the_library = procedure_card(rt.alloc(), false, b"", b"")?;
-    assert_eq!(rt; of_the_library.name, None);
+    assert!(rt; of_the_library.name == None);
     Ok(())
 }
 
@@ -58,20 +58,20 @@ fn reads_a_procedure(rt: HostRuntime) -> Result<(), Fail> {
 fn reads_a_program(rt: HostRuntime) -> Result<(), Fail> {
     let operand = b"PGM=X,COND=((4,LT),EVEN),PARM='A,B',REGION=";
     let step = exec_card(rt.alloc(), b"S", operand)?;
-    assert_eq!(rt; step.name, Some(Name8::read(b"S")?));
+    assert!(rt; step.name == Some(Name8::read(b"S")?));
     match &step.runs {
-        Runs::Program(name) => assert_eq!(rt; *name, Name8::read(b"X")?),
+        Runs::Program(name) => assert!(rt; *name == Name8::read(b"X")?),
         Runs::Procedure { .. } => assert!(rt; false),
     }
     match &step.condition {
         None => assert!(rt; false),
         Some(condition) => {
-            assert_eq!(rt; condition.tests.len(), 1);
-            assert_eq!(rt; condition.after_abend, AfterAbend::Even);
+            assert!(rt; condition.tests.len() == 1);
+            assert!(rt; condition.after_abend == AfterAbend::Even);
         }
     }
-    assert_eq!(rt; step.step_conditions.len(), 0);
-    assert_eq!(rt; step.named_steps.len(), 0);
+    assert!(rt; step.step_conditions.len() == 0);
+    assert!(rt; step.named_steps.len() == 0);
     Ok(())
 }
 
@@ -79,33 +79,30 @@ fn reads_a_program(rt: HostRuntime) -> Result<(), Fail> {
 fn reads_a_call(rt: HostRuntime) -> Result<(), Fail> {
     let operand = b"P,N='A''B',COND.A=ONLY,PARM.B=X,E=,COND=EVEN";
     let call = exec_card(rt.alloc(), b"", operand)?;
-    assert_eq!(rt; call.name, None);
+    assert!(rt; call.name == None);
     match &call.runs {
         Runs::Program(_) => assert!(rt; false),
         Runs::Procedure { name, symbols } => {
-            assert_eq!(rt; *name, Name8::read(b"P")?);
-            assert_eq!(rt; symbols.len(), 2);
+            assert!(rt; *name == Name8::read(b"P")?);
+            assert!(rt; symbols.len() == 2);
             let symbols = symbols.as_slice();
-            assert_eq!(rt; symbols[0].value.as_slice(), b"A'B".as_slice());
-            assert_eq!(rt; symbols[1].name.as_slice(), b"E".as_slice());
+            assert!(rt; symbols[0].value.as_slice() == b"A'B".as_slice());
+            assert!(rt; symbols[1].name.as_slice() == b"E".as_slice());
         }
     }
     let a = Name8::read(b"A")?;
     let steps = call.step_conditions.as_slice();
-    assert_eq!(rt; steps.len(), 1);
-    assert_eq!(rt; steps[0].step, a);
-    assert_eq!(rt; steps[0].condition.after_abend, AfterAbend::Only);
-    assert_eq!(rt;
-        call.named_steps.as_slice(),
-        [a, Name8::read(b"B")?].as_slice()
-    );
+    assert!(rt; steps.len() == 1);
+    assert!(rt; steps[0].step == a);
+    assert!(rt; steps[0].condition.after_abend == AfterAbend::Only);
+    assert!(rt; call.named_steps.as_slice() == [a, Name8::read(b"B")?].as_slice());
     Ok(())
 }
 
 fn is_named(rt: &impl Abort, dd: &DdCard, name: &[u8]) -> Result<(), Fail> {
     let name = read_ds_name(name)?;
     match &dd.set_name {
-        Coded::Value(set) => assert_eq!(rt; *set, SetName::Of(Key::Named(name))),
+        Coded::Value(set) => assert!(rt; *set == SetName::Of(Key::Named(name))),
         Coded::NotGiven | Coded::Nullified => assert!(rt; false),
     }
     Ok(())
@@ -115,11 +112,11 @@ fn is_named(rt: &impl Abort, dd: &DdCard, name: &[u8]) -> Result<(), Fail> {
 fn reads_a_set(rt: HostRuntime) -> Result<(), Fail> {
     let operand = b"DSN=A.B,DISP=(OLD,KEEP),SPACE=(CYL,1),DCB=(*.C,RECFM=F),UCS=X,UNIT=";
     let dd = dd_card(rt.alloc(), b"P1.D", operand, None)?;
-    assert_eq!(rt; dd.qualifier, Some(Name8::read(b"P1")?));
-    assert_eq!(rt; dd.name, Some(Name8::read(b"D")?));
+    assert!(rt; dd.qualifier == Some(Name8::read(b"P1")?));
+    assert!(rt; dd.name == Some(Name8::read(b"D")?));
     is_named(&rt, &dd, b"A.B")?;
     match &dd.disposition {
-        Coded::Value(words) => assert_eq!(rt; words.status, Status::Old),
+        Coded::Value(words) => assert!(rt; words.status == Status::Old),
         Coded::NotGiven | Coded::Nullified => assert!(rt; false),
     }
     let cylinder = Space {
@@ -128,13 +125,13 @@ fn reads_a_set(rt: HostRuntime) -> Result<(), Fail> {
         release: false,
     };
     match &dd.space {
-        Coded::Value(space) => assert_eq!(rt; *space, cylinder),
+        Coded::Value(space) => assert!(rt; *space == cylinder),
         Coded::NotGiven | Coded::Nullified => assert!(rt; false),
     }
     match &dd.control_blocks {
         Coded::Value(found) => {
             let c = DdReference::Dd(Name8::read(b"C")?);
-            assert_eq!(rt; found.as_slice(), [c].as_slice());
+            assert!(rt; found.as_slice() == [c].as_slice());
         }
         Coded::NotGiven | Coded::Nullified => assert!(rt; false),
     }
@@ -155,10 +152,10 @@ fn reads_cards(rt: HostRuntime) -> Result<(), Fail> {
     let mut cards = Listed::empty(rt.alloc());
     cards.push([b'A'; 80])?;
     let dd = dd_card(rt.alloc(), b"", b"*,DCB=BLKSIZE=80", Some(cards))?;
-    assert_eq!(rt; dd.name, None);
+    assert!(rt; dd.name == None);
     assert!(rt; has_data(&dd));
     match &dd.word {
-        Some(Word::Cards(cards)) => assert_eq!(rt; cards.as_slice(), [[b'A'; 80]].as_slice()),
+        Some(Word::Cards(cards)) => assert!(rt; cards.as_slice() == [[b'A'; 80]].as_slice()),
         Some(Word::Dummy) | None => assert!(rt; false),
     }
     Ok(())
@@ -169,8 +166,8 @@ fn merges(rt: HostRuntime) -> Result<(), Fail> {
     let class = dd_card(rt.alloc(), b"D", b"SYSOUT=A", None)?;
     let named = dd_card(rt.alloc(), b"P1.E", b"DSN=A", None)?;
     let set = merged(class, named)?;
-    assert_eq!(rt; set.qualifier, None);
-    assert_eq!(rt; set.name, Some(Name8::read(b"D")?));
+    assert!(rt; set.qualifier == None);
+    assert!(rt; set.name == Some(Name8::read(b"D")?));
     is_named(&rt, &set, b"A")?;
     match &set.sysout {
         Coded::NotGiven => {}
@@ -179,7 +176,7 @@ fn merges(rt: HostRuntime) -> Result<(), Fail> {
     let later = dd_card(rt.alloc(), b"D", b"DDNAME=X", None)?;
     match merged(later, set) {
         Ok(_) => assert!(rt; false),
-        Err(fault) => assert_eq!(rt; fault, Cause::P(StatementFault::ExcludeOneAnother)),
+        Err(fault) => assert!(rt; fault == Cause::P(StatementFault::ExcludeOneAnother)),
     }
     Ok(())
 }

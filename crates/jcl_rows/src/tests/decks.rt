@@ -32,19 +32,19 @@ fn reads_decks(rt: HostRuntime) -> Result<(), Fail> {
     let text =
         "//J JOB 1\n//P PROC A=B\n//S EXEC PGM=&A\n//O DD SYSOUT=A\n// PEND\n//JOBLIB DD DSN=L\n// DD DSN=M\n//ONE EXEC P\n//D DD DUMMY\n// DD DUMMY\n//TWO EXEC PGM=X";
     let deck = deck_in(rt.alloc(), text)??;
-    assert_eq!(rt; deck.job.name, Name8::read(b"J")?);
-    assert_eq!(rt; deck.procedures.len(), 1);
+    assert!(rt; deck.job.name == Name8::read(b"J")?);
+    assert!(rt; deck.procedures.len() == 1);
     for procedure in deck.procedures.as_slice() {
-        assert_eq!(rt; procedure.name, Name8::read(b"P")?);
-        assert_eq!(rt; procedure.symbols.len(), 1);
-        assert_eq!(rt; procedure.statements.len(), 2);
+        assert!(rt; procedure.name == Name8::read(b"P")?);
+        assert!(rt; procedure.symbols.len() == 1);
+        assert!(rt; procedure.statements.len() == 2);
     }
-    assert_eq!(rt; deck.steps.len(), 2);
+    assert!(rt; deck.steps.len() == 2);
     let mut dds: Vec<usize> = Vec::new(rt.alloc());
     for step in deck.steps.as_slice() {
         dds.push(step.dds.len())?;
     }
-    assert_eq!(rt; dds.as_slice(), [2, 0].as_slice());
+    assert!(rt; dds.as_slice() == [2, 0].as_slice());
     Ok(())
 }
 
@@ -81,8 +81,8 @@ fn refuses_decks(rt: HostRuntime) -> Result<(), Fail> {
     for (text, fault) in REFUSED {
         let want = ReadError::Refused(Cause::P(*fault));
         match deck_in(rt.alloc(), text)? {
-            Ok(_) => assert!(rt; false, "{text}"),
-            Err(error) => assert_eq!(rt; error, want, "{text}"),
+            Ok(_) => assert!(rt; false),
+            Err(error) => assert!(rt; error == want),
         }
     }
     Ok(())
@@ -104,7 +104,7 @@ fn refuses_sixteen_procedures(rt: HostRuntime) -> Result<(), Fail> {
     ] {
         match deck {
             Ok(_) => assert!(rt; false),
-            Err(error) => assert_eq!(rt; error, ReadError::Refused(Cause::P(fault))),
+            Err(error) => assert!(rt; error == ReadError::Refused(Cause::P(fault))),
         }
     }
     Ok(())
@@ -161,7 +161,7 @@ fn overrides_dds(rt: HostRuntime) -> Result<(), Fail> {
         for step in overridden(rt.alloc(), dds)??.as_slice() {
             left.push(step.dds.len())?;
         }
-        assert_eq!(rt; left.as_slice(), want.as_slice(), "{dds}");
+        assert!(rt; left.as_slice() == want.as_slice());
     }
     for (dds, fault) in [
         (
@@ -172,8 +172,8 @@ fn overrides_dds(rt: HostRuntime) -> Result<(), Fail> {
         ("//A.OUT DD DISP=OLD", StatementFault::ExcludeOneAnother),
     ] {
         match overridden(rt.alloc(), dds)? {
-            Ok(_) => assert!(rt; false, "{dds}"),
-            Err(error) => assert_eq!(rt; error, ReadError::Refused(Cause::P(fault)), "{dds}"),
+            Ok(_) => assert!(rt; false),
+            Err(error) => assert!(rt; error == ReadError::Refused(Cause::P(fault))),
         }
     }
     Ok(())
@@ -185,39 +185,27 @@ fn finds_what_references_mean(rt: HostRuntime) -> Result<(), Fail> {
     let (a, b) = (Name8::read(b"A")?, Name8::read(b"B")?);
     let (input, output) = (Name8::read(b"IN")?, Name8::read(b"OUT")?);
     let steps = steps.as_slice();
-    assert_eq!(rt;
-        earlier_step(None, StepReference::Step(a), 2, steps),
-        Some(1)
-    );
-    assert_eq!(rt; earlier_step(None, StepReference::Step(a), 1, steps), None);
-    assert_eq!(rt; earlier_step(None, StepReference::Step(b), 2, steps), None);
+    assert!(rt; earlier_step(None, StepReference::Step(a), 2, steps) == Some(1));
+    assert!(rt; earlier_step(None, StepReference::Step(a), 1, steps) == None);
+    assert!(rt; earlier_step(None, StepReference::Step(b), 2, steps) == None);
     let third = DdReference::OfStep {
         step: a,
         dd: output,
     };
     let found = Target { step: 1, dd: 3 };
-    assert_eq!(rt; target_of(None, 2, 1, steps, third), Ok(found));
+    assert!(rt; target_of(None, 2, 1, steps, third) == Ok(found));
     let here = Target { step: 1, dd: 1 };
-    assert_eq!(rt;
-        target_of(None, 1, 2, steps, DdReference::Dd(input)),
-        Ok(here)
-    );
+    assert!(rt; target_of(None, 1, 2, steps, DdReference::Dd(input)) == Ok(here));
     let forward = Err(Cause::P(StatementFault::ForwardReference));
-    assert_eq!(rt;
-        target_of(None, 1, 1, steps, DdReference::Dd(output)),
-        forward
-    );
+    assert!(rt; target_of(None, 1, 1, steps, DdReference::Dd(output)) == forward);
     let later = DdReference::OfStep { step: b, dd: input };
-    assert_eq!(rt; target_of(None, 1, 1, steps, later), forward);
+    assert!(rt; target_of(None, 1, 1, steps, later) == forward);
     let nothing = Err(Cause::P(StatementFault::ReferenceToNothing));
-    assert_eq!(rt;
-        target_of(None, 2, 1, steps, DdReference::Dd(output)),
-        nothing
-    );
+    assert!(rt; target_of(None, 2, 1, steps, DdReference::Dd(output)) == nothing);
     let none = DdReference::OfStep {
         step: b,
         dd: output,
     };
-    assert_eq!(rt; target_of(None, 2, 1, steps, none), nothing);
+    assert!(rt; target_of(None, 2, 1, steps, none) == nothing);
     Ok(())
 }

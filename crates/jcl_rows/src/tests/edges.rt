@@ -305,7 +305,7 @@ const EDGES: &[(&str, Option<Cause>)] = &[
 fn each_refusal_has_its_edge(rt: HostRuntime) -> Result<(), Fail> {
     for (text, want) in EDGES {
         let cause = job_in(rt.alloc(), text)?.err();
-        assert_eq!(rt; cause, *want, "{text:?}");
+        assert!(rt; cause == *want);
     }
     Ok(())
 }

@@ -19,9 +19,9 @@ fn says(
     operator: Operator,
     step: Option<StepReference>,
 ) {
-    assert_eq!(rt; test.code.number(), code);
-    assert_eq!(rt; test.operator, operator);
-    assert_eq!(rt; test.step, step);
+    assert!(rt; test.code.number() == code);
+    assert!(rt; test.operator == operator);
+    assert!(rt; test.step == step);
 }
 
 #[test]
@@ -29,8 +29,8 @@ fn reads_tests(rt: HostRuntime) -> Result<(), Fail> {
     let step = Name8::read(b"S1")?;
     let procedure_step = Name8::read(b"P1")?;
     let named = condition(true, b"(0,EQ,S1)")?;
-    assert_eq!(rt; named.after_abend, AfterAbend::Unsaid);
-    assert_eq!(rt; named.tests.len(), 1);
+    assert!(rt; named.after_abend == AfterAbend::Unsaid);
+    assert!(rt; named.tests.len() == 1);
     says(
         &rt,
         &named.tests[0],
@@ -39,8 +39,8 @@ fn reads_tests(rt: HostRuntime) -> Result<(), Fail> {
         Some(StepReference::Step(step)),
     );
     let qualified = condition(true, b"(EVEN,(4095,GE,S1.P1),(4,LT))")?;
-    assert_eq!(rt; qualified.after_abend, AfterAbend::Even);
-    assert_eq!(rt; qualified.tests.len(), 2);
+    assert!(rt; qualified.after_abend == AfterAbend::Even);
+    assert!(rt; qualified.tests.len() == 2);
     let reference = StepReference::ProcedureStep {
         step,
         procedure_step,
@@ -60,8 +60,8 @@ fn reads_tests(rt: HostRuntime) -> Result<(), Fail> {
 fn reads_operators(rt: HostRuntime) -> Result<(), Fail> {
     let all = b"((1,GT),(2,GE),(3,EQ),(4,LT),(5,LE),(6,NE),(7,GT),(8,GE))";
     let read = condition(false, all)?;
-    assert_eq!(rt; read.after_abend, AfterAbend::Unsaid);
-    assert_eq!(rt; read.tests.len(), 8);
+    assert!(rt; read.after_abend == AfterAbend::Unsaid);
+    assert!(rt; read.tests.len() == 8);
     let operators = [
         Operator::Gt,
         Operator::Ge,
@@ -87,8 +87,8 @@ fn reads_even_and_only(rt: HostRuntime) -> Result<(), Fail> {
         ("(ONLY)", AfterAbend::Only),
     ] {
         let read = condition(true, text.as_bytes())?;
-        assert_eq!(rt; read.after_abend, word, "{text}");
-        assert!(rt; read.tests.is_empty(), "{text}");
+        assert!(rt; read.after_abend == word);
+        assert!(rt; read.tests.is_empty());
     }
     Ok(())
 }
@@ -118,8 +118,8 @@ fn tells_faults_of_conditions(rt: HostRuntime) {
         (true, "(8,LT,1S)", Cause::N(3)),
     ] {
         match condition(steps, text.as_bytes()) {
-            Ok(_) => assert!(rt; false, "{text}"),
-            Err(told) => assert_eq!(rt; told, fault, "{text}"),
+            Ok(_) => assert!(rt; false),
+            Err(told) => assert!(rt; told == fault),
         }
     }
 }
@@ -131,12 +131,12 @@ fn reads_references_of_control_blocks(rt: HostRuntime) -> Result<(), Fail> {
     let y = Name8::read(b"Y")?;
     let references = control_blocks(rt.alloc(), b"(*.X,RECFM=F,*.S.Y)")?;
     let wanted = [DdReference::Dd(x), DdReference::OfStep { step: s, dd: y }];
-    assert_eq!(rt; references.as_slice(), wanted.as_slice());
+    assert!(rt; references.as_slice() == wanted.as_slice());
     let none = control_blocks(rt.alloc(), b"(RECFM=FB,LRECL=80)")?;
-    assert_eq!(rt; none.len(), 0);
+    assert!(rt; none.len() == 0);
     match control_blocks(rt.alloc(), b"(*.X,*.1)") {
         Ok(_) => assert!(rt; false),
-        Err(error) => assert_eq!(rt; error, ReadError::Refused(Cause::N(3))),
+        Err(error) => assert!(rt; error == ReadError::Refused(Cause::N(3))),
     }
     Ok(())
 }

@@ -25,26 +25,23 @@ fn reads_references(rt: HostRuntime) -> Result<(), Fail> {
     let step = Name8::read(b"STEPNAME")?;
     let procedure_step = Name8::read(b"P")?;
     let dd = Name8::read(b"#1")?;
-    assert_eq!(rt; dd_reference(b"*.#1"), Ok(DdReference::Dd(dd)));
-    assert_eq!(rt;
-        dd_reference(b"*.STEPNAME.#1"),
-        Ok(DdReference::OfStep { step, dd })
+    assert!(rt; dd_reference(b"*.#1") == Ok(DdReference::Dd(dd)));
+    assert!(rt; dd_reference(b"*.STEPNAME.#1") == Ok(DdReference::OfStep { step, dd }));
+    assert!(rt;
+        dd_reference(b"*.STEPNAME.P.#1")
+            == Ok(DdReference::OfProcedureStep {
+                step,
+                procedure_step,
+                dd,
+            })
     );
-    assert_eq!(rt;
-        dd_reference(b"*.STEPNAME.P.#1"),
-        Ok(DdReference::OfProcedureStep {
-            step,
-            procedure_step,
-            dd,
-        })
-    );
-    assert_eq!(rt; step_reference(b"STEPNAME"), Ok(StepReference::Step(step)));
-    assert_eq!(rt;
-        step_reference(b"STEPNAME.P"),
-        Ok(StepReference::ProcedureStep {
-            step,
-            procedure_step,
-        })
+    assert!(rt; step_reference(b"STEPNAME") == Ok(StepReference::Step(step)));
+    assert!(rt;
+        step_reference(b"STEPNAME.P")
+            == Ok(StepReference::ProcedureStep {
+                step,
+                procedure_step,
+            })
     );
     Ok(())
 }
@@ -61,7 +58,7 @@ fn tells_faults_of_references(rt: HostRuntime) {
         ("*.A.B.C.1", Cause::N(3)),
         ("*.A.B.C.D..", Cause::N(1)),
     ] {
-        assert_eq!(rt; dd_reference(text.as_bytes()), Err(fault), "{text}");
+        assert!(rt; dd_reference(text.as_bytes()) == Err(fault));
     }
     for (text, fault) in [
         ("", Cause::N(1)),
@@ -71,7 +68,7 @@ fn tells_faults_of_references(rt: HostRuntime) {
         ("A.B.C", BAD_VALUE),
         ("A.B.1C", Cause::N(3)),
     ] {
-        assert_eq!(rt; step_reference(text.as_bytes()), Err(fault), "{text}");
+        assert!(rt; step_reference(text.as_bytes()) == Err(fault));
     }
 }
 
@@ -99,7 +96,7 @@ fn reads_dispositions(rt: HostRuntime) {
             normal,
             conditional,
         };
-        assert_eq!(rt; disposition(text.as_bytes()), Ok(words), "{text}");
+        assert!(rt; disposition(text.as_bytes()) == Ok(words));
     }
     for text in [
         "NEWS",
@@ -109,14 +106,14 @@ fn reads_dispositions(rt: HostRuntime) {
         "(OLD,,,)",
         "(OLD,KEEP",
     ] {
-        assert_eq!(rt; disposition(text.as_bytes()), Err(BAD_VALUE), "{text}");
+        assert!(rt; disposition(text.as_bytes()) == Err(BAD_VALUE));
     }
 }
 
 #[test]
 fn reads_units(rt: HostRuntime) -> Result<(), Fail> {
-    assert_eq!(rt; unit(b"2314"), Ok(UnitName::read(b"2314")?));
-    assert_eq!(rt; unit(b"(DISKUNIT,2)"), Ok(UnitName::read(b"DISKUNIT")?));
+    assert!(rt; unit(b"2314") == Ok(UnitName::read(b"2314")?));
+    assert!(rt; unit(b"(DISKUNIT,2)") == Ok(UnitName::read(b"DISKUNIT")?));
     for (text, fault) in [
         ("", Cause::N(1)),
         ("(,1)", Cause::N(1)),
@@ -125,7 +122,7 @@ fn reads_units(rt: HostRuntime) -> Result<(), Fail> {
         ("AFF=X", LEFT_OUT),
         ("(AFF=X,DEFER)", LEFT_OUT),
     ] {
-        assert_eq!(rt; unit(text.as_bytes()), Err(fault), "{text}");
+        assert!(rt; unit(text.as_bytes()) == Err(fault));
     }
     Ok(())
 }
@@ -140,7 +137,7 @@ fn tells_faults_of_labels(rt: HostRuntime) {
         "(1,SL,NOPWREAD,OUT,EXPDT=75100)",
         "(,RETPD=30)",
     ] {
-        assert_eq!(rt; label_fault(text.as_bytes()), None, "{text}");
+        assert!(rt; label_fault(text.as_bytes()) == None);
     }
     for (text, fault) in [
         ("EXPDT=75000", BAD_VALUE),
@@ -163,7 +160,7 @@ fn tells_faults_of_labels(rt: HostRuntime) {
         ),
         ("(RETPD=1,OTHER=1)", BAD_VALUE),
     ] {
-        assert_eq!(rt; label_fault(text.as_bytes()), Some(fault), "{text}");
+        assert!(rt; label_fault(text.as_bytes()) == Some(fault));
     }
 }
 
@@ -180,12 +177,12 @@ fn counts_characters_of_a_parameter(rt: HostRuntime) {
     let mut doubled = [b'\''; 202];
     doubled[0] = b'(';
     doubled[201] = b')';
-    assert_eq!(rt; parm_fault(b""), None);
-    assert_eq!(rt; parm_fault(&hundred), None);
-    assert_eq!(rt; parm_fault(&more), Some(BAD_VALUE));
-    assert_eq!(rt; parm_fault(&quoted), None);
-    assert_eq!(rt; parm_fault(&wrapped), None);
-    assert_eq!(rt; parm_fault(&doubled), None);
+    assert!(rt; parm_fault(b"") == None);
+    assert!(rt; parm_fault(&hundred) == None);
+    assert!(rt; parm_fault(&more) == Some(BAD_VALUE));
+    assert!(rt; parm_fault(&quoted) == None);
+    assert!(rt; parm_fault(&wrapped) == None);
+    assert!(rt; parm_fault(&doubled) == None);
 }
 
 #[test]
@@ -207,7 +204,7 @@ fn reads_space(rt: HostRuntime) {
             secondary,
             release,
         };
-        assert_eq!(rt; space(text.as_bytes()), Ok(asked), "{text}");
+        assert!(rt; space(text.as_bytes()) == Ok(asked));
     }
 }
 
@@ -242,7 +239,7 @@ fn tells_faults_of_space(rt: HostRuntime) {
         ("(ABSTR)", LEFT_OUT),
         ("(ABSTR,(1,1))", LEFT_OUT),
     ] {
-        assert_eq!(rt; space(text.as_bytes()), Err(fault), "{text}");
+        assert!(rt; space(text.as_bytes()) == Err(fault));
     }
 }
 
@@ -261,14 +258,11 @@ fn reads_set_names(rt: HostRuntime) -> Result<(), Fail> {
     let longest = read_ds_name(LONGEST_NAME.as_bytes())?;
     let temporary = SetName::Of(Key::Temporary(Name8::read(b"TEMPNAME")?));
     let dd = SetName::OfDd(DdReference::Dd(Name8::read(b"X")?));
-    assert_eq!(rt; set_name(b"NULLFILE"), Ok(SetName::Null));
-    assert_eq!(rt;
-        set_name(LONGEST_NAME.as_bytes()),
-        Ok(SetName::Of(Key::Named(longest)))
-    );
-    assert_eq!(rt; set_name(b"&&TEMPNAME"), Ok(temporary));
-    assert_eq!(rt; set_name(b"&TEMPNAME"), Ok(temporary));
-    assert_eq!(rt; set_name(b"*.X"), Ok(dd));
+    assert!(rt; set_name(b"NULLFILE") == Ok(SetName::Null));
+    assert!(rt; set_name(LONGEST_NAME.as_bytes()) == Ok(SetName::Of(Key::Named(longest))));
+    assert!(rt; set_name(b"&&TEMPNAME") == Ok(temporary));
+    assert!(rt; set_name(b"&TEMPNAME") == Ok(temporary));
+    assert!(rt; set_name(b"*.X") == Ok(dd));
     Ok(())
 }
 
@@ -284,7 +278,7 @@ fn reads_relative_names(rt: HostRuntime) -> Result<(), Fail> {
         ("PAY.G(00)", Sign::Plus, 0),
     ] {
         let key = Key::Relative { base, sign, amount };
-        assert_eq!(rt; set_name(text.as_bytes()), Ok(SetName::Of(key)), "{text}");
+        assert!(rt; set_name(text.as_bytes()) == Ok(SetName::Of(key)));
     }
     assert!(rt; set_name(LONGEST_BASE.as_bytes()).is_ok());
     Ok(())
@@ -317,7 +311,7 @@ fn tells_faults_of_set_names(rt: HostRuntime) {
         ("A..B(MEM)", Cause::N(1)),
         ("*.A.B.C.D", BAD_VALUE),
     ] {
-        assert_eq!(rt; set_name(text.as_bytes()), Err(fault), "{text}");
+        assert!(rt; set_name(text.as_bytes()) == Err(fault));
     }
 }
 
@@ -340,12 +334,12 @@ fn reads_volumes(rt: HostRuntime) -> Result<(), Fail> {
         ("(RETAIN,12)", VolumeName::Any),
         ("", VolumeName::Any),
     ] {
-        assert_eq!(rt; volume_name(text.as_bytes()), Ok(volume), "{text}");
+        assert!(rt; volume_name(text.as_bytes()) == Ok(volume));
     }
     let mut referred = [0u8; 48];
     referred[..4].copy_from_slice(b"REF=");
     referred[4..].copy_from_slice(LONGEST_NAME.as_bytes());
-    assert_eq!(rt; volume_name(&referred), Ok(VolumeName::OfName(longest)));
+    assert!(rt; volume_name(&referred) == Ok(VolumeName::OfName(longest)));
     Ok(())
 }
 
@@ -371,6 +365,6 @@ fn tells_faults_of_volumes(rt: HostRuntime) {
         ),
         ("(SER=A,SER=A,REF=1)", Cause::N(3)),
     ] {
-        assert_eq!(rt; volume_name(text.as_bytes()), Err(fault), "{text}");
+        assert!(rt; volume_name(text.as_bytes()) == Err(fault));
     }
 }

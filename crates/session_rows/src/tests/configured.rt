@@ -295,8 +295,8 @@ fn takes_configurations(rt: HostRuntime) -> Result<(), Fail> {
             Ok(SessionEnd) => Some((0, 0)),
             Err(fault) => fault.number_and_line(),
         };
-        assert_eq!(rt; told, Some((*number, *line)), "at {session:?}");
-        assert_eq!(rt; held.as_slice(), listing.as_bytes(), "at {session:?}");
+        assert!(rt; told == Some((*number, *line)));
+        assert!(rt; held.as_slice() == listing.as_bytes());
     }
     Ok(())
 }
@@ -321,7 +321,7 @@ fn a_program_has_4096_requests_at_most(rt: HostRuntime) -> Result<(), Fail> {
             Ok(SessionEnd) => Some((0, 0)),
             Err(fault) => fault.number_and_line(),
         };
-        assert_eq!(rt; told, wanted);
+        assert!(rt; told == wanted);
         assert!(rt; held.is_empty());
     }
     Ok(())

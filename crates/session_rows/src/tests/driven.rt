@@ -140,8 +140,8 @@ fn refused_memory_stops_a_drive(rt: HostRuntime) -> Result<(), Fail> {
             drive_twice(rt.alloc(), events.as_slice(), &mut text)?
         }
     };
-    assert_eq!(rt; done.1, events.len());
-    assert_eq!(rt; text.kept(), LISTING.as_bytes());
+    assert!(rt; done.1 == events.len());
+    assert!(rt; text.kept() == LISTING.as_bytes());
     refused = refused || done.0 < events.len();
     println!(rt; "refused: {refused}")?;
     Ok(())

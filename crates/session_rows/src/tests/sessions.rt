@@ -259,8 +259,8 @@ fn lists_sessions(rt: HostRuntime) -> Result<(), Fail> {
             Ok(SessionEnd) => Some((0, 0)),
             Err(fault) => fault.number_and_line(),
         };
-        assert_eq!(rt; told, Some((*number, *line)), "at {text:?}");
-        assert_eq!(rt; writer.held.as_slice(), listing.as_bytes(), "at {text:?}");
+        assert!(rt; told == Some((*number, *line)));
+        assert!(rt; writer.held.as_slice() == listing.as_bytes());
     }
     Ok(())
 }
@@ -304,13 +304,9 @@ fn fails_at_each_read(rt: HostRuntime) -> Result<(), Fail> {
                 Ok(SessionEnd) => None,
                 Err(fault) => fault.number_and_line(),
             };
-            assert_eq!(rt; told, Some((6, line_read(bytes))), "at {bytes}");
-            assert_eq!(rt; reader.calls, bytes + 1);
-            assert_eq!(rt;
-                writer.held.as_slice(),
-                listing_read(bytes).as_bytes(),
-                "at {bytes}"
-            );
+            assert!(rt; told == Some((6, line_read(bytes))));
+            assert!(rt; reader.calls == bytes + 1);
+            assert!(rt; writer.held.as_slice() == listing_read(bytes).as_bytes());
         }
     }
     Ok(())
@@ -327,15 +323,15 @@ fn fails_at_each_write(rt: HostRuntime) -> Result<(), Fail> {
             writer.kind = *kind;
             let result = run_session(rt.alloc(), &mut reader, &mut writer, OPTIONS);
             let line = if call <= 2 { 1 } else { 3 };
-            assert_eq!(rt; result, Err(SessionFault::WriteFailed(line)), "at {call}");
-            assert_eq!(rt; writer.calls, call);
+            assert!(rt; result == Err(SessionFault::WriteFailed(line)));
+            assert!(rt; writer.calls == call);
             let taken = 7 * (call - 1);
             assert!(rt;
                 listing_read(TURNS.len())
                     .as_bytes()
                     .starts_with(writer.held.as_slice())
             );
-            assert_eq!(rt; writer.held.len(), taken);
+            assert!(rt; writer.held.len() == taken);
         }
     }
     Ok(())
@@ -357,19 +353,19 @@ fn writes_while_it_runs(rt: HostRuntime) -> Result<(), Fail> {
     let mut reader = drip_of(text.as_slice());
     let mut writer = empty_page(rt.alloc());
     let result = run_session(rt.alloc(), &mut reader, &mut writer, OPTIONS);
-    assert_eq!(rt; result, Ok(SessionEnd));
+    assert!(rt; result == Ok(SessionEnd));
     let listing = writer.held.as_slice();
-    assert_eq!(rt; listing.len(), 924_000);
+    assert!(rt; listing.len() == 924_000);
     for (number, line) in listing.chunks(14).enumerate() {
         let expected = if number < 65_535 {
             b"-- REFUSED A1\n"
         } else {
             b"-- REFUSED A5\n"
         };
-        assert_eq!(rt; line, expected.as_slice(), "at {number}");
+        assert!(rt; line == expected.as_slice());
     }
     // the lines of five statements are more than a buffer holds; those of the last are written at the end
-    assert_eq!(rt; writer.calls, 14);
+    assert!(rt; writer.calls == 14);
     Ok(())
 }
 
@@ -399,9 +395,9 @@ fn fails_while_it_runs(rt: HostRuntime) -> Result<(), Fail> {
             writer.fails_at = *call;
             writer.kind = *kind;
             let result = run_session(rt.alloc(), &mut reader, &mut writer, OPTIONS);
-            assert_eq!(rt; result, Err(SessionFault::WriteFailed(*line)), "at {call}");
-            assert_eq!(rt; writer.calls, *call);
-            assert_eq!(rt; writer.held.len(), *taken);
+            assert!(rt; result == Err(SessionFault::WriteFailed(*line)));
+            assert!(rt; writer.calls == *call);
+            assert!(rt; writer.held.len() == *taken);
             for line in writer.held.as_slice().chunks(14) {
                 assert!(rt; b"-- REFUSED A1\n".starts_with(line));
             }
@@ -416,7 +412,7 @@ fn stops_at_the_first_byte_past_the_limit(rt: HostRuntime) -> Result<(), Fail> {
     let mut reader = drip_of(longest.as_slice());
     let mut writer = empty_page(rt.alloc());
     let result = run_session(rt.alloc(), &mut reader, &mut writer, OPTIONS);
-    assert_eq!(rt; result, Ok(SessionEnd));
+    assert!(rt; result == Ok(SessionEnd));
     let long = vec![in rt.alloc(); b'\n'; MOST_BYTES + 2]?;
     let mut reader = drip_of(long.as_slice());
     let result = run_session(rt.alloc(), &mut reader, &mut writer, OPTIONS);
@@ -424,8 +420,8 @@ fn stops_at_the_first_byte_past_the_limit(rt: HostRuntime) -> Result<(), Fail> {
         Ok(SessionEnd) => None,
         Err(fault) => fault.number_and_line(),
     };
-    assert_eq!(rt; told, Some((5, MOST_BYTES + 1)));
-    assert_eq!(rt; reader.calls, MOST_BYTES + 1);
+    assert!(rt; told == Some((5, MOST_BYTES + 1)));
+    assert!(rt; reader.calls == MOST_BYTES + 1);
     assert!(rt; writer.held.is_empty());
     Ok(())
 }

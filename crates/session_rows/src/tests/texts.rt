@@ -451,7 +451,7 @@ fn reads_whole_texts(rt: HostRuntime) -> Result<(), Fail> {
         for (text, want) in texts {
             let read = statements(rt.alloc(), text.as_bytes(), Ending::Whole)?;
             let got = shown(rt.alloc(), read.as_slice())?;
-            assert_eq!(rt; got.as_slice(), want.as_bytes(), "at {text:?}");
+            assert!(rt; got.as_slice() == want.as_bytes());
         }
     }
     Ok(())
@@ -462,10 +462,10 @@ fn reads_texts_that_were_cut(rt: HostRuntime) -> Result<(), Fail> {
     for (text, long, failed) in CUT_TEXTS {
         let read = statements(rt.alloc(), text.as_bytes(), Ending::TooLong)?;
         let got = shown(rt.alloc(), read.as_slice())?;
-        assert_eq!(rt; got.as_slice(), long.as_bytes(), "at {text:?}");
+        assert!(rt; got.as_slice() == long.as_bytes());
         let read = statements(rt.alloc(), text.as_bytes(), Ending::ReadFailed)?;
         let got = shown(rt.alloc(), read.as_slice())?;
-        assert_eq!(rt; got.as_slice(), failed.as_bytes(), "at {text:?}");
+        assert!(rt; got.as_slice() == failed.as_bytes());
     }
     Ok(())
 }
