@@ -58,14 +58,14 @@ fn the_lowest_holder_of_the_first_name_is_told(rt: HostRuntime) -> Result<(), Fa
     let high = table.hold_all(7, &wants).expect(&rt, "free");
     let low = table.hold_all(3, &wants).expect(&rt, "shared");
     let middle = table.hold_all(5, &wants).expect(&rt, "shared");
-    assert_eq!(rt; low.job(), 3);
+    assert!(rt; low.job() == 3);
     let at_b = HoldFault::Blocked(Blocked { job: 3, name: b });
-    assert_eq!(rt; fault_of(&rt, &mut table, 1, &all), Some(at_b));
-    assert_eq!(rt; table.holds().len(), 6, "none of the names was held");
+    assert!(rt; fault_of(&rt, &mut table, 1, &all) == Some(at_b));
+    assert!(rt; table.holds().len() == 6);
     table.release(low);
     table.release(middle);
     let at_c = HoldFault::Blocked(Blocked { job: 7, name: c });
-    assert_eq!(rt; fault_of(&rt, &mut table, 2, &last), Some(at_c));
+    assert!(rt; fault_of(&rt, &mut table, 2, &last) == Some(at_c));
     table.release(high);
     assert!(rt; holds_none(&table, 1));
     let every = table.hold_all(1, &all).expect(&rt, "all are free");
@@ -76,7 +76,7 @@ fn the_lowest_holder_of_the_first_name_is_told(rt: HostRuntime) -> Result<(), Fa
     });
     assert!(rt; are_held(&table, &held));
     table.release(every);
-    assert_eq!(rt; table.holds().len(), 0);
+    assert!(rt; table.holds().len() == 0);
     Ok(())
 }
 
@@ -96,14 +96,10 @@ fn only_sharers_hold_a_name_together(rt: HostRuntime) -> Result<(), Fail> {
             name: wanted.name,
         });
         let fault = fault_of(&rt, &mut table, 2, &[wanted]);
-        assert_eq!(rt;
-            fault,
-            if free { None } else { Some(block) },
-            "{held:?} {wanted:?}"
-        );
-        assert_eq!(rt; table.holds().len(), 1);
+        assert!(rt; fault == (if free { None } else { Some(block) }));
+        assert!(rt; table.holds().len() == 1);
         table.release(first);
-        assert_eq!(rt; fault_of(&rt, &mut table, 2, &[wanted]), None);
+        assert!(rt; fault_of(&rt, &mut table, 2, &[wanted]) == None);
     }
     Ok(())
 }

@@ -237,9 +237,9 @@ fn sets_go_to_the_first_volume_with_room(rt: HostRuntime) -> Result<(), Fail> {
     // The second unit name has a volume that is not there before one with 25 free tracks.
     let second = [new_set(Some(2), 25), new_set(Some(2), 1), new_set(None, 1)];
     let places = places_of(rt.alloc(), &names, &first, &second)?;
-    assert_eq!(rt;
-        places.as_str(),
-        "1.1 222222 1.2 222222 1.3 111111 1.4 222222 1.5 333333 2.1 333333 2.2 999999 2.3 111111 "
+    assert!(rt;
+        places.as_str()
+            == "1.1 222222 1.2 222222 1.3 111111 1.4 222222 1.5 333333 2.1 333333 2.2 999999 2.3 111111 "
     );
     Ok(())
 }
@@ -256,10 +256,7 @@ fn a_coded_volume_is_taken_as_it_is(rt: HostRuntime) -> Result<(), Fail> {
         new_on(names.missing, None, 1),
     ];
     let places = places_of(rt.alloc(), &names, &first, &[])?;
-    assert_eq!(rt;
-        places.as_str(),
-        "1.1 222222 1.2 222222 1.3 222222 1.4 111111 1.5 999999 "
-    );
+    assert!(rt; places.as_str() == "1.1 222222 1.2 222222 1.3 222222 1.4 111111 1.5 999999 ");
     Ok(())
 }
 
@@ -286,6 +283,6 @@ fn other_sets_are_not_placed(rt: HostRuntime) -> Result<(), Fail> {
         new_set(Some(1), 0),
     ];
     let places = places_of(rt.alloc(), &names, &first, &second)?;
-    assert_eq!(rt; places.as_str(), "2.1 333333 2.2 999999 2.3 222222 ");
+    assert!(rt; places.as_str() == "2.1 333333 2.2 999999 2.3 222222 ");
     Ok(())
 }

@@ -49,7 +49,7 @@ fn add(
     if programs::add(rt, library, first).is_ok() {
         return Ok(false);
     }
-    assert!(rt; are_there(library, at)?, "before {at}");
+    assert!(rt; are_there(library, at)?);
     assert!(rt; programs::add(rt, library, second).is_ok());
     Ok(true)
 }

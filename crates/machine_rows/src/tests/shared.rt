@@ -105,24 +105,24 @@ fn temporary_sets_are_their_jobs(rt: HostRuntime) -> Result<(), Fail> {
     let mut store = store(rt.alloc())?;
     let (key, volume) = (temporary("T")?, serial("111111")?);
     let unnamed = Key::Unnamed { step: 1, dd: 2 };
-    assert_eq!(rt; make(&rt, &mut store, 1, &key, volume, 2), Ok(()));
-    assert_eq!(rt; store.set(2, &key, volume), None);
-    assert_eq!(rt; make(&rt, &mut store, 2, &key, volume, 3), Ok(()));
-    assert_eq!(rt; make(&rt, &mut store, 2, &unnamed, volume, 1), Ok(()));
-    assert_eq!(rt; store.append(1, &key, volume, &[7; 80]), Ok(()));
-    assert_eq!(rt; store.append(1, &key, volume, &[8; 80]), Ok(()));
-    assert_eq!(rt; store.append(1, &unnamed, volume, &[9; 80]), Ok(()));
-    assert_eq!(rt; store.set(1, &key, volume), facts(2, 2));
-    assert_eq!(rt; store.set(2, &key, volume), facts(3, 0));
-    assert_eq!(rt; store.set(1, &unnamed, volume), None);
-    assert_eq!(rt; store.set(2, &unnamed, volume), facts(1, 0));
-    assert_eq!(rt; store.record(1, &key, volume, 1), Some([8; 80]));
-    assert_eq!(rt; store.record(1, &key, volume, 2), None);
-    assert_eq!(rt; store.record(2, &key, volume, 0), None);
+    assert!(rt; make(&rt, &mut store, 1, &key, volume, 2) == Ok(()));
+    assert!(rt; store.set(2, &key, volume) == None);
+    assert!(rt; make(&rt, &mut store, 2, &key, volume, 3) == Ok(()));
+    assert!(rt; make(&rt, &mut store, 2, &unnamed, volume, 1) == Ok(()));
+    assert!(rt; store.append(1, &key, volume, &[7; 80]) == Ok(()));
+    assert!(rt; store.append(1, &key, volume, &[8; 80]) == Ok(()));
+    assert!(rt; store.append(1, &unnamed, volume, &[9; 80]) == Ok(()));
+    assert!(rt; store.set(1, &key, volume) == facts(2, 2));
+    assert!(rt; store.set(2, &key, volume) == facts(3, 0));
+    assert!(rt; store.set(1, &unnamed, volume) == None);
+    assert!(rt; store.set(2, &unnamed, volume) == facts(1, 0));
+    assert!(rt; store.record(1, &key, volume, 1) == Some([8; 80]));
+    assert!(rt; store.record(1, &key, volume, 2) == None);
+    assert!(rt; store.record(2, &key, volume, 0) == None);
     store.scratch(2, &key, volume);
-    assert_eq!(rt; store.set(2, &key, volume), None);
+    assert!(rt; store.set(2, &key, volume) == None);
     store.empty(1, &key, volume);
-    assert_eq!(rt; store.set(1, &key, volume), facts(2, 0));
+    assert!(rt; store.set(1, &key, volume) == facts(2, 0));
     Ok(())
 }
 
@@ -131,19 +131,19 @@ fn named_sets_are_seen_by_all_jobs(rt: HostRuntime) -> Result<(), Fail> {
     let mut store = store(rt.alloc())?;
     let key = Key::Named(name("PAY.MASTER")?);
     let (first, second) = (serial("111111")?, serial("222222")?);
-    assert_eq!(rt; make(&rt, &mut store, 1, &key, first, 4), Ok(()));
-    assert_eq!(rt; store.set(2, &key, first), facts(4, 0));
-    assert_eq!(rt; store.set(2, &key, second), None);
+    assert!(rt; make(&rt, &mut store, 1, &key, first, 4) == Ok(()));
+    assert!(rt; store.set(2, &key, first) == facts(4, 0));
+    assert!(rt; store.set(2, &key, second) == None);
     for at in 0..33u8 {
-        assert_eq!(rt; store.append(2, &key, first, &[at; 80]), Ok(()));
+        assert!(rt; store.append(2, &key, first, &[at; 80]) == Ok(()));
     }
     store.trim(1, &key, first);
-    assert_eq!(rt; store.set(1, &key, first), facts(2, 33));
-    assert_eq!(rt; store.record(1, &key, first, 32), Some([32; 80]));
-    assert_eq!(rt; make(&rt, &mut store, 1, &key, second, 1), Ok(()));
+    assert!(rt; store.set(1, &key, first) == facts(2, 33));
+    assert!(rt; store.record(1, &key, first, 32) == Some([32; 80]));
+    assert!(rt; make(&rt, &mut store, 1, &key, second, 1) == Ok(()));
     store.scratch(2, &key, first);
-    assert_eq!(rt; store.set(1, &key, first), None);
-    assert_eq!(rt; store.set(1, &key, second), facts(1, 0));
+    assert!(rt; store.set(1, &key, first) == None);
+    assert!(rt; store.set(1, &key, second) == facts(1, 0));
     Ok(())
 }
 
@@ -152,25 +152,22 @@ fn a_primary_is_granted_in_five_extents(rt: HostRuntime) -> Result<(), Fail> {
     let mut store = store(rt.alloc())?;
     let (key, volume) = (temporary("WORK")?, serial("111111")?);
     let refused = Err(RoomFault::NotGranted);
-    assert_eq!(rt; make(&rt, &mut store, 1, &key, volume, 16), refused);
-    assert_eq!(rt; store.set(1, &key, volume), None);
-    assert_eq!(rt;
-        make(&rt, &mut store, 1, &key, serial("333333")?, 1),
-        refused
-    );
+    assert!(rt; make(&rt, &mut store, 1, &key, volume, 16) == refused);
+    assert!(rt; store.set(1, &key, volume) == None);
+    assert!(rt; make(&rt, &mut store, 1, &key, serial("333333")?, 1) == refused);
     let relative = Key::Relative {
         base: name("PAY.G")?,
         sign: Sign::Plus,
         amount: 1,
     };
-    assert_eq!(rt; make(&rt, &mut store, 1, &relative, volume, 1), refused);
-    assert_eq!(rt; store.grow(1, &relative, volume, 1), Ok(()));
-    assert_eq!(rt; store.append(1, &relative, volume, &[1; 80]), Ok(()));
-    assert_eq!(rt; make(&rt, &mut store, 1, &key, volume, 15), Ok(()));
-    assert_eq!(rt; store.set(1, &key, volume), facts(15, 0));
-    assert_eq!(rt; store.grow(1, &key, volume, 2), refused);
-    assert_eq!(rt; store.grow(1, &key, volume, 1), Ok(()));
-    assert_eq!(rt; store.set(1, &key, volume), facts(16, 0));
+    assert!(rt; make(&rt, &mut store, 1, &relative, volume, 1) == refused);
+    assert!(rt; store.grow(1, &relative, volume, 1) == Ok(()));
+    assert!(rt; store.append(1, &relative, volume, &[1; 80]) == Ok(()));
+    assert!(rt; make(&rt, &mut store, 1, &key, volume, 15) == Ok(()));
+    assert!(rt; store.set(1, &key, volume) == facts(15, 0));
+    assert!(rt; store.grow(1, &key, volume, 2) == refused);
+    assert!(rt; store.grow(1, &key, volume, 1) == Ok(()));
+    assert!(rt; store.set(1, &key, volume) == facts(16, 0));
     Ok(())
 }
 
@@ -179,15 +176,15 @@ fn a_set_grows_to_sixteen_extents(rt: HostRuntime) -> Result<(), Fail> {
     let mut store = store(rt.alloc())?;
     let (key, volume) = (temporary("SORTWK01")?, serial("222222")?);
     let refused = Err(RoomFault::NotGranted);
-    assert_eq!(rt; store.grow(1, &key, volume, 100), Ok(()));
-    assert_eq!(rt; make(&rt, &mut store, 1, &key, volume, 1), Ok(()));
+    assert!(rt; store.grow(1, &key, volume, 100) == Ok(()));
+    assert!(rt; make(&rt, &mut store, 1, &key, volume, 1) == Ok(()));
     for _ in 0..14u8 {
-        assert_eq!(rt; store.grow(1, &key, volume, 1), Ok(()));
+        assert!(rt; store.grow(1, &key, volume, 1) == Ok(()));
     }
-    assert_eq!(rt; store.grow(1, &key, volume, 2), refused);
-    assert_eq!(rt; store.grow(1, &key, volume, 1), Ok(()));
-    assert_eq!(rt; store.grow(1, &key, volume, 1), refused);
-    assert_eq!(rt; store.set(1, &key, volume), facts(16, 0));
+    assert!(rt; store.grow(1, &key, volume, 2) == refused);
+    assert!(rt; store.grow(1, &key, volume, 1) == Ok(()));
+    assert!(rt; store.grow(1, &key, volume, 1) == refused);
+    assert!(rt; store.set(1, &key, volume) == facts(16, 0));
     Ok(())
 }
 
@@ -196,14 +193,14 @@ fn names_are_entered_and_taken_out(rt: HostRuntime) -> Result<(), Fail> {
     let mut store = store(rt.alloc())?;
     let (first, second) = (serial("111111")?, serial("222222")?);
     let (plain, other) = (name("PAY.MASTER")?, name("PAY.OLD")?);
-    assert_eq!(rt; store.volume(1, &plain), None);
-    assert_eq!(rt; store.enter(1, &plain, first), Ok(()));
-    assert_eq!(rt; store.enter(1, &other, first), Ok(()));
-    assert_eq!(rt; store.enter(2, &plain, second), Ok(()));
-    assert_eq!(rt; store.volume(1, &plain), Some(second));
+    assert!(rt; store.volume(1, &plain) == None);
+    assert!(rt; store.enter(1, &plain, first) == Ok(()));
+    assert!(rt; store.enter(1, &other, first) == Ok(()));
+    assert!(rt; store.enter(2, &plain, second) == Ok(()));
+    assert!(rt; store.volume(1, &plain) == Some(second));
     store.uncatalog(1, &plain);
-    assert_eq!(rt; store.volume(2, &plain), None);
-    assert_eq!(rt; store.volume(2, &other), Some(first));
+    assert!(rt; store.volume(2, &plain) == None);
+    assert!(rt; store.volume(2, &other) == Some(first));
     Ok(())
 }
 
@@ -212,27 +209,18 @@ fn a_generation_rolls_off(rt: HostRuntime) -> Result<(), Fail> {
     let mut store = store(rt.alloc())?;
     let (first, second) = (serial("111111")?, serial("222222")?);
     let base = name("PAY.G")?;
-    assert_eq!(rt; store.catalog.make_group(rt.alloc(), base, 2, true), Ok(()));
-    assert_eq!(rt;
-        enter_number(&rt, &mut store, &base, 1, second),
-        Rolled::Entered
-    );
-    assert_eq!(rt;
-        enter_number(&rt, &mut store, &base, 2, first),
-        Rolled::Entered
-    );
+    assert!(rt; store.catalog.make_group(rt.alloc(), base, 2, true) == Ok(()));
+    assert!(rt; enter_number(&rt, &mut store, &base, 1, second) == Rolled::Entered);
+    assert!(rt; enter_number(&rt, &mut store, &base, 2, first) == Rolled::Entered);
     let removed = Rolled::Removed {
         number: 1,
         serial: second,
     };
-    assert_eq!(rt; enter_number(&rt, &mut store, &base, 3, first), removed);
-    assert_eq!(rt; store.volume(1, &name("PAY.G.G0001V00")?), None);
-    assert_eq!(rt; store.volume(1, &name("PAY.G.G0003V00")?), Some(first));
+    assert!(rt; enter_number(&rt, &mut store, &base, 3, first) == removed);
+    assert!(rt; store.volume(1, &name("PAY.G.G0001V00")?) == None);
+    assert!(rt; store.volume(1, &name("PAY.G.G0003V00")?) == Some(first));
     store.uncatalog(1, &name("PAY.G.G0003V00")?);
-    assert_eq!(rt; store.volume(1, &name("PAY.G.G0003V00")?), None);
-    assert_eq!(rt;
-        store.group(1, &base).map(|g| g.generations().len()),
-        Some(1)
-    );
+    assert!(rt; store.volume(1, &name("PAY.G.G0003V00")?) == None);
+    assert!(rt; store.group(1, &base).map(|g| g.generations().len()) == Some(1));
     Ok(())
 }

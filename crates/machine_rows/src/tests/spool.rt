@@ -44,14 +44,14 @@ fn take(spool: &mut Spool, class: u8) -> Option<(u16, u8)> {
 fn lines_are_taken_by_class_in_the_order_in_which_jobs_ended(rt: HostRuntime) -> Result<(), Fail> {
     let alloc = rt.alloc();
     let mut spool = Spool::new(alloc);
-    assert_eq!(rt; take(&mut spool, b'A'), None);
+    assert!(rt; take(&mut spool, b'A') == None);
     let mut lines = listing(alloc, &[1])?;
     let mut outputs = Listed::new(vec![in alloc;
         output(alloc, b'B', b"PQ")?,
         output(alloc, b'A', b"R")?,
     ]?);
     spool.enter(7, b'A', &mut lines, JobLine::Selected(2), &mut outputs)?;
-    assert_eq!(rt; take(&mut spool, b'A'), Some((7, 1)));
+    assert!(rt; take(&mut spool, b'A') == Some((7, 1)));
     let mut lines = listing(alloc, &[])?;
     let mut outputs = Listed::new(vec![in alloc;
         output(alloc, b'A', &[])?,
@@ -69,7 +69,7 @@ fn lines_are_taken_by_class_in_the_order_in_which_jobs_ended(rt: HostRuntime) ->
         (b'B', Some((3, 3))),
         (b'B', None),
     ] {
-        assert_eq!(rt; take(&mut spool, class), taken, "of class {class}");
+        assert!(rt; take(&mut spool, class) == taken);
     }
     Ok(())
 }
@@ -81,12 +81,12 @@ fn a_set_entered_in_the_place_of_another_is_the_last(rt: HostRuntime) -> Result<
     let mut lines = listing(alloc, &[])?;
     let mut outputs = Listed::new(vec![in alloc; output(alloc, b'A', b"Q")?]?);
     spool.enter(1, b'A', &mut lines, JobLine::Selected(4), &mut outputs)?;
-    assert_eq!(rt; take(&mut spool, b'A'), Some((1, 4)));
+    assert!(rt; take(&mut spool, b'A') == Some((1, 4)));
     let mut lines = listing(alloc, &[])?;
     let mut outputs = Listed::empty(alloc);
     spool.enter(2, b'A', &mut lines, JobLine::Selected(5), &mut outputs)?;
     for taken in [Some((1, b'Q')), Some((2, 5)), None] {
-        assert_eq!(rt; take(&mut spool, b'A'), taken);
+        assert!(rt; take(&mut spool, b'A') == taken);
     }
     Ok(())
 }
