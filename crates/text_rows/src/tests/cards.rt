@@ -67,7 +67,7 @@ fn check_decks(rt: &impl Abort, alloc: Global, table: &[(&str, &str)]) -> Result
     for (text, want) in table {
         let deck = deck_of(alloc, text)?;
         let got = shown(alloc, deck.as_slice())?;
-        assert_eq!(rt; got.as_slice(), want.as_bytes(), "at {text}");
+        assert!(rt; got.as_slice() == want.as_bytes());
     }
     Ok(())
 }
@@ -349,7 +349,7 @@ fn reads_decks(rt: HostRuntime) -> Result<(), Fail> {
     check_decks(&rt, rt.alloc(), CONTINUATIONS)?;
     check_decks(&rt, rt.alloc(), FIELDS)?;
     check_decks(&rt, rt.alloc(), DATA)?;
-    assert_eq!(rt; shown(rt.alloc(), &[])?.len(), 0);
+    assert!(rt; shown(rt.alloc(), &[])?.len() == 0);
     Ok(())
 }
 
@@ -360,15 +360,12 @@ fn reads_a_whole_statement(rt: HostRuntime) -> Result<(), Fail> {
         "//GO EXEC FORTG\n//SYSIN DD DATA,DCB=BLKSIZE=80  COMMENT\n  READ   (5,'(80A1)')                                                   00000010\n/*";
     let deck = deck_of(rt.alloc(), text)?;
     let statements = read_statements(rt.alloc(), deck.as_slice())?;
-    assert_eq!(rt; statements.len(), 2);
+    assert!(rt; statements.len() == 2);
     let statement = &statements[1];
-    assert_eq!(rt; statement.name.as_slice(), b"SYSIN".as_slice());
-    assert_eq!(rt; statement.operation.as_slice(), b"DD".as_slice());
-    assert_eq!(rt;
-        statement.operand.as_slice(),
-        b"DATA,DCB=BLKSIZE=80".as_slice()
-    );
+    assert!(rt; statement.name.as_slice() == b"SYSIN".as_slice());
+    assert!(rt; statement.operation.as_slice() == b"DD".as_slice());
+    assert!(rt; statement.operand.as_slice() == b"DATA,DCB=BLKSIZE=80".as_slice());
     let cards = statement.cards.as_ref().ok_or("no data")?;
-    assert_eq!(rt; cards.as_slice(), [card].as_slice());
+    assert!(rt; cards.as_slice() == [card].as_slice());
     Ok(())
 }

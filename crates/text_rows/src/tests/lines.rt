@@ -39,7 +39,7 @@ fn assert_written(rt: &impl Abort, alloc: Global, entry: &Entry, text: &str) -> 
     let mut out = Draft::empty(alloc);
     entry.write_to(&mut out)?;
     out.keep();
-    assert_eq!(rt; out.kept(), text.as_bytes(), "{text}");
+    assert!(rt; out.kept() == text.as_bytes());
     Ok(())
 }
 
@@ -330,7 +330,7 @@ fn faults_are_numbered(rt: HostRuntime) -> Result<(), Fail> {
         let mut out = Draft::empty(rt.alloc());
         line.write_to(&mut out)?;
         out.keep();
-        assert_eq!(rt; out.kept(), text.as_bytes(), "{text}");
+        assert!(rt; out.kept() == text.as_bytes());
     }
     Ok(())
 }
@@ -421,18 +421,14 @@ fn other_lines_begin_with_two_hyphens(rt: HostRuntime) -> Result<(), Fail> {
 
 #[test]
 fn codes_and_days_have_a_last(rt: HostRuntime) {
-    assert_eq!(rt; Code::zero().number(), 0);
+    assert!(rt; Code::zero().number() == 0);
     for (number, found) in [
         (0, Some(0)),
         (4095, Some(4095)),
         (4096, None),
         (65535, None),
     ] {
-        assert_eq!(rt;
-            Code::new(number).map(|code| code.number()),
-            found,
-            "{number}"
-        );
+        assert!(rt; Code::new(number).map(|code| code.number()) == found);
     }
     for (number, found) in [
         (0, Some(0)),
@@ -440,6 +436,6 @@ fn codes_and_days_have_a_last(rt: HostRuntime) {
         (93_502, None),
         (4_294_967_295, None),
     ] {
-        assert_eq!(rt; Day::new(number).map(|day| day.number()), found, "{number}");
+        assert!(rt; Day::new(number).map(|day| day.number()) == found);
     }
 }

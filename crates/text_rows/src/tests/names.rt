@@ -33,8 +33,8 @@ fn characters_are_told(rt: HostRuntime) {
         (b':', false, false),
         (b'"', false, false),
     ] {
-        assert_eq!(rt; is_first(c), first, "{c}");
-        assert_eq!(rt; is_name_character(c), held, "{c}");
+        assert!(rt; is_first(c) == first);
+        assert!(rt; is_name_character(c) == held);
     }
 }
 
@@ -55,10 +55,10 @@ fn names_are_read(rt: HostRuntime) {
     ] {
         match Name8::read(text.as_bytes()) {
             Ok(name) => {
-                assert_eq!(rt; None, fault, "{text}");
-                assert_eq!(rt; name.as_slice(), text.as_bytes(), "{text}");
+                assert!(rt; None == fault);
+                assert!(rt; name.as_slice() == text.as_bytes());
             }
-            Err(found) => assert_eq!(rt; Some(found), fault, "{text}"),
+            Err(found) => assert!(rt; Some(found) == fault),
         }
     }
 }
@@ -76,10 +76,10 @@ fn unit_names_are_read(rt: HostRuntime) {
     ] {
         match UnitName::read(text.as_bytes()) {
             Ok(name) => {
-                assert_eq!(rt; None, fault, "{text}");
-                assert_eq!(rt; name.as_slice(), text.as_bytes(), "{text}");
+                assert!(rt; None == fault);
+                assert!(rt; name.as_slice() == text.as_bytes());
             }
-            Err(found) => assert_eq!(rt; Some(found), fault, "{text}"),
+            Err(found) => assert!(rt; Some(found) == fault),
         }
     }
 }
@@ -98,10 +98,10 @@ fn serials_are_read(rt: HostRuntime) {
     ] {
         match Serial::read(text.as_bytes()) {
             Some(serial) => {
-                assert!(rt; good, "{text}");
-                assert_eq!(rt; serial.as_slice(), text.as_bytes(), "{text}");
+                assert!(rt; good);
+                assert!(rt; serial.as_slice() == text.as_bytes());
             }
-            None => assert!(rt; !good, "{text}"),
+            None => assert!(rt; !good),
         }
     }
 }
@@ -110,7 +110,7 @@ fn serials_are_read(rt: HostRuntime) {
 fn fault_of(rt: &impl Abort, read: Result<DsName, NameFault>, text: &str) -> Option<NameFault> {
     match read {
         Ok(name) => {
-            assert_eq!(rt; name.as_slice(), text.as_bytes(), "{text}");
+            assert!(rt; name.as_slice() == text.as_bytes());
             None
         }
         Err(fault) => Some(fault),
@@ -153,11 +153,7 @@ fn data_set_names_are_read(rt: HostRuntime) {
         ("A.G0001V01", Some(NameFault::BadGeneration)),
         ("A.G0000V01", Some(NameFault::BadGeneration)),
     ] {
-        assert_eq!(rt;
-            fault_of(&rt, read_ds_name(text.as_bytes()), text),
-            fault,
-            "{text}"
-        );
+        assert!(rt; fault_of(&rt, read_ds_name(text.as_bytes()), text) == fault);
     }
 }
 
@@ -171,11 +167,7 @@ fn bases_are_read(rt: HostRuntime) {
         ("A.B'", Some(NameFault::BadCharacter)),
         ("A.G0000V00", Some(NameFault::BadGeneration)),
     ] {
-        assert_eq!(rt;
-            fault_of(&rt, read_base(text.as_bytes()), text),
-            fault,
-            "{text}"
-        );
+        assert!(rt; fault_of(&rt, read_base(text.as_bytes()), text) == fault);
     }
 }
 
@@ -191,8 +183,8 @@ fn generations_are_taken_apart(rt: HostRuntime) -> Result<(), Fail> {
         ("A.B", "A.B", None),
     ] {
         let name = read_ds_name(text.as_bytes())?;
-        assert_eq!(rt; name.base_of().as_slice(), base.as_bytes(), "{text}");
-        assert_eq!(rt; name.generation_of(), number, "{text}");
+        assert!(rt; name.base_of().as_slice() == base.as_bytes());
+        assert!(rt; name.generation_of() == number);
     }
     Ok(())
 }
@@ -208,17 +200,15 @@ fn generations_are_named(rt: HostRuntime) -> Result<(), Fail> {
         (10000, None),
     ] {
         match (base.generation(number), text) {
-            (Some(name), Some(want)) => {
-                assert_eq!(rt; name.as_slice(), want.as_bytes(), "{number}")
-            }
-            (found, want) => { assert_eq!(rt; found.is_some(), want.is_some(), "{number}") }
+            (Some(name), Some(want)) => { assert!(rt; name.as_slice() == want.as_bytes()) }
+            (found, want) => { assert!(rt; found.is_some() == want.is_some()) }
         }
     }
     let longest = read_base(LONGEST_BASE.as_bytes())?;
     let name = longest.generation(7).ok_or("a base of 35 characters")?;
-    assert_eq!(rt; name.as_slice().len(), 44);
-    assert_eq!(rt; name.base_of(), longest);
-    assert_eq!(rt; read_ds_name(LONGER_BASE.as_bytes())?.generation(7), None);
+    assert!(rt; name.as_slice().len() == 44);
+    assert!(rt; name.base_of() == longest);
+    assert!(rt; read_ds_name(LONGER_BASE.as_bytes())?.generation(7) == None);
     Ok(())
 }
 
@@ -230,6 +220,6 @@ fn faults_are_numbered(rt: HostRuntime) {
         (NameFault::BadCharacter, 3),
         (NameFault::BadGeneration, 4),
     ] {
-        assert_eq!(rt; fault.number(), number);
+        assert!(rt; fault.number() == number);
     }
 }
