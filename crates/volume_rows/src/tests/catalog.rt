@@ -19,28 +19,19 @@ fn plain_names_are_entered_and_removed(rt: HostRuntime) -> Result<(), Fail> {
     let mut catalog = Catalog::new(rt.alloc());
     let (first, second) = (volume("V1")?, volume("V2")?);
     let (plain, other) = (name("A.B")?, name("A.C")?);
-    assert_eq!(rt; catalog.find(&plain), None);
-    assert_eq!(rt; catalog.remove(&plain), Err(CatFault::NotThere));
-    assert_eq!(rt; catalog.enter(plain, first), Ok(Rolled::Entered));
-    assert_eq!(rt; catalog.enter(plain, second), Err(CatFault::There));
-    assert_eq!(rt; catalog.enter(other, second), Ok(Rolled::Entered));
-    assert_eq!(rt; catalog.find(&plain), Some(first));
-    assert_eq!(rt; catalog.find(&other), Some(second));
-    assert_eq!(rt; catalog.remove(&plain), Ok(()));
-    assert_eq!(rt; catalog.find(&plain), None);
-    assert_eq!(rt; catalog.find(&other), Some(second));
-    assert_eq!(rt;
-        catalog.make_group(rt.alloc(), other, 1, false),
-        Err(CatFault::There)
-    );
-    assert_eq!(rt;
-        catalog.enter_generation(&other, 1, first),
-        Err(CatFault::NoGroup)
-    );
-    assert_eq!(rt;
-        catalog.resolve_relative(&other, Sign::Plus, 1),
-        Err(CatFault::NoGroup)
-    );
+    assert!(rt; catalog.find(&plain) == None);
+    assert!(rt; catalog.remove(&plain) == Err(CatFault::NotThere));
+    assert!(rt; catalog.enter(plain, first) == Ok(Rolled::Entered));
+    assert!(rt; catalog.enter(plain, second) == Err(CatFault::There));
+    assert!(rt; catalog.enter(other, second) == Ok(Rolled::Entered));
+    assert!(rt; catalog.find(&plain) == Some(first));
+    assert!(rt; catalog.find(&other) == Some(second));
+    assert!(rt; catalog.remove(&plain) == Ok(()));
+    assert!(rt; catalog.find(&plain) == None);
+    assert!(rt; catalog.find(&other) == Some(second));
+    assert!(rt; catalog.make_group(rt.alloc(), other, 1, false) == Err(CatFault::There));
+    assert!(rt; catalog.enter_generation(&other, 1, first) == Err(CatFault::NoGroup));
+    assert!(rt; catalog.resolve_relative(&other, Sign::Plus, 1) == Err(CatFault::NoGroup));
     Ok(())
 }
 
@@ -50,32 +41,20 @@ fn generations_stand_in_the_group_of_their_base(rt: HostRuntime) -> Result<(), F
     let (first, second) = (volume("V1")?, volume("V2")?);
     let base = name("PAY.G")?;
     let one = name("PAY.G.G0001V00")?;
-    assert_eq!(rt; catalog.make_group(rt.alloc(), base, 2, true), Ok(()));
-    assert_eq!(rt;
-        catalog.make_group(rt.alloc(), base, 2, true),
-        Err(CatFault::There)
-    );
-    assert_eq!(rt; catalog.enter(base, first), Err(CatFault::There));
-    assert_eq!(rt; catalog.remove(&base), Err(CatFault::NotThere));
-    assert_eq!(rt; catalog.find(&base), None);
-    assert_eq!(rt;
-        catalog.resolve_relative(&base, Sign::Minus, 0),
-        Err(CatFault::NoGeneration)
-    );
-    assert_eq!(rt; catalog.enter(one, first), Ok(Rolled::Entered));
-    assert_eq!(rt; catalog.enter(one, first), Err(CatFault::There));
-    assert_eq!(rt; catalog.find(&one), Some(first));
-    assert_eq!(rt;
-        catalog.enter_generation(&base, 1, second),
-        Err(CatFault::There)
-    );
-    assert_eq!(rt;
-        catalog.enter_generation(&base, 9999, second),
-        Ok(Rolled::Entered)
-    );
+    assert!(rt; catalog.make_group(rt.alloc(), base, 2, true) == Ok(()));
+    assert!(rt; catalog.make_group(rt.alloc(), base, 2, true) == Err(CatFault::There));
+    assert!(rt; catalog.enter(base, first) == Err(CatFault::There));
+    assert!(rt; catalog.remove(&base) == Err(CatFault::NotThere));
+    assert!(rt; catalog.find(&base) == None);
+    assert!(rt; catalog.resolve_relative(&base, Sign::Minus, 0) == Err(CatFault::NoGeneration));
+    assert!(rt; catalog.enter(one, first) == Ok(Rolled::Entered));
+    assert!(rt; catalog.enter(one, first) == Err(CatFault::There));
+    assert!(rt; catalog.find(&one) == Some(first));
+    assert!(rt; catalog.enter_generation(&base, 1, second) == Err(CatFault::There));
+    assert!(rt; catalog.enter_generation(&base, 9999, second) == Ok(Rolled::Entered));
     let group = catalog.group(&base).ok_or("a group")?;
-    assert_eq!(rt; group.generations().len(), 2);
-    assert_eq!(rt; group.limit(), 2);
+    assert!(rt; group.generations().len() == 2);
+    assert!(rt; group.limit() == 2);
     assert!(rt; group.scratches());
     for (sign, amount, answer) in [
         (Sign::Minus, 0, Ok(9999)),
@@ -83,23 +62,19 @@ fn generations_stand_in_the_group_of_their_base(rt: HostRuntime) -> Result<(), F
         (Sign::Minus, 2, Err(CatFault::NoGeneration)),
         (Sign::Plus, 1, Err(CatFault::TooHigh)),
     ] {
-        assert_eq!(rt;
-            catalog.resolve_relative(&base, sign, amount),
-            answer,
-            "{sign:?} {amount}"
-        );
+        assert!(rt; catalog.resolve_relative(&base, sign, amount) == answer);
     }
     let removed = Rolled::Removed {
         number: 1,
         serial: first,
     };
-    assert_eq!(rt; catalog.enter_generation(&base, 5, first), Ok(removed));
-    assert_eq!(rt; catalog.enter_generation(&base, 5, first), Ok(Rolled::Same));
-    assert_eq!(rt; catalog.enter(one, first), Ok(Rolled::Lowest));
-    assert_eq!(rt; catalog.find(&one), None);
-    assert_eq!(rt; catalog.remove(&one), Err(CatFault::NoGeneration));
-    assert_eq!(rt; catalog.remove(&name("PAY.G.G9999V00")?), Ok(()));
-    assert_eq!(rt; catalog.resolve_relative(&base, Sign::Plus, 1), Ok(6));
+    assert!(rt; catalog.enter_generation(&base, 5, first) == Ok(removed));
+    assert!(rt; catalog.enter_generation(&base, 5, first) == Ok(Rolled::Same));
+    assert!(rt; catalog.enter(one, first) == Ok(Rolled::Lowest));
+    assert!(rt; catalog.find(&one) == None);
+    assert!(rt; catalog.remove(&one) == Err(CatFault::NoGeneration));
+    assert!(rt; catalog.remove(&name("PAY.G.G9999V00")?) == Ok(()));
+    assert!(rt; catalog.resolve_relative(&base, Sign::Plus, 1) == Ok(6));
     Ok(())
 }
 
@@ -110,20 +85,17 @@ fn a_generation_without_a_group_is_a_plain_name(rt: HostRuntime) -> Result<(), F
     let base = name("A")?;
     let inner = name("A.G0001V00")?;
     let outer = name("A.G0001V00.G0002V00")?;
-    assert_eq!(rt; catalog.enter(inner, first), Ok(Rolled::Entered));
-    assert_eq!(rt; catalog.find(&inner), Some(first));
-    assert_eq!(rt;
-        catalog.make_group(rt.alloc(), base, 1, false),
-        Err(CatFault::There)
-    );
-    assert_eq!(rt; catalog.remove(&inner), Ok(()));
-    assert_eq!(rt; catalog.make_group(rt.alloc(), inner, 1, false), Ok(()));
-    assert_eq!(rt; catalog.enter(outer, second), Ok(Rolled::Entered));
+    assert!(rt; catalog.enter(inner, first) == Ok(Rolled::Entered));
+    assert!(rt; catalog.find(&inner) == Some(first));
+    assert!(rt; catalog.make_group(rt.alloc(), base, 1, false) == Err(CatFault::There));
+    assert!(rt; catalog.remove(&inner) == Ok(()));
+    assert!(rt; catalog.make_group(rt.alloc(), inner, 1, false) == Ok(()));
+    assert!(rt; catalog.enter(outer, second) == Ok(Rolled::Entered));
     let group = catalog.group(&inner).ok_or("a group of generation form")?;
-    assert_eq!(rt; group.find(2), Some(second));
-    assert_eq!(rt; catalog.find(&inner), None);
-    assert_eq!(rt; catalog.enter(inner, first), Err(CatFault::There));
-    assert_eq!(rt; catalog.make_group(rt.alloc(), base, 1, false), Ok(()));
+    assert!(rt; group.find(2) == Some(second));
+    assert!(rt; catalog.find(&inner) == None);
+    assert!(rt; catalog.enter(inner, first) == Err(CatFault::There));
+    assert!(rt; catalog.make_group(rt.alloc(), base, 1, false) == Ok(()));
     Ok(())
 }
 
@@ -135,23 +107,23 @@ fn names_are_put_and_cleared_whatever_is_there(rt: HostRuntime) -> Result<(), Fa
     catalog.clear(&plain);
     catalog.put(plain, first)?;
     catalog.put(plain, second)?;
-    assert_eq!(rt; catalog.find(&plain), Some(second));
+    assert!(rt; catalog.find(&plain) == Some(second));
     assert!(rt; catalog.member(&one).is_none());
-    assert_eq!(rt; catalog.make_group(rt.alloc(), base, 2, true), Ok(()));
-    assert_eq!(rt; catalog.enter(one, first), Ok(Rolled::Entered));
+    assert!(rt; catalog.make_group(rt.alloc(), base, 2, true) == Ok(()));
+    assert!(rt; catalog.enter(one, first) == Ok(Rolled::Entered));
     let (number, group) = catalog.member(&one).ok_or("a member")?;
-    assert_eq!(rt; number, 1);
-    assert_eq!(rt; group.find(1), Some(first));
+    assert!(rt; number == 1);
+    assert!(rt; group.find(1) == Some(first));
     catalog.clear(&one);
     catalog.clear(&one);
-    assert_eq!(rt; catalog.find(&one), None);
+    assert!(rt; catalog.find(&one) == None);
     assert!(rt; catalog.group(&base).is_some());
     catalog.put(base, second)?;
     assert!(rt; catalog.group(&base).is_none());
-    assert_eq!(rt; catalog.find(&base), Some(second));
+    assert!(rt; catalog.find(&base) == Some(second));
     catalog.clear(&base);
-    assert_eq!(rt; catalog.find(&base), None);
-    assert_eq!(rt; catalog.find(&plain), Some(second));
+    assert!(rt; catalog.find(&base) == None);
+    assert!(rt; catalog.find(&plain) == Some(second));
     Ok(())
 }
 
@@ -160,16 +132,13 @@ fn a_name_of_number_0_is_a_plain_name(rt: HostRuntime) -> Result<(), Fail> {
     let mut catalog = Catalog::new(rt.alloc());
     let first = volume("V1")?;
     let zero = name("A.G0000V00.G0001V00")?.base_of();
-    assert_eq!(rt;
-        catalog.make_group(rt.alloc(), name("A")?, 1, false),
-        Ok(())
-    );
-    assert_eq!(rt; catalog.enter(zero, first), Ok(Rolled::Entered));
-    assert_eq!(rt; catalog.find(&zero), Some(first));
+    assert!(rt; catalog.make_group(rt.alloc(), name("A")?, 1, false) == Ok(()));
+    assert!(rt; catalog.enter(zero, first) == Ok(Rolled::Entered));
+    assert!(rt; catalog.find(&zero) == Some(first));
     let group = catalog.group(&name("A")?).ok_or("a group")?;
-    assert_eq!(rt; group.generations().len(), 0);
-    assert_eq!(rt; catalog.remove(&zero), Ok(()));
-    assert_eq!(rt; catalog.find(&zero), None);
+    assert!(rt; group.generations().len() == 0);
+    assert!(rt; catalog.remove(&zero) == Ok(()));
+    assert!(rt; catalog.find(&zero) == None);
     Ok(())
 }
 
@@ -183,6 +152,6 @@ fn faults_are_numbered(rt: HostRuntime) {
         (CatFault::TooHigh, Some(5)),
         (CatFault::Memory, None),
     ] {
-        assert_eq!(rt; fault.number(), number);
+        assert!(rt; fault.number() == number);
     }
 }

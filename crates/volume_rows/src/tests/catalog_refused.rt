@@ -36,11 +36,11 @@ fn enter(
     let name = name_of(letter)?;
     let answer = catalog.enter(name, serial);
     if answer != Err(CatFault::Memory) {
-        assert_eq!(rt; answer, Ok(Rolled::Entered));
+        assert!(rt; answer == Ok(Rolled::Entered));
         return Ok(false);
     }
-    assert!(rt; are_entered(catalog, at, serial)?, "before {at}");
-    assert_eq!(rt; catalog.enter(name, serial), Ok(Rolled::Entered));
+    assert!(rt; are_entered(catalog, at, serial)?);
+    assert!(rt; catalog.enter(name, serial) == Ok(Rolled::Entered));
     Ok(true)
 }
 
@@ -68,10 +68,10 @@ fn put(
     let name = name_of(letter)?;
     let refused = catalog.put(name, serials.0).is_err();
     if refused {
-        assert!(rt; are_entered(catalog, at, serials.1)?, "before {at}");
+        assert!(rt; are_entered(catalog, at, serials.1)?);
         catalog.put(name, serials.0)?;
     }
-    assert_eq!(rt; catalog.find(&name), Some(serials.0));
+    assert!(rt; catalog.find(&name) == Some(serials.0));
     assert!(rt; catalog.put(name, serials.1).is_ok());
     Ok(refused)
 }
@@ -112,11 +112,11 @@ fn are_numbers(catalog: &Catalog, base: &DsName, count: u16, serial: Serial) -> 
 fn make_group(rt: &impl Abort, alloc: Global, catalog: &mut Catalog, base: DsName) -> bool {
     let answer = catalog.make_group(alloc, base, 40, false);
     if answer != Err(CatFault::Memory) {
-        assert_eq!(rt; answer, Ok(()));
+        assert!(rt; answer == Ok(()));
         return false;
     }
     assert!(rt; catalog.group(&base).is_none());
-    assert_eq!(rt; catalog.make_group(alloc, base, 40, false), Ok(()));
+    assert!(rt; catalog.make_group(alloc, base, 40, false) == Ok(()));
     true
 }
 
@@ -129,7 +129,7 @@ fn a_made_group_takes_its_generations_without_memory(rt: HostRuntime) -> Result<
     for number in 1..41u16 {
         assert!(rt; 0 < number && number <= 40);
         let answer = catalog.enter_generation(&base, number, serial);
-        assert_eq!(rt; answer, Ok(Rolled::Entered));
+        assert!(rt; answer == Ok(Rolled::Entered));
     }
     assert!(rt; are_numbers(&catalog, &base, 40, serial));
     println!(rt; "refused: {refused}")?;

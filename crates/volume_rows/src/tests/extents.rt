@@ -36,10 +36,10 @@ fn volume(rt: &impl Abort, alloc: Global, tracks: u16) -> FreeExtents
 fn finds_the_first_and_the_largest(rt: HostRuntime) -> Result<(), Fail> {
     let mut fast = volume(&rt, rt.alloc(), 21);
     let mut slow = vec![in rt.alloc(); false; 21]?;
-    assert_eq!(rt; fast.tracks(), 21);
-    assert_eq!(rt; fast.first(0), None);
-    assert_eq!(rt; fast.first(1), None);
-    assert_eq!(rt; fast.largest(), None);
+    assert!(rt; fast.tracks() == 21);
+    assert!(rt; fast.first(0) == None);
+    assert!(rt; fast.first(1) == None);
+    assert!(rt; fast.largest() == None);
     let all = [
         extent(18, 3),
         extent(0, 3),
@@ -48,18 +48,18 @@ fn finds_the_first_and_the_largest(rt: HostRuntime) -> Result<(), Fail> {
         extent(16, 1),
     ];
     for free in all {
-        assert!(rt; free_both(&mut fast, &mut slow, free), "{}", free.start);
+        assert!(rt; free_both(&mut fast, &mut slow, free));
     }
-    assert_eq!(rt; fast.first(0), Some(extent(0, 3)));
-    assert_eq!(rt; fast.first(3), Some(extent(0, 3)));
-    assert_eq!(rt; fast.first(4), Some(extent(4, 5)));
-    assert_eq!(rt; fast.first(6), None);
-    assert_eq!(rt; fast.largest(), Some(extent(4, 5)));
+    assert!(rt; fast.first(0) == Some(extent(0, 3)));
+    assert!(rt; fast.first(3) == Some(extent(0, 3)));
+    assert!(rt; fast.first(4) == Some(extent(4, 5)));
+    assert!(rt; fast.first(6) == None);
+    assert!(rt; fast.largest() == Some(extent(4, 5)));
     for free in all {
-        assert_eq!(rt; fast.extent_at(free.start), Some(free));
+        assert!(rt; fast.extent_at(free.start) == Some(free));
     }
     for at in [1, 3, 5, 9, 11, 17, 20, 21, 22, u16::MAX] {
-        assert_eq!(rt; fast.extent_at(at), None, "at {at}");
+        assert!(rt; fast.extent_at(at) == None);
     }
     Ok(())
 }
@@ -72,15 +72,15 @@ fn joins_what_touches(rt: HostRuntime) -> Result<(), Fail> {
     assert!(rt; free_both(&mut fast, &mut slow, extent(8, 2)));
     assert!(rt; !free_both(&mut fast, &mut slow, extent(1, 2)));
     assert!(rt; free_both(&mut fast, &mut slow, extent(2, 2)));
-    assert_eq!(rt; fast.first(1), Some(extent(0, 4)));
+    assert!(rt; fast.first(1) == Some(extent(0, 4)));
     assert!(rt; free_both(&mut fast, &mut slow, extent(7, 1)));
-    assert_eq!(rt; fast.extent_at(7), Some(extent(7, 3)));
+    assert!(rt; fast.extent_at(7) == Some(extent(7, 3)));
     assert!(rt; free_both(&mut fast, &mut slow, extent(4, 3)));
-    assert_eq!(rt; fast.largest(), Some(extent(0, 10)));
-    assert_eq!(rt; take_both(&mut fast, &mut slow, 4), Some(extent(0, 4)));
-    assert_eq!(rt; fast.largest(), Some(extent(4, 6)));
-    assert_eq!(rt; take_both(&mut fast, &mut slow, 6), Some(extent(4, 6)));
-    assert_eq!(rt; fast.largest(), None);
+    assert!(rt; fast.largest() == Some(extent(0, 10)));
+    assert!(rt; take_both(&mut fast, &mut slow, 4) == Some(extent(0, 4)));
+    assert!(rt; fast.largest() == Some(extent(4, 6)));
+    assert!(rt; take_both(&mut fast, &mut slow, 6) == Some(extent(4, 6)));
+    assert!(rt; fast.largest() == None);
     Ok(())
 }
 
@@ -101,8 +101,8 @@ fn finds_what_a_slow_search_finds(rt: HostRuntime) -> Result<(), Fail> {
                 freed = freed.saturating_add(1);
             }
         }
-        assert!(rt; is_same(&fast, &slow, tracks), "round {round}");
+        assert!(rt; is_same(&fast, &slow, tracks));
     }
-    assert!(rt; freed > 100, "{freed}");
+    assert!(rt; freed > 100);
     Ok(())
 }

@@ -13,7 +13,7 @@ fn are_numbered(records: &Records, count: u8) -> bool {
 fn append(rt: &impl Abort, records: &mut Records, at: u8) -> bool {
     let was_refused = records.append([at; 80]).is_err();
     if was_refused {
-        assert!(rt; are_numbered(records, at), "before {at}");
+        assert!(rt; are_numbered(records, at));
         records.append([at; 80]).expect(rt, "memory");
     }
     was_refused

@@ -83,9 +83,9 @@ fn takes_the_first_that_holds_all_else_the_largest(rt: HostRuntime) {
     for (tracks, want) in all {
         let mut volume = holed(&rt, rt.alloc());
         let list = reserved(&rt, &mut volume, tracks);
-        assert_eq!(rt; list.extents(), want, "at {tracks}");
+        assert!(rt; list.extents() == want);
         volume.give_back(list);
-        assert_eq!(rt; volume.free_tracks(), 16);
+        assert!(rt; volume.free_tracks() == 16);
     }
     let mut volume = holed(&rt, rt.alloc());
     match volume.reserve(16) {
@@ -93,7 +93,7 @@ fn takes_the_first_that_holds_all_else_the_largest(rt: HostRuntime) {
             volume.give_back(list);
             panic!(rt; "sixteen tracks in five extents")
         }
-        Err(fault) => assert_eq!(rt; fault, VolumeFault::NoSpace),
+        Err(fault) => assert!(rt; fault == VolumeFault::NoSpace),
     }
 }
 
@@ -101,10 +101,10 @@ fn takes_the_first_that_holds_all_else_the_largest(rt: HostRuntime) {
 fn joins_what_is_given_back(rt: HostRuntime) {
     let mut volume = Volume::new(rt.alloc(), 10, &[]).expect(&rt, "memory");
     let first = reserved(&rt, &mut volume, 4);
-    assert_eq!(rt; first.extents(), [extent(0, 4)].as_slice());
+    assert!(rt; first.extents() == [extent(0, 4)].as_slice());
     volume.give_back(first);
     let whole = reserved(&rt, &mut volume, 10);
-    assert_eq!(rt; whole.extents(), [extent(0, 10)].as_slice());
+    assert!(rt; whole.extents() == [extent(0, 10)].as_slice());
     volume.give_back(whole);
 }
 
@@ -112,19 +112,18 @@ fn joins_what_is_given_back(rt: HostRuntime) {
 fn keeps_sixteen_extents_at_most(rt: HostRuntime) {
     let mut volume = combed(&rt, rt.alloc());
     let key = temporary(&rt, 1, b"SORTWK01");
-    assert_eq!(rt; volume.make_set(rt.alloc(), key, 1, None), Ok(()));
+    assert!(rt; volume.make_set(rt.alloc(), key, 1, None) == Ok(()));
     for _ in 0..14 {
-        assert_eq!(rt; volume.grow(&key, 1), Ok(()));
+        assert!(rt; volume.grow(&key, 1) == Ok(()));
     }
-    assert_eq!(rt; volume.grow(&key, 2), Err(VolumeFault::TooManyExtents));
-    assert_eq!(rt; volume.grow(&key, 6), Err(VolumeFault::NoSpace));
-    assert_eq!(rt; volume.grow(&key, 1), Ok(()));
-    assert_eq!(rt; volume.grow(&key, 1), Err(VolumeFault::TooManyExtents));
-    assert_eq!(rt; volume.free_tracks(), 4);
+    assert!(rt; volume.grow(&key, 2) == Err(VolumeFault::TooManyExtents));
+    assert!(rt; volume.grow(&key, 6) == Err(VolumeFault::NoSpace));
+    assert!(rt; volume.grow(&key, 1) == Ok(()));
+    assert!(rt; volume.grow(&key, 1) == Err(VolumeFault::TooManyExtents));
+    assert!(rt; volume.free_tracks() == 4);
     match volume.find(&key) {
-        Some(set) => assert_eq!(rt;
-            (set.extents.len(), set.extents.as_slice().last()),
-            (16, Some(&extent(30, 1)))
+        Some(set) => assert!(rt;
+            (set.extents.len(), set.extents.as_slice().last()) == (16, Some(&extent(30, 1)))
         ),
         None => panic!(rt; "no set"),
     }
@@ -134,43 +133,29 @@ fn keeps_sixteen_extents_at_most(rt: HostRuntime) {
 fn makes_scratches_and_trims(rt: HostRuntime) {
     let mut volume = holed(&rt, rt.alloc());
     let key = link_library(&rt);
-    assert_eq!(rt; volume.scratch(&key), Err(VolumeFault::NameMissing));
-    assert_eq!(rt; volume.grow(&key, 0), Err(VolumeFault::NameMissing));
-    assert_eq!(rt; volume.trim(&key, 0), Err(VolumeFault::NameMissing));
-    assert_eq!(rt;
-        volume.make_set(rt.alloc(), link_library(&rt), 7, Some(26_300)),
-        Ok(())
+    assert!(rt; volume.scratch(&key) == Err(VolumeFault::NameMissing));
+    assert!(rt; volume.grow(&key, 0) == Err(VolumeFault::NameMissing));
+    assert!(rt; volume.trim(&key, 0) == Err(VolumeFault::NameMissing));
+    assert!(rt; volume.make_set(rt.alloc(), link_library(&rt), 7, Some(26_300)) == Ok(()));
+    assert!(rt;
+        volume.make_set(rt.alloc(), link_library(&rt), 1, None) == Err(VolumeFault::NameThere)
     );
-    assert_eq!(rt;
-        volume.make_set(rt.alloc(), link_library(&rt), 1, None),
-        Err(VolumeFault::NameThere)
-    );
-    assert_eq!(rt;
-        volume.make_set(rt.alloc(), unnamed(), 11, None),
-        Err(VolumeFault::NoSpace)
-    );
-    assert_eq!(rt; volume.make_set(rt.alloc(), unnamed(), 2, None), Ok(()));
+    assert!(rt; volume.make_set(rt.alloc(), unnamed(), 11, None) == Err(VolumeFault::NoSpace));
+    assert!(rt; volume.make_set(rt.alloc(), unnamed(), 2, None) == Ok(()));
     let counts = volume.track_counts();
-    assert_eq!(rt;
-        (counts.free, counts.aside, counts.in_sets, counts.unusable),
-        (7, 0, 9, 5)
-    );
-    assert_eq!(rt; volume.trim(&key, 3), Ok(()));
+    assert!(rt; (counts.free, counts.aside, counts.in_sets, counts.unusable) == (7, 0, 9, 5));
+    assert!(rt; volume.trim(&key, 3) == Ok(()));
     match volume.find(&key) {
-        Some(set) => assert_eq!(rt;
-            (set.expires, set.extents.as_slice()),
-            (Some(26_300), [extent(0, 3)].as_slice())
+        Some(set) => assert!(rt;
+            (set.expires, set.extents.as_slice()) == (Some(26_300), [extent(0, 3)].as_slice())
         ),
         None => panic!(rt; "no set"),
     }
-    assert_eq!(rt; volume.trim(&key, 0), Ok(()));
-    assert_eq!(rt; volume.scratch(&key), Ok(()));
+    assert!(rt; volume.trim(&key, 0) == Ok(()));
+    assert!(rt; volume.scratch(&key) == Ok(()));
     assert!(rt; volume.find(&key).is_none());
-    assert_eq!(rt;
-        volume.make_set(rt.alloc(), link_library(&rt), 5, None),
-        Ok(())
-    );
-    assert_eq!(rt; volume.free_tracks(), 9);
+    assert!(rt; volume.make_set(rt.alloc(), link_library(&rt), 5, None) == Ok(()));
+    assert!(rt; volume.free_tracks() == 9);
 }
 
 #[test]
@@ -189,18 +174,12 @@ fn makes_a_set_of_tracks_set_aside(rt: HostRuntime) {
     match volume.make_from(rt.alloc(), list, key, None) {
         Ok(()) => panic!(rt; "two sets of one name"),
         Err((list, fault)) => {
-            assert_eq!(rt;
-                (list.extents(), fault.number()),
-                ([extent(6, 4)].as_slice(), Some(1))
-            );
+            assert!(rt; (list.extents(), fault.number()) == ([extent(6, 4)].as_slice(), Some(1)));
             volume.give_back(list);
         }
     }
     let counts = volume.track_counts();
-    assert_eq!(rt;
-        (counts.free, counts.aside, counts.in_sets, counts.unusable),
-        (11, 0, 5, 5)
-    );
+    assert!(rt; (counts.free, counts.aside, counts.in_sets, counts.unusable) == (11, 0, 5, 5));
     assert!(rt; !key.is_same(&temporary(&rt, 8, b"LOADSET")));
     assert!(rt; key.is_same(&temporary(&rt, 7, b"LOADSET")));
     assert!(rt; !key.is_same(&temporary(&rt, 7, b"LOADSETS")));
@@ -247,28 +226,28 @@ fn keeps_records_with_their_set(rt: HostRuntime) {
     let mut volume = holed(&rt, rt.alloc());
     let key = link_library(&rt);
     let missing = Err(VolumeFault::NameMissing);
-    assert_eq!(rt; volume.append(&key, [1; 80]), missing);
-    assert_eq!(rt; volume.write_first(&key, [1; 80]), missing);
-    assert_eq!(rt; volume.clear(&key), missing);
-    assert_eq!(rt; volume.make_set(rt.alloc(), key, 2, None), Ok(()));
-    assert_eq!(rt; volume.make_set(rt.alloc(), unnamed(), 1, None), Ok(()));
-    assert_eq!(rt; first_and_last(&volume, &key), (0, None, None));
+    assert!(rt; volume.append(&key, [1; 80]) == missing);
+    assert!(rt; volume.write_first(&key, [1; 80]) == missing);
+    assert!(rt; volume.clear(&key) == missing);
+    assert!(rt; volume.make_set(rt.alloc(), key, 2, None) == Ok(()));
+    assert!(rt; volume.make_set(rt.alloc(), unnamed(), 1, None) == Ok(()));
+    assert!(rt; first_and_last(&volume, &key) == (0, None, None));
     for at in 1..=3u8 {
-        assert_eq!(rt; volume.append(&key, [at; 80]), Ok(()));
+        assert!(rt; volume.append(&key, [at; 80]) == Ok(()));
     }
-    assert_eq!(rt; first_and_last(&volume, &key), (3, Some(1), Some(3)));
-    assert_eq!(rt; first_and_last(&volume, &unnamed()), (0, None, None));
-    assert_eq!(rt; volume.grow(&key, 1), Ok(()));
-    assert_eq!(rt; volume.trim(&key, 2), Ok(()));
-    assert_eq!(rt; first_and_last(&volume, &key), (3, Some(1), Some(3)));
-    assert_eq!(rt; volume.write_first(&key, [7; 80]), Ok(()));
-    assert_eq!(rt; first_and_last(&volume, &key), (1, Some(7), Some(7)));
-    assert_eq!(rt; volume.clear(&key), Ok(()));
-    assert_eq!(rt; first_and_last(&volume, &key), (0, None, None));
-    assert_eq!(rt; volume.write_first(&key, [9; 80]), Ok(()));
-    assert_eq!(rt; volume.scratch(&key), Ok(()));
-    assert_eq!(rt; volume.make_set(rt.alloc(), key, 2, None), Ok(()));
-    assert_eq!(rt; first_and_last(&volume, &key), (0, None, None));
+    assert!(rt; first_and_last(&volume, &key) == (3, Some(1), Some(3)));
+    assert!(rt; first_and_last(&volume, &unnamed()) == (0, None, None));
+    assert!(rt; volume.grow(&key, 1) == Ok(()));
+    assert!(rt; volume.trim(&key, 2) == Ok(()));
+    assert!(rt; first_and_last(&volume, &key) == (3, Some(1), Some(3)));
+    assert!(rt; volume.write_first(&key, [7; 80]) == Ok(()));
+    assert!(rt; first_and_last(&volume, &key) == (1, Some(7), Some(7)));
+    assert!(rt; volume.clear(&key) == Ok(()));
+    assert!(rt; first_and_last(&volume, &key) == (0, None, None));
+    assert!(rt; volume.write_first(&key, [9; 80]) == Ok(()));
+    assert!(rt; volume.scratch(&key) == Ok(()));
+    assert!(rt; volume.make_set(rt.alloc(), key, 2, None) == Ok(()));
+    assert!(rt; first_and_last(&volume, &key) == (0, None, None));
 }
 
 /// How many records the set of a key has, and the first column of the first and of the last.
