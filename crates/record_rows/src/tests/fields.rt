@@ -22,9 +22,9 @@ fn places(kind: u8) -> Option<Rec> {
 
 /// A text is these many places from this one on.
 fn check_places(rt: &impl Abort, text: &[u8], first: u8, count: usize) {
-    assert_eq!(rt; text.len(), count);
+    assert!(rt; text.len() == count);
     for (place, byte) in text.iter().enumerate() {
-        assert_eq!(rt; usize::from(*byte), usize::from(first).wrapping_add(place));
+        assert!(rt; usize::from(*byte) == usize::from(first).wrapping_add(place));
     }
 }
 
@@ -35,8 +35,8 @@ fn a_record_has_176_bytes(rt: HostRuntime) -> Result<(), Fail> {
     assert!(rt; read_rec(&bytes[..175]).is_none());
     assert!(rt; read_rec(&bytes).is_none());
     let whole = read_rec(&bytes[1..]).ok_or("a record")?;
-    assert_eq!(rt; whole.bytes(), &bytes[1..]);
-    assert_eq!(rt; Rec::zeroed().bytes(), [0; 176].as_slice());
+    assert!(rt; whole.bytes() == &bytes[1..]);
+    assert!(rt; Rec::zeroed().bytes() == [0; 176].as_slice());
     Ok(())
 }
 
@@ -54,16 +54,13 @@ fn the_dd_of_a_cataloged_set_is_written(rt: HostRuntime) -> Result<(), Fail> {
     dd.write_number(Field { at: 34, width: 2 }, 3);
     dd.write_number(Field { at: 38, width: 2 }, 1);
     let begins = [3, 0, 0, 1, 0, 0, 0, 0, 0, 0, 0, 4, 1, 1, 4, 0];
-    assert_eq!(rt; &dd.bytes()[..16], begins.as_slice());
-    assert_eq!(rt; &dd.bytes()[16..26], b"OUT     \x04\0".as_slice());
-    assert_eq!(rt;
-        &dd.bytes()[26..40],
-        [0, 0, 0, 0, 0, 0, 0, 0, 0, 3, 0, 0, 0, 1].as_slice()
-    );
+    assert!(rt; &dd.bytes()[..16] == begins.as_slice());
+    assert!(rt; &dd.bytes()[16..26] == b"OUT     \x04\0".as_slice());
+    assert!(rt; &dd.bytes()[26..40] == [0, 0, 0, 0, 0, 0, 0, 0, 0, 3, 0, 0, 0, 1].as_slice());
     assert!(rt; dd.bytes()[40..].iter().all(|byte| *byte == 0));
     let view = SiotView::of(&dd, &LAYOUT_1).ok_or("an SIOT")?;
-    assert_eq!(rt; [view.next(), view.below()].as_slice(), [0, 4].as_slice());
-    assert_eq!(rt; view.name(), b"OUT     ".as_slice());
+    assert!(rt; [view.next(), view.below()].as_slice() == [0, 4].as_slice());
+    assert!(rt; view.name() == b"OUT     ".as_slice());
     Ok(())
 }
 
@@ -82,15 +79,15 @@ fn numbers_keep_to_their_field(rt: HostRuntime) {
         edge.write_byte(175, 9);
         let field = Field { at: 171, width: 4 };
         edge.write_number(field, number);
-        assert_eq!(rt; &edge.bytes()[170..], bytes.as_slice());
-        assert_eq!(rt; edge.number(field), number);
+        assert!(rt; &edge.bytes()[170..] == bytes.as_slice());
+        assert!(rt; edge.number(field) == number);
     }
     let mut last = Rec::zeroed();
     last.write_number(Field { at: 174, width: 2 }, 65535);
-    assert_eq!(rt; &last.bytes()[172..], [0, 0, 255, 255].as_slice());
+    assert!(rt; &last.bytes()[172..] == [0, 0, 255, 255].as_slice());
     last.write_number(Field { at: 175, width: 1 }, 0);
     last.write_number(Field { at: 176, width: 0 }, 0);
-    assert_eq!(rt; &last.bytes()[172..], [0, 0, 255, 0].as_slice());
+    assert!(rt; &last.bytes()[172..] == [0, 0, 255, 0].as_slice());
 }
 
 #[test]
@@ -105,8 +102,8 @@ fn texts_are_filled_with_blanks(rt: HostRuntime) {
     ] {
         prove!(name.len() <= 8);
         names.write_text(field, name);
-        assert_eq!(rt; &names.bytes()[167..], bytes.as_slice());
-        assert_eq!(rt; names.text(field), &bytes[1..]);
+        assert!(rt; &names.bytes()[167..] == bytes.as_slice());
+        assert!(rt; names.text(field) == &bytes[1..]);
     }
 }
 
@@ -144,13 +141,10 @@ fn fields_of_jobs_and_steps_have_their_places(rt: HostRuntime) -> Result<(), Fai
         jct.test_operator(0),
         jct.test_operator(7),
     ];
-    assert_eq!(rt; bytes.as_slice(), [8, 9, 10, 11, 24, 26, 47].as_slice());
+    assert!(rt; bytes.as_slice() == [8, 9, 10, 11, 24, 26, 47].as_slice());
     let codes = [job.owner(), jct.test_code(0), jct.test_code(7)];
-    assert_eq!(rt; codes.as_slice(), [515, 6940, 12337].as_slice());
-    assert_eq!(rt;
-        [jct.first_step(), jct.steps()].as_slice(),
-        [3085, 3599].as_slice()
-    );
+    assert!(rt; codes.as_slice() == [515, 6940, 12337].as_slice());
+    assert!(rt; [jct.first_step(), jct.steps()].as_slice() == [3085, 3599].as_slice());
     check_places(&rt, jct.name(), 16, 8);
     check_places(&rt, jct.status_bytes(), 168, 8);
 
@@ -162,16 +156,16 @@ fn fields_of_jobs_and_steps_have_their_places(rt: HostRuntime) -> Result<(), Fai
         sct.test_operator(0),
         sct.test_operator(7),
     ];
-    assert_eq!(rt; bytes.as_slice(), [14, 15, 40, 75].as_slice());
+    assert!(rt; bytes.as_slice() == [14, 15, 40, 75].as_slice());
     let codes = [
         sct.test_code(0),
         sct.test_code(7),
         sct.test_step(0),
         sct.test_step(7),
     ];
-    assert_eq!(rt; codes.as_slice(), [10538, 19533, 11052, 20047].as_slice());
+    assert!(rt; codes.as_slice() == [10538, 19533, 11052, 20047].as_slice());
     let numbers = [sct.next(), sct.first_dd(), sct.dds()];
-    assert_eq!(rt; numbers.as_slice(), [2057, 2571, 3085].as_slice());
+    assert!(rt; numbers.as_slice() == [2057, 2571, 3085].as_slice());
     check_places(&rt, sct.name(), 16, 8);
     check_places(&rt, sct.procedure_step(), 24, 8);
     check_places(&rt, sct.program(), 32, 8);
@@ -192,7 +186,7 @@ fn fields_of_dds_have_their_places(rt: HostRuntime) -> Result<(), Fail> {
         siot.class(),
         siot.volume(),
     ];
-    assert_eq!(rt; bytes.as_slice(), [12, 13, 14, 15, 24, 25, 28].as_slice());
+    assert!(rt; bytes.as_slice() == [12, 13, 14, 15, 24, 25, 28].as_slice());
     let shorts = [
         siot.volume_step(),
         siot.volume_dd(),
@@ -200,12 +194,9 @@ fn fields_of_dds_have_their_places(rt: HostRuntime) -> Result<(), Fail> {
         siot.secondary(),
         siot.units(),
     ];
-    assert_eq!(rt;
-        shorts.as_slice(),
-        [7711, 8225, 8739, 9253, 9767].as_slice()
-    );
+    assert!(rt; shorts.as_slice() == [7711, 8225, 8739, 9253, 9767].as_slice());
     let numbers = [siot.next(), siot.below(), siot.cards()];
-    assert_eq!(rt; numbers.as_slice(), [2057, 2571, 6683].as_slice());
+    assert!(rt; numbers.as_slice() == [2057, 2571, 6683].as_slice());
     check_places(&rt, siot.name(), 16, 8);
     check_places(&rt, siot.status_bytes(), 168, 8);
     Ok(())
@@ -215,12 +206,9 @@ fn fields_of_dds_have_their_places(rt: HostRuntime) -> Result<(), Fail> {
 fn fields_below_dds_have_their_places(rt: HostRuntime) -> Result<(), Fail> {
     let set = places(4).ok_or("a record")?;
     let jfcb = JfcbView::of(&set, &LAYOUT_1).ok_or("a JFCB")?;
-    assert_eq!(rt;
-        [jfcb.key_kind(), jfcb.sign()].as_slice(),
-        [8, 9].as_slice()
-    );
+    assert!(rt; [jfcb.key_kind(), jfcb.sign()].as_slice() == [8, 9].as_slice());
     let shorts = [jfcb.amount(), jfcb.unnamed_step(), jfcb.unnamed_dd()];
-    assert_eq!(rt; shorts.as_slice(), [2571, 3085, 3599].as_slice());
+    assert!(rt; shorts.as_slice() == [2571, 3085, 3599].as_slice());
     check_places(&rt, jfcb.name(), 12, 44);
     check_places(&rt, jfcb.serial(), 56, 6);
     check_places(&rt, jfcb.volume_name(), 62, 44);
@@ -230,7 +218,7 @@ fn fields_below_dds_have_their_places(rt: HostRuntime) -> Result<(), Fail> {
     let none = places(0).ok_or("a record")?;
     let free = FreeView::of(&none, &LAYOUT_1).ok_or("a free record")?;
     let numbers = [cards.next(), u32::from(cards.count()), free.next()];
-    assert_eq!(rt; numbers.as_slice(), [2057, 10, 1029].as_slice());
+    assert!(rt; numbers.as_slice() == [2057, 10, 1029].as_slice());
     check_places(&rt, cards.first(), 16, 80);
     check_places(&rt, cards.second(), 96, 80);
     Ok(())

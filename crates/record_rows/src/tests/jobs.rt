@@ -53,8 +53,8 @@ fn a_listing_is_there_until_it_is_taken(rt: HostRuntime) -> Result<(), Fail> {
     backlog.enter(Listing { job: 4, lines })?;
     assert!(rt; backlog.take(3).is_none());
     let taken = backlog.take(4).ok_or("a listing")?;
-    assert_eq!(rt; taken.job, 4);
-    assert_eq!(rt; taken.lines.len(), 1);
+    assert!(rt; taken.job == 4);
+    assert!(rt; taken.lines.len() == 1);
     assert!(rt; backlog.take(4).is_none());
     Ok(())
 }
@@ -117,19 +117,19 @@ fn a_job_stands_in_the_queue_until_it_is_over(rt: HostRuntime) -> Result<(), Fai
     let key = read_ds_name(b"PAY.DATA").ok().ok_or("a name")?;
     let plan = job_of_one_set(rt.alloc(), name, key)?;
     let mut queue = ListStore::new(rt.alloc(), LAYOUT_1)?;
-    assert_eq!(rt; enter_job(&mut queue, 1, &plan), Ok(1));
-    assert_eq!(rt; queue.free_count(), 4092);
+    assert!(rt; enter_job(&mut queue, 1, &plan) == Ok(1));
+    assert!(rt; queue.free_count() == 4092);
     let waits = Queued {
         job: 1,
         jct: 1,
         class: b'A',
         priority: 6,
     };
-    assert_eq!(rt; select(&queue, b"BA".as_slice()), Some(waits));
-    assert_eq!(rt; select(&queue, b"B".as_slice()), None);
-    assert_eq!(rt; queue.remove(1), Some(waits));
+    assert!(rt; select(&queue, b"BA".as_slice()) == Some(waits));
+    assert!(rt; select(&queue, b"B".as_slice()) == None);
+    assert!(rt; queue.remove(1) == Some(waits));
     release_records(&mut queue, 1);
-    assert_eq!(rt; queue.free_count(), 4096);
+    assert!(rt; queue.free_count() == 4096);
     Ok(())
 }
 
@@ -143,12 +143,12 @@ fn what_is_written_is_read(rt: HostRuntime) -> Result<(), Fail> {
     let mut queue = ListStore::new(rt.alloc(), LAYOUT_1)?;
     let first = enter_job(&mut queue, 1, &plan)?;
     match read_job(rt.alloc(), &queue, 1, 1, first)? {
-        Read::Plan(read) => assert_eq!(rt; read.steps.len(), 1),
+        Read::Plan(read) => assert!(rt; read.steps.len() == 1),
         Read::Broken(_) => return Err(Fail::from("a plan")),
     }
     match read_job(rt.alloc(), &queue, 1, 1, 2)? {
         Read::Plan(_) => return Err(Fail::from("a fault")),
-        Read::Broken(fault) => assert_eq!(rt; fault, 2),
+        Read::Broken(fault) => assert!(rt; fault == 2),
     }
     Ok(())
 }
@@ -168,18 +168,18 @@ fn a_name_is_held_for_one_job(rt: HostRuntime) -> Result<(), Fail> {
     assert!(rt; holds_none(&table, 1));
     let held = match hold_names(rt.alloc(), &mut table, 1, &plan)? {
         Named::Holds(held, count) => {
-            assert_eq!(rt; count, 1);
+            assert!(rt; count == 1);
             held
         }
         Named::Blocked(_) => return Err(Fail::from("a hold")),
     };
     assert!(rt; holds_none(&table, 2));
     match hold_names(rt.alloc(), &mut table, 2, &plan) {
-        Ok(Named::Blocked(by)) => assert_eq!(rt; by, Blocked { job: 1, name }),
+        Ok(Named::Blocked(by)) => assert!(rt; by == Blocked { job: 1, name }),
         Ok(Named::Holds(other, _)) => table.release(other),
         Err(_) => {}
     }
     table.release(held);
-    assert_eq!(rt; table.holds().len(), 0);
+    assert!(rt; table.holds().len() == 0);
     Ok(())
 }

@@ -91,7 +91,7 @@ fn read_well(rt: &impl Abort, alloc: Global, records: &[Rec]) -> Result<JobPlan,
     match read(alloc, records)? {
         Ok(plan) => Ok(plan),
         Err(fault) => {
-            assert_eq!(rt; fault, ReadFault::Memory);
+            assert!(rt; fault == ReadFault::Memory);
             Err("memory is wanting".into())
         }
     }
@@ -101,16 +101,16 @@ fn check_set(rt: &impl Abort, set: &SetPlan) -> Result<(), Fail> {
     let Key::Relative { base, sign, amount } = &set.key else {
         return Err("a relative number".into());
     };
-    assert_eq!(rt; base.as_slice(), b"PAY.GROUP".as_slice());
-    assert_eq!(rt; *sign, Sign::Minus);
-    assert_eq!(rt; *amount, 2);
+    assert!(rt; base.as_slice() == b"PAY.GROUP".as_slice());
+    assert!(rt; *sign == Sign::Minus);
+    assert!(rt; *amount == 2);
     let VolumePlan::Serial(serial) = &set.volume else {
         return Err("a serial".into());
     };
-    assert_eq!(rt; serial.as_slice(), b"PAY001".as_slice());
-    assert_eq!(rt; set.status, Status::Old);
-    assert_eq!(rt; set.normal, Some(Word::Keep));
-    assert_eq!(rt; set.units, Some(1));
+    assert!(rt; serial.as_slice() == b"PAY001".as_slice());
+    assert!(rt; set.status == Status::Old);
+    assert!(rt; set.normal == Some(Word::Keep));
+    assert!(rt; set.units == Some(1));
     Ok(())
 }
 
@@ -118,22 +118,16 @@ fn check_set(rt: &impl Abort, set: &SetPlan) -> Result<(), Fail> {
 fn a_job_is_read_from_eight_records(rt: HostRuntime) -> Result<(), Fail> {
     let records = records(3).ok_or("eight records")?;
     let plan = read_well(&rt, rt.alloc(), &records)?;
-    assert_eq!(rt; plan.name.as_slice(), b"J".as_slice());
-    assert_eq!(rt;
-        [plan.class, plan.priority, plan.message_class].as_slice(),
-        b"A\x06B".as_slice()
-    );
+    assert!(rt; plan.name.as_slice() == b"J".as_slice());
+    assert!(rt; [plan.class, plan.priority, plan.message_class].as_slice() == b"A\x06B".as_slice());
     let test = plan.tests.first().ok_or("a test")?;
-    assert_eq!(rt; test.operator, Operator::Eq);
-    assert_eq!(rt; test.code.number(), 16);
+    assert!(rt; test.operator == Operator::Eq);
+    assert!(rt; test.code.number() == 16);
     let step = plan.steps.as_slice().first().ok_or("a step")?;
-    assert_eq!(rt; step.name.ok_or("a name")?.as_slice(), b"S1".as_slice());
-    assert_eq!(rt;
-        step.procedure_step.ok_or("a name")?.as_slice(),
-        b"P1".as_slice()
-    );
-    assert_eq!(rt; step.program.as_slice(), b"IEFBR14".as_slice());
-    assert_eq!(rt; step.tests.first().ok_or("a test")?.code.number(), 258);
+    assert!(rt; step.name.ok_or("a name")?.as_slice() == b"S1".as_slice());
+    assert!(rt; step.procedure_step.ok_or("a name")?.as_slice() == b"P1".as_slice());
+    assert!(rt; step.program.as_slice() == b"IEFBR14".as_slice());
+    assert!(rt; step.tests.first().ok_or("a test")?.code.number() == 258);
     let [set, deck, sysout] = step.dds.as_slice() else {
         return Err("three DDs".into());
     };
@@ -144,15 +138,12 @@ fn a_job_is_read_from_eight_records(rt: HostRuntime) -> Result<(), Fail> {
     let DdKind::Cards(cards) = &deck.kind else {
         return Err("cards".into());
     };
-    assert_eq!(rt; cards.len(), 3);
-    assert_eq!(rt;
-        cards.as_slice().last().ok_or("a card")?.as_slice(),
-        [b'Y'; 80].as_slice()
-    );
+    assert!(rt; cards.len() == 3);
+    assert!(rt; cards.as_slice().last().ok_or("a card")?.as_slice() == [b'Y'; 80].as_slice());
     let DdKind::Sysout(class) = &sysout.kind else {
         return Err("SYSOUT".into());
     };
-    assert_eq!(rt; *class, b'A');
+    assert!(rt; *class == b'A');
     Ok(())
 }
 
@@ -162,7 +153,7 @@ fn broken_records_are_told(rt: HostRuntime) -> Result<(), Fail> {
     match read(rt.alloc(), &records)? {
         Ok(_) => return Err("a plan of broken records".into()),
         Err(ReadFault::Memory) => return Err("memory is wanting".into()),
-        Err(ReadFault::Broken(fault)) => assert_eq!(rt; fault, 10),
+        Err(ReadFault::Broken(fault)) => assert!(rt; fault == 10),
     }
     Ok(())
 }

@@ -11,15 +11,15 @@ fn a_job_waits_until_it_is_taken_out(rt: HostRuntime) -> Result<(), Fail> {
         priority: 6,
     };
     let mut queue = JobQueue::new(rt.alloc());
-    assert_eq!(rt; queue.first(b'A'), None);
+    assert!(rt; queue.first(b'A') == None);
     queue.enter(queued)?;
-    assert_eq!(rt; queue.len(), 1);
-    assert_eq!(rt; queue.first(b'A'), Some(queued));
-    assert_eq!(rt; queue.first(b'B'), None);
-    assert_eq!(rt; queue.first(255), None);
-    assert_eq!(rt; queue.remove(1), Some(queued));
-    assert_eq!(rt; queue.remove(1), None);
-    assert_eq!(rt; queue.first(b'A'), None);
-    assert_eq!(rt; queue.len(), 0);
+    assert!(rt; queue.len() == 1);
+    assert!(rt; queue.first(b'A') == Some(queued));
+    assert!(rt; queue.first(b'B') == None);
+    assert!(rt; queue.first(255) == None);
+    assert!(rt; queue.remove(1) == Some(queued));
+    assert!(rt; queue.remove(1) == None);
+    assert!(rt; queue.first(b'A') == None);
+    assert!(rt; queue.len() == 0);
     Ok(())
 }

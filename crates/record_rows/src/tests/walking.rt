@@ -82,7 +82,7 @@ fn check(rt: &impl Abort, alloc: Global, sound: &[Rec; 4], changes: &[Change]) -
         let rec = records.get_mut(*index).ok_or("one of four")?;
         *rec = with(rec, *at, bytes).ok_or("bytes of a record")?;
         let got = told(alloc, &mut store, &records)?;
-        assert_eq!(rt; got, *want, "record {index} from {at}");
+        assert!(rt; got == *want);
     }
     Ok(())
 }
@@ -120,7 +120,7 @@ fn an_siot_of_another_job_is_told(rt: HostRuntime) -> Result<(), Fail> {
     let [job, step, dd, last] = two_dummies().ok_or("four records")?;
     let last = with(&last, 2, b"\0\x02").ok_or("bytes of a record")?;
     let got = told(rt.alloc(), &mut store, &[job, step, dd, last])?;
-    assert_eq!(rt; got, Some(3));
+    assert!(rt; got == Some(3));
     Ok(())
 }
 

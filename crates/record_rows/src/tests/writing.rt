@@ -124,8 +124,8 @@ fn a_job_of_one_set_stands_in_records_one_to_four(rt: HostRuntime) -> Result<(),
     let program = Name8::read(b"IEFBR14").ok().ok_or("a name")?;
     let key = read_ds_name(b"PAY.DATA").ok().ok_or("a name")?;
     let plan = job_of_one_set(rt.alloc(), job, dd, program, key)?;
-    assert_eq!(rt; write_job(&mut store, 1, &plan), Ok(1));
-    assert_eq!(rt; store.free_count(), 4092);
+    assert!(rt; write_job(&mut store, 1, &plan) == Ok(1));
+    assert!(rt; store.free_count() == 4092);
     let rec = store.get(3).ok_or("an SIOT")?;
     assert!(rt; rec.bytes()[..16] == [3, 0, 0, 1, 0, 0, 0, 0, 0, 0, 0, 4, 1, 1, 4, 0]);
     Ok(())
