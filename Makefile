@@ -13,7 +13,7 @@ help:
 	@echo '                          a minute or two where something changed, else at once'
 	@echo 'make mvt                  proves the program and all that it stands on, and builds it to ./mvt'
 	@echo 'make examples             runs each session of examples/ with ./mvt and compares the listings'
-	@echo 'make documents            runs the examples of README.md and docs/ with ./mvt and compares what they print'
+	@echo 'make documents            compares README.md and docs/ with ./mvt: what examples print, what refusals are told'
 	@echo 'make test                 the gate: every proof from nothing, the edits that must fail, the tests, the programs'
 
 # Runs the program on a session. Nothing is proved.
@@ -33,7 +33,7 @@ mvt:
 examples: mvt
 	tests/examples.sh ./mvt
 
-# Compares what the examples of the documents print with what ./mvt writes.
+# Compares the documents with ./mvt: their examples, and what docs/REFUSALS.md says is told.
 documents: mvt
 	python3 tests/documents.py ./mvt
 

@@ -1,6 +1,8 @@
-"""Runs the examples of README.md and docs/ and compares what they print with what stands below them.
+"""Compares README.md, docs/ and bench/README.md with the program.
 
-An example is a block ```sh that is followed by a block ```text. A block ```sh without one is a definition for those behind it.
+An example is a block ```sh that is followed by a block ```text, which it has to print. A block ```sh without one is a
+definition for those behind it. Each number of a refusal has its row, what is typed in docs/REFUSALS.md is told as it
+says, and no line is longer than 120 columns.
 Usage: python3 tests/documents.py [PROGRAM], by default ./mvt
 """
 
@@ -12,6 +14,21 @@ import sys
 
 BLOCK = re.compile(r"^```(\w+)\n(.*?)^```\n", re.M | re.S)
 PROGRAMS = ("make -s run SESSION=/dev/stdin", "./mvt")
+# The refusals that have a row of their own: the type that has their numbers, their letter, and where the row stands.
+NUMBERED = {
+    "CardFault": ("C", "docs/REFUSALS.md"),
+    "NameFault": ("N", "docs/REFUSALS.md"),
+    "StatementFault": ("P", "docs/REFUSALS.md"),
+    "EventFault": ("A", "docs/REFUSALS.md"),
+    "Fault": ("S", "docs/SESSION.md"),
+}
+# What stands in a session before the deck of which a part was typed.
+CONFIGURATION = "./ INIT 1 A\n./ PROC COPY\n//P EXEC PGM=IEFBR14\n//OUT DD SYSOUT=&CLASS\n./ END\n"
+
+
+def text_of(path):
+    with open(path, encoding="utf-8") as file:
+        return file.read()
 
 
 def printed(text, program):
@@ -22,8 +39,7 @@ def printed(text, program):
 
 def examples_of(document):
     """The examples of a document, with the definitions before them, and what they are to print."""
-    with open(document, encoding="utf-8") as file:
-        blocks = BLOCK.findall(file.read())
+    blocks = BLOCK.findall(text_of(document))
     definitions = ""
     for (kind, text), (next_kind, wanted) in zip(blocks, blocks[1:] + [("", "")]):
         if kind != "sh":
@@ -34,21 +50,63 @@ def examples_of(document):
             definitions += text
 
 
+def examples_that_differ(document, program):
+    for shown, text, wanted in examples_of(document):
+        run = printed(text, program)
+        if run.stdout + run.stderr != wanted:
+            yield f"DIFFERS\n{shown}{run.stdout}{run.stderr}"
+
+
+def long_lines(document):
+    for number, line in enumerate(text_of(document).splitlines(), 1):
+        if len(line) > 120:
+            yield f"line {number} has {len(line)} columns"
+
+
+def refusals_without_row():
+    for path in sorted(glob.glob("crates/*/src/fault.rt")):
+        for kind, number in re.findall(r"\b(\w*Fault)::\w+(?:\(_\))? => (\d+)", text_of(path)):
+            if kind in NUMBERED:
+                letter, document = NUMBERED[kind]
+                if f"\n| {letter}{number} |" not in text_of(document):
+                    yield f"{document}: no row has {letter}{number}"
+
+
+def deck_with(typed):
+    """A deck that has this statement, or this operation with its operand, where it belongs."""
+    job, step = "//J JOB 1", "//S EXEC PGM=IEFBR14"
+    if typed.startswith("JOB "):
+        return [f"//J {typed}", step]
+    if typed.startswith("EXEC "):
+        return [job, f"//S {typed}"]
+    if typed.startswith("OUT "):
+        return [job, step, f"//{typed}"]
+    if " DD " in typed:
+        return [job, step, typed]
+    return [typed, step]
+
+
+def typed_and_told_otherwise(program):
+    """The rows of the first table of docs/REFUSALS.md that do not hold: no number says that the deck is read."""
+    table = text_of("docs/REFUSALS.md").split("## From what was typed")[1].split("\n## ")[0]
+    for typed, told in re.findall(r"^\| `(.+?)` \| (\w*) \|", table, re.M):
+        session = "\n".join([CONFIGURATION + "./ READ", *deck_with(typed), "./ END", ""])
+        run = subprocess.run([program], input=session, capture_output=True, text=True)
+        if not run.stdout.startswith(f"0001 REJECTED {told}\n" if told else "0001 READ "):
+            yield f"docs/REFUSALS.md: `{typed}` is told otherwise\n{run.stdout}{run.stderr}"
+
+
 def main():
     os.chdir(os.path.join(os.path.dirname(os.path.abspath(__file__)), ".."))
     program = os.path.abspath(sys.argv[1] if len(sys.argv) > 1 else "mvt")
-    failed = False
-    for document in ["README.md", *sorted(glob.glob("docs/*.md"))]:
-        count = 0
-        for shown, text, wanted in examples_of(document):
-            run = printed(text, program)
-            if run.stdout + run.stderr != wanted:
-                failed = True
-                print(f"{document}: DIFFERS\n{shown}{run.stdout}{run.stderr}")
-            count += 1
+    wrong = [*refusals_without_row(), *typed_and_told_otherwise(program)]
+    for document in ["README.md", *sorted(glob.glob("docs/*.md")), "bench/README.md"]:
+        wrong += [f"{document}: {said}" for said in [*examples_that_differ(document, program), *long_lines(document)]]
+        count = len([*examples_of(document)])
         if count:
             print(f"{document}: {count} examples")
-    sys.exit(failed)
+    print("\n".join(wrong))
+    sys.exit(bool(wrong))
 
 
 main()
