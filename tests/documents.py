@@ -105,7 +105,8 @@ def main():
         count = len([*examples_of(document)])
         if count:
             print(f"{document}: {count} examples")
-    print("\n".join(wrong))
+    for said in wrong:
+        print(said)
     sys.exit(bool(wrong))
 
 
