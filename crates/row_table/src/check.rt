@@ -1,0 +1,70 @@
+//! Each row of a table is put in, and what comes is compared with what is wanted.
+use crate::table::{Row, Table};
+use std::alloc::{AllocError, Global};
+use std::io::{self, Write};
+use std::process::ExitCode;
+use std::{env, fs};
+
+/// What a table is about: it answers a row's input.
+pub trait Subject {
+    /// Appends the lines that answer this input.
+    fn answer(&self, alloc: Global, input: &[u8], told: &mut Vec<u8>) -> Result<(), AllocError>;
+}
+
+/// Says on standard error which row fails, what was wanted and what came.
+fn say_failed(rt: &HostRuntime, table: &str, row: &Row<'_>, told: &[u8]) -> io::Result<()> {
+    let mut out = rt.stderr();
+    out.write_all(table.as_bytes())?;
+    out.write_all(b": ")?;
+    out.write_all(row.name)?;
+    out.write_all(b"\n-- wanted\n")?;
+    out.write_all(row.wanted)?;
+    out.write_all(b"-- came\n")?;
+    out.write_all(told)
+}
+
+/// Compares the rows of a table. It tells how many rows there are, and whether each of them holds.
+fn check_rows<S: Subject>(
+    rt: &HostRuntime,
+    subject: &S,
+    name: &str,
+    text: &[u8],
+) -> io::Result<(u32, bool)> {
+    let mut table = Table::new(text);
+    let mut count = 0u32;
+    let mut holds = true;
+    for _ in 0..text.len() {
+        let Some(row) = table.next_row() else {
+            break;
+        };
+        let mut told = Vec::new(rt.alloc());
+        subject.answer(rt.alloc(), row.input, &mut told)?;
+        if told.as_slice() != row.wanted {
+            holds = false;
+            say_failed(rt, name, &row, told.as_slice())?;
+        }
+        count = count.saturating_add(1);
+    }
+    Ok((count, holds))
+}
+
+/// Compares the rows of a file, says how many there are, and tells whether each of them holds.
+fn check_file<S: Subject>(rt: &HostRuntime, subject: &S, name: &str) -> io::Result<bool> {
+    let text = fs::read(rt, name)?;
+    let (count, holds) = check_rows(rt, subject, name, text.as_slice())?;
+    println!(rt; "{name}: {count} rows")?;
+    Ok(holds)
+}
+
+/// Compares the rows of the files that the command line names: status 0 where each row holds, else 1.
+pub fn check_tables<S: Subject>(rt: &HostRuntime, subject: &S) -> io::Result<ExitCode> {
+    let mut holds = true;
+    for name in env::args(rt)?.skip(1) {
+        holds &= check_file(rt, subject, name.as_str())?;
+    }
+    Ok(if holds {
+        ExitCode::SUCCESS
+    } else {
+        ExitCode::from(1)
+    })
+}

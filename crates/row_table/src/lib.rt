@@ -1,0 +1,6 @@
+//! Tables of worked rows that a person can read and add to, and the program that compares them.
+#![tactic(auto)]
+
+pub mod check;
+pub mod escapes;
+pub mod table;
