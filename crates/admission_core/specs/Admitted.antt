@@ -13,6 +13,7 @@ use Rattle.world_meaning.specs.Lenses.{seen}
 use Rattle.world_meaning.specs.Placements.{ArePlaces}
 use Rattle.world_meaning.specs.Worlds.{Config, Running, Shared}
 use Rattle.admission_core.specs.declared.admission.Admission.{Admission}
+use Rattle.jcl_meaning.specs.Solo.{fixed_with}
 
 abbrev pub answer_for : Bool → JobPlan → List SoloProgram → JobLine
 answer_for true plan programs = line.Unchecked
@@ -23,7 +24,7 @@ IsAnswer plan programs told = told ≡ answer_for (names_a_set plan) plan progra
 
 -- what is fixed for a job by its admission
 abbrev pub fixed_for : List (List ℕ) → JobPlan → Admission → Fixed
-fixed_for volumes plan a = record { job_tests = plan.tests.items; volumes = volumes; places = a.places; meanings = a.meanings; date = a.date }
+fixed_for volumes plan a = fixed_with volumes plan a.places a.meanings a.date
 
 -- the machine in which a job is admitted: it sees this store, on this date, with these programs
 pub record IsAtHand (seen_by_job : Store) (job date : ℕ) (programs : List SoloProgram) (c : Config) (old : Shared) (r : Running) : Type 0 where
@@ -40,4 +41,4 @@ pub record IsAdmitted (seen_by_job : Store) (job : ℕ) (plan : JobPlan) (progra
   pub answered : IsAnswer plan programs told
   pub unless_set : a.assured ≡ not (names_a_set plan)
   pub admits : (c : Config) (old : Shared) (r : Running) → IsAtHand seen_by_job job date programs c old r → ArePlaces c plan places →
-      Admits c old r plan (told ∷ []) old (admitted r (told ∷ []) plan (fixed_for c.volumes plan a) a.assured)
+      (g : Admits c old r plan (told ∷ []) old (admitted r (told ∷ []) plan (fixed_for c.volumes plan a) a.assured)) × (g.places ≡ a.places)

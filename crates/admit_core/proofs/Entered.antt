@@ -11,7 +11,7 @@ use Rattle.cb_meaning.specs.Needs.{records_needed}
 use Rattle.cb_meaning.specs.Spelled.{Denotes}
 use Rattle.cb_meaning.specs.Walks.{is_free}
 use Rattle.cb_meaning.specs.Writable.{IsWritable}
-use Rattle.cb_queue.specs.RecordQueues.{IsSound, RecordQueue, bytes_or_zeros, first_taken, given_back, next_free, record_at, shown, taken, zero_record}
+use Rattle.cb_queue.specs.RecordQueues.{IsSoundQueue, RecordQueue, bytes_or_zeros, first_taken, given_back, next_free, record_at, shown, taken, zero_record}
 use Rattle.cb_chain.specs.Written.{Written}
 use Rattle.cb_chain.proofs.Among.{not_left}
 use Rattle.jcl_plan.specs.declared.plan.JobPlan.{JobPlan}
@@ -30,14 +30,14 @@ at_front zero xs a b some there here = absurd (omega (arith, some))
 at_front (suc k) [] a b some there here = cc
 at_front (suc k) (x ∷ xs) a b some there here = sym (same_Some x a there) ∙ same_Some x b here
 
-used_now : (q : RecordQueue) → IsSound q → (job m : ℕ) (rest : List ℕ) → (1 ≤ m) × (m ≤ q.layout.most_records) → IsSome (record_at (first_taken q job (m ∷ rest)) m)
+used_now : (q : RecordQueue) → IsSoundQueue q → (job m : ℕ) (rest : List ℕ) → (1 ≤ m) × (m ≤ q.layout.most_records) → IsSome (record_at (first_taken q job (m ∷ rest)) m)
 used_now q sound job zero rest number = absurd (omega (arith, number.0))
 used_now q sound job (suc i) rest number =
     let size = sound.size in
     let here : i < length q.records = omega (arith, size, number.1) in
     subst IsSome (sym (get_or-set_same q.records i (Some (zero_record job)) None here)) refl
 
-back_now : (q : RecordQueue) → IsSound q → (job m : ℕ) (rest : List ℕ) → q.free ≡ m ∷ rest → (1 ≤ m) × (m ≤ q.layout.most_records) → record_at q m ≡ None →
+back_now : (q : RecordQueue) → IsSoundQueue q → (job m : ℕ) (rest : List ℕ) → q.free ≡ m ∷ rest → (1 ≤ m) × (m ≤ q.layout.most_records) → record_at q m ≡ None →
     given_back (first_taken q job (m ∷ rest)) m ≡ q
 back_now q sound job zero rest first number none = absurd (omega (arith, number.0))
 back_now q sound job (suc i) rest first number none =
@@ -46,7 +46,7 @@ back_now q sound job (suc i) rest first number none =
     λ j. record q { records = records j; free = sym first j }
 
 -- the next free record is taken, and given back
-module _ (q : RecordQueue) (sound : IsSound q) (job : ℕ) where
+module _ (q : RecordQueue) (sound : IsSoundQueue q) (job : ℕ) where
   within : (n : ℕ) (rest : List ℕ) → q.free ≡ n ∷ rest → (1 ≤ n) × (n ≤ q.layout.most_records)
   within n rest first =
       let P : ℕ → Type 0 = λ m. (1 ≤ m) × (m ≤ q.layout.most_records) in

@@ -4,9 +4,10 @@ use Rattle.std.specs.List.{filter, list_any}
 use Rattle.std.proofs.lemmas.Bool.{both_ways, eq-eqb, eqb-true, or_left, or_right}
 use Rattle.cb_meaning.specs.declared.layout.Layout.{Layout}
 use Rattle.cb_meaning.specs.Walks.{is_free, owner_of}
-use Rattle.cb_queue.specs.RecordQueues.{IsSound, RecordQueue, ShowsRecords, all_given_back, bytes_or_zeros, numbers_of, owner_in, record_at, shown, unless_of}
-use Rattle.world_meaning.specs.Records.{AgreeBut, given_back, numbers_from, open_fields, owned_by}
+use Rattle.cb_queue.specs.RecordQueues.{IsSoundQueue, RecordQueue, ShowsRecords, all_given_back, bytes_or_zeros, numbers_of, owner_in, record_at, shown, unless_of}
+use Rattle.world_meaning.specs.Records.{AgreeBut, records_given_back, open_fields, owned_by}
 use Rattle.admit_core.specs.Releases.{Releases}
+use Rattle.plain.specs.Lists.{numbers_from}
 
 -- the numbers of an owner's records, by what is told of each
 numbers_told : (owner : ℕ → ℕ) (job k : ℕ) (records : List (Option (List ℕ))) → ((i : ℕ) → i < length records → owner (k + i) ≡ owner_in (get_or records i None)) →
@@ -42,7 +43,7 @@ nothing : (b : Bool) (o : Option (List ℕ)) → o ≡ None → o ≡ cond b Non
 nothing true o e = e
 nothing false o e = refl
 
-module _ (shows : ShowsRecords) (q : RecordQueue) (job : ℕ) (sound : IsSound q) (some : job ≢ 0) where
+module _ (shows : ShowsRecords) (q : RecordQueue) (job : ℕ) (sound : IsSoundQueue q) (some : job ≢ 0) where
   owned_are : numbers_of job 1 q.records ≡ owned_by q.layout (shown q) job
   owned_are =
       numbers_told (owner_of (shown q)) job 1 q.records at
@@ -79,10 +80,10 @@ module _ (shows : ShowsRecords) (q : RecordQueue) (job : ℕ) (sound : IsSound q
   reaches zero (r ∷ records) h = omega arith
   reaches (suc i) (r ∷ records) h = let rest = reaches i records h in omega (arith, rest)
 
-  freed : (n : ℕ) → list_any (λ f. f == n) (numbers_of job 1 q.records) ≡ true → is_free (given_back q.layout (shown q) job) n ≡ true
+  freed : (n : ℕ) → list_any (λ f. f == n) (numbers_of job 1 q.records) ≡ true → is_free (records_given_back q.layout (shown q) job) n ≡ true
   freed n h = ap (λ xs. list_any (λ f. f == n) (xs ++ q.free)) (sym owned_are) ∙ any_left n (numbers_of job 1 q.records) q.free h
 
-  kept : (n : ℕ) → is_free (given_back q.layout (shown q) job) n ≡ false → record_at (all_given_back q job) n ≡ record_at q n
+  kept : (n : ℕ) → is_free (records_given_back q.layout (shown q) job) n ≡ false → record_at (all_given_back q job) n ≡ record_at q n
   kept zero used = refl
   kept (suc i) used = unless_at i q.records ∙ by (owner_in (get_or q.records i None) == job) refl
     where
@@ -91,7 +92,7 @@ module _ (shows : ShowsRecords) (q : RecordQueue) (job : ℕ) (sound : IsSound q
           let is : owner_in (get_or q.records i None) ≡ job = eqb-true (owner_in (get_or q.records i None)) job e in
           let here : i < length q.records = reaches i q.records (λ none. some (sym is ∙ none)) in
           let same : 1 + i ≡ suc i = omega arith in
-          absurd (both_ways (is_free (given_back q.layout (shown q) job) (suc i)) used
+          absurd (both_ways (is_free (records_given_back q.layout (shown q) job) (suc i)) used
           (freed (suc i) (ap (λ n. list_any (λ f. f == n) (numbers_of job 1 q.records)) (sym same) ∙ among 1 i q.records here is)))
       by false e = refl
 

@@ -1,5 +1,5 @@
 pub mod Cards
 pub mod Deck
 pub mod Fields
-pub mod Numbers
+pub mod RefusalNumbers
 pub mod Reading

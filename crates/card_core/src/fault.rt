@@ -1,6 +1,6 @@
 //! Why cards are no statements.
 ghost use Rattle.std.specs.Prelude.{◌≡◌};
-ghost use Rattle.card_core.specs.Numbers.{number_of};
+ghost use Rattle.card_core.specs.RefusalNumbers.{number_of};
 
 use thiserror::Error;
 

@@ -13,7 +13,7 @@ use Rattle.list_values.specs.declared.condition.Condition.{Condition}
 use Rattle.list_values.specs.Conditions.{after_abend_of, begins_list, condition, condition_in, condition_of_places, is_word, no_condition, test_of_items, tests_in}
 use Rattle.value_core.specs.Reads.{Read, bad, good}
 use Rattle.card_laws.specs.Ranges.{HasSoundCodes}
-use Rattle.card_laws.proofs.Numbers.{fits_within}
+use Rattle.card_laws.proofs.NumbersWithin.{fits_within}
 
 abbrev HasCode : CodedTest → Type 0
 HasCode t = t.code ≤ GREATEST_CODE

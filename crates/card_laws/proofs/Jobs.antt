@@ -22,7 +22,7 @@ use Rattle.card_laws.specs.CardLaws.{JobCardsAreSound}
 use Rattle.card_laws.specs.Ranges.{IsSoundJob}
 use Rattle.card_laws.proofs.Codes.{codes_fit}
 use Rattle.card_laws.proofs.Faultless.{ReadIs, name_is, told_is, value_is, when_none}
-use Rattle.card_laws.proofs.Numbers.{fits_within}
+use Rattle.card_laws.proofs.NumbersWithin.{fits_within}
 
 job_name_by : (empty : Bool) (name : List ℕ) → cond empty (P MissingName ∷ []) (name_faults name) ≡ [] → IsName8 name
 job_name_by true name none = absurd (cc)

@@ -1,5 +1,5 @@
 pub mod Faultless
-pub mod Numbers
+pub mod NumbersWithin
 pub mod Codes
 pub mod Jobs
 pub mod Names

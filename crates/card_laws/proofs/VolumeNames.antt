@@ -19,7 +19,7 @@ use Rattle.value_core.specs.declared.set.VolumeName.TheVariants as volume
 use Rattle.value_core.specs.Places.{together_faults}
 use Rattle.value_core.specs.Reads.{Read, bad, good}
 use Rattle.value_core.specs.References.{is_reference}
-use Rattle.value_core.specs.VolumeNames.{by_key, first_named, is_dropped, is_other_name, named_in, of_dd, of_name, or_later, place_of, reference, serial, volume_name}
+use Rattle.value_core.specs.VolumeNames.{by_key, first_named, is_dropped, is_other_name, named_in, of_dd, of_name, or_later, volume_place, reference, serial, volume_name}
 use Rattle.jcl_cards.specs.declared.coded.Coded.TheVariants.{Value}
 use Rattle.card_laws.specs.Ranges.{IsSoundVolume}
 use Rattle.card_laws.proofs.Faultless.{ReadIs, ds_name_is, either_is, when_none}
@@ -80,7 +80,7 @@ by_key_is key text =
     either_is IsVolume (bytes_eq key (codes "SER")) (serial text) referred (λ is. serial_is text)
     (λ is. either_is IsVolume (bytes_eq key (codes "REF")) (reference text) unknown (λ is. reference_is text) (λ is none. tt))
 
-place_is : (text : List ℕ) (found : Option (List ℕ × List ℕ)) → ReadIs IsVolume (place_of text found)
+place_is : (text : List ℕ) (found : Option (List ℕ × List ℕ)) → ReadIs IsVolume (volume_place text found)
 place_is text None =
     either_is IsVolume (is_dropped text) (good volume.Any) (bad volume.Any (P BadValue)) (λ is none. tt) (λ is none. tt)
 place_is text (Some found) = by_key_is found.0 found.1
@@ -93,12 +93,12 @@ later_is (volume.OfName text) later is behind = is
 later_is (volume.OfDd dd) later is behind = is
 
 abbrev faults_at : List ℕ → List Cause
-faults_at text = (place_of text (keyword_of text)).faults
+faults_at text = (volume_place text (keyword_of text)).faults
 
 named_is : (places : List (List ℕ)) → flat_map faults_at places ≡ [] → IsVolume (named_in places)
 named_is [] none = tt
 named_is (text ∷ places) none =
-    later_is (place_of text (keyword_of text)).value (named_in places)
+    later_is (volume_place text (keyword_of text)).value (named_in places)
     (place_is text (keyword_of text) (none_in_front (faults_at text) (flat_map faults_at places) none))
     (named_is places (none_behind (faults_at text) (flat_map faults_at places) none))
 

@@ -23,10 +23,10 @@ use Rattle.jcl_meaning.specs.declared.state.DdState.{DdState}
 use Rattle.jcl_meaning.specs.declared.state.TakenSet.{TakenSet}
 use Rattle.jcl_meaning.specs.declared.store.DataSet.{DataSet}
 use Rattle.jcl_meaning.specs.Dispositions.{changed, is_deleted_back}
-use Rattle.jcl_meaning.specs.EndActs.{released}
+use Rattle.jcl_meaning.specs.EndActs.{tracks_released}
 use Rattle.jcl_meaning.specs.Names.{same_key, same_sign}
 use Rattle.jcl_meaning.specs.Stores.{Store, after_rolling, cut, cut_at, generation_entered, generation_entered_by, is_unexpired, member_of, name_entered, rolled_off, scratched_unless, uncatalogued, uncatalogued_by, with_entry, with_set, with_set_there}
-use Rattle.jcl_meaning.specs.TakeActs.{all_given_back, given_back}
+use Rattle.jcl_meaning.specs.TakeActs.{all_given_back, set_given_back}
 use Rattle.part_laws.proofs.SameWrites.{same_bytes}
 use Rattle.world_meaning.specs.Tracks.{tracks_of}
 use Rattle.case_laws.specs.Gains.{GainsNone}
@@ -133,7 +133,7 @@ cut_down s key serial (Some set) e =
     replaced s key serial (Some (cut set))
     (subst (λ (x : Option DataSet). (cut set).tracks ≤ tracks_of x) (sym e) (min-le_left set.tracks (tracks_for (length set.records))))
 
-pub cut_if : (b : Bool) (s : Store) (key : Key) (serial : List ℕ) → GainsNone s (released b key serial s)
+pub cut_if : (b : Bool) (s : Store) (key : Key) (serial : List ℕ) → GainsNone s (tracks_released b key serial s)
 cut_if false s key serial = unchanged s
 cut_if true s key serial = cut_down s key serial (s.set key serial) refl
 
@@ -197,10 +197,10 @@ back_if : (b : Bool) (s : Store) (key : Key) (serial : List ℕ) → GainsNone s
 back_if true s key serial = removed s key serial
 back_if false s key serial = unchanged s
 
-one_back : (t : Option TakenSet) (s : Store) → GainsNone s (given_back t s)
+one_back : (t : Option TakenSet) (s : Store) → GainsNone s (set_given_back t s)
 one_back None s = unchanged s
 one_back (Some t) s = back_if (is_deleted_back t) s t.key t.serial
 
 pub all_back : (xs : List DdState) (s : Store) → GainsNone s (all_given_back xs s)
 all_back [] s = unchanged s
-all_back (x ∷ xs) s = chained s (given_back x.taken s) (all_given_back xs (given_back x.taken s)) (one_back x.taken s) (all_back xs (given_back x.taken s))
+all_back (x ∷ xs) s = chained s (set_given_back x.taken s) (all_given_back xs (set_given_back x.taken s)) (one_back x.taken s) (all_back xs (set_given_back x.taken s))

@@ -28,7 +28,7 @@ use Rattle.jcl_meaning.specs.declared.take.Target.TheVariants as target
 use Rattle.jcl_meaning.specs.Acts.{act}
 use Rattle.jcl_meaning.specs.Agendas.{Action, Ask, Dispose, Finish, Left, Over, Receive, Start, Take}
 use Rattle.jcl_meaning.specs.Dispositions.{changed}
-use Rattle.jcl_meaning.specs.EndActs.{disposes, disposes_at, finishes, leaves, left_at, passed_by, released, set_disposed, set_disposes}
+use Rattle.jcl_meaning.specs.EndActs.{disposes, disposes_at, finishes, leaves, left_at, passed_by, tracks_released, set_disposed, set_disposes}
 use Rattle.jcl_meaning.specs.Programs.{appended, dd_of, emptied, empties, is_concatenated, is_full, is_read_only, or_nothing}
 use Rattle.jcl_meaning.specs.RequestActs.{appended_at, asks_at, asks_dd, asks_of, dd_name, gets_by, head_or, put_grows, put_to_set, puts, puts_in, puts_unless, reads, received_due, received_now, store_appended}
 use Rattle.jcl_meaning.specs.Resolutions.{meaning_at}
@@ -196,7 +196,7 @@ module _ (fixed : Fixed) (a : Action) (s : State) where
   disposed_gains : (n dd : ℕ) (name : Option (List ℕ)) (p : SetPlan) (t : TakenSet) (d : Disposed) → Gains fixed a s (set_disposed fixed n dd name p t s d)
   disposed_gains n dd name p t d =
       none (chained s.store (changed d.change s.store t.key t.serial fixed.date)
-      (released (releases p.space) t.key t.serial (changed d.change s.store t.key t.serial fixed.date)) (changes d.change s.store t.key t.serial fixed.date)
+      (tracks_released (releases p.space) t.key t.serial (changed d.change s.store t.key t.serial fixed.date)) (changes d.change s.store t.key t.serial fixed.date)
       (cut_if (releases p.space) (changed d.change s.store t.key t.serial fixed.date) t.key t.serial)) refl
 
   dispose_set_gains : (n dd : ℕ) (name : Option (List ℕ)) (p : SetPlan) (t : Option TakenSet) → Gains fixed a s (set_disposes fixed n dd name p t s)

@@ -24,7 +24,7 @@ use Rattle.world_meaning.specs.Zaps.{ZapsRecord, not_owned, selected as zaps_sel
 use Rattle.world_laws.proofs.Beside.{one_there}
 use Rattle.run_laws.specs.Soundness.{IsSound, RunsAt}
 use Rattle.run_laws.proofs.Places.{one_running}
-use Rattle.case_laws.specs.Lines.{IsDecided, LeavesNoneOpen}
+use Rattle.case_laws.specs.Lines.{HasNoChoice, LeavesNoneOpen}
 use Rattle.case_laws.proofs.Needed.{needed}
 use Rattle.case_laws.proofs.Queues.{not_both as not_both_selected, same_job}
 use Rattle.case_laws.proofs.Spools.{not_both as not_both_written, same_line, same_taken_job}
@@ -82,7 +82,7 @@ module _ (w : World) (s : IsSound w) where
       e ∙ ap (λ (job : ℕ). of_job job (line.Selected x.number ∷ [])) (same_job w.waiting x.classes v u t k) ∙ sym f
 
   acts_same : (a b : World) (place : ℕ) (x : Initiator) (o : Option Running) (l m : List Entry) →
-      ((r : Running) → o ≡ Some r → IsDecided w.config w.shared r.job r.stage) → Acts (counted w) place x o l a → Acts (counted w) place x o m b → l ≡ m
+      ((r : Running) → o ≡ Some r → HasNoChoice w.config w.shared r.job r.stage) → Acts (counted w) place x o l a → Acts (counted w) place x o m b → l ≡ m
   acts_same a b place x None l m decided p q = selects_same a b place x l m p q
   acts_same a b place x (Some r) l m decided p q =
       p.told ∙ ap (of_job r.job) (goes_same w.config w.shared r p.shared q.shared p.runs q.runs p.job_lines q.job_lines r.stage (decided r refl) p.goes q.goes)

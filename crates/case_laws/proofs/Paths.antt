@@ -15,14 +15,14 @@ use Rattle.jcl_meaning.specs.Agendas.{Action, Ask, Dispose, Finish, Left, Over, 
 use Rattle.jcl_meaning.specs.History.{IsStepOutcome}
 use Rattle.jcl_meaning.specs.Plans.{passes}
 use Rattle.jcl_meaning.specs.Programs.{is_iefbr14, moves_of}
-use Rattle.jcl_meaning.specs.Solo.{given, nothing_own}
+use Rattle.jcl_meaning.specs.Solo.{at_start, given, nothing_own}
 use Rattle.jcl_meaning.specs.States.{Fixed, State}
 use Rattle.jcl_meaning.specs.Stores.{Store}
 use Rattle.cb_meaning.specs.Writable.{kind_at}
 use Rattle.path_laws.proofs.Alike.{Same}
 use Rattle.path_laws.proofs.Cleanly.{Clean, after, clean_split, run_is_clean}
 use Rattle.path_laws.proofs.Shapes.{shaped_same}
-use Rattle.world_meaning.specs.Admissions.{AreKept, IsFounded, IsSafe, Makes, first_state, primary_asked}
+use Rattle.world_meaning.specs.Admissions.{AreKept, IsFounded, primary_asked}
 use Rattle.world_meaning.specs.Lenses.{seen}
 use Rattle.world_meaning.specs.Tracks.{is_kept_for}
 use Rattle.world_meaning.specs.Worlds.{Config, Kept, Shared}
@@ -31,6 +31,7 @@ use Rattle.case_laws.proofs.FreeSteps.{StepOut, step_made, step_out, step_passed
 use Rattle.case_laws.proofs.Making.{may_take}
 use Rattle.case_laws.proofs.StillKept.{IsOf, has_among, is_of}
 use Rattle.case_laws.proofs.TakesMade.{MakesIn, makes_first, makes_later, makes_run}
+use Rattle.path_meaning.specs.Paths.{IsSafe, Makes}
 
 -- behind the steps nothing is taken
 abbrev IsNoTake : Action → Type 0
@@ -123,13 +124,13 @@ module _ (fixed : Fixed) (p : Place) (programs : List SoloProgram) (rest : List 
 makes : (fixed : Fixed) (plan : JobPlan) (programs : List SoloProgram) (store : Store) (p : Place) → IsSafe fixed plan store →
     MayMake fixed (agenda plan programs) store nothing_own p → Makes fixed plan store p
 makes fixed plan programs store p safe m =
-    by_path (path_out fixed p programs (behind_steps plan.steps) (λ v. nothing_behind fixed plan.steps v p) 1 plan.steps (first_state store (given [])) m)
+    by_path (path_out fixed p programs (behind_steps plan.steps) (λ v. nothing_behind fixed plan.steps v p) 1 plan.steps (at_start store (given [])) m)
   where
-    by_path : PathOut fixed p programs (behind_steps plan.steps) (λ v. nothing_behind fixed plan.steps v p) 1 plan.steps (first_state store (given [])) →
+    by_path : PathOut fixed p programs (behind_steps plan.steps) (λ v. nothing_behind fixed plan.steps v p) 1 plan.steps (at_start store (given [])) →
         Makes fixed plan store p
     by_path path =
-        let t : State = first_state store (given path.outs) in
-        let same : Same path.outs (first_state store (given [])) (first_state store (given path.outs)) = record {
+        let t : State = at_start store (given path.outs) in
+        let same : Same path.outs (at_start store (given [])) (at_start store (given path.outs)) = record {
           store = shaped_same store;
           passed = refl;
           ended = refl;
@@ -143,14 +144,14 @@ makes fixed plan programs store p safe m =
           given = refl;
           good = All-nil IsStepOutcome;
         } in
-        let clean = clean_split fixed (steps_from (moves_of []) 1 plan.steps) (behind_steps plan.steps) (first_state store (given path.outs))
-        (run_is_clean fixed (path_agenda plan) (first_state store (given path.outs)) (safe path.outs path.within)) in
+        let clean = clean_split fixed (steps_from (moves_of []) 1 plan.steps) (behind_steps plan.steps) (at_start store (given path.outs))
+        (run_is_clean fixed (path_agenda plan) (at_start store (given path.outs)) (safe path.outs path.within)) in
         record {
           outcomes = path.outs;
           within = path.within;
-          made = makes_run fixed (path_agenda plan) (first_state store (given path.outs)) p
-              (makes_first fixed (steps_from (moves_of []) 1 plan.steps) (behind_steps plan.steps) (first_state store (given path.outs)) p
-              (path.makes (first_state store (given path.outs)) same clean.0));
+          made = makes_run fixed (path_agenda plan) (at_start store (given path.outs)) p
+              (makes_first fixed (steps_from (moves_of []) 1 plan.steps) (behind_steps plan.steps) (at_start store (given path.outs)) p
+              (path.makes (at_start store (given path.outs)) same clean.0));
         }
 
 -- tracks that are kept for it are as many as are asked

@@ -28,7 +28,7 @@ placed_by (volume.OfName name) volumes step dd = ([], refl)
 placed_by (volume.OfDd s d) volumes step dd = ([], refl)
 
 placed_if : (b : Bool) (c : Config) (step dd : ℕ) (p : SetPlan) → SomeList (PlacedIf b c step dd p)
-placed_if true c step dd p = placed_by p.volume (unit_volumes c p.units) step dd
+placed_if true c step dd p = placed_by p.volume (unit_volumes c.volumes c.units p.units) step dd
 placed_if false c step dd p = ([], refl)
 
 placed_dd : (c : Config) (step dd : ℕ) (kind : DdKind) → SomeList (PlacedDd c step dd kind)

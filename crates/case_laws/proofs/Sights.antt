@@ -13,9 +13,10 @@ use Rattle.jcl_meaning.specs.declared.store.DataSet.{DataSet}
 use Rattle.jcl_meaning.specs.Names.{same_key}
 use Rattle.jcl_meaning.specs.Stores.{Store, with_set}
 use Rattle.world_meaning.specs.Lenses.{WorldStore, seen_set, world_key, written_set}
-use Rattle.world_meaning.specs.Tracks.{are_different, is_touched, tracks_of}
+use Rattle.world_meaning.specs.Tracks.{is_touched, tracks_of}
 use Rattle.case_laws.proofs.Gained.{one_key}
 use Rattle.case_laws.proofs.TouchedKeys.{distinct, distinct_all, distinct_once, gain, itself}
+use Rattle.plain.specs.Lists.{all_different}
 
 -- Under a key of all jobs stands what another job made, or what the job sees under one of its keys.
 data Sight (job : ℕ) (w : WorldStore) (t : Store) (k : SetKey) : Type 0 where
@@ -72,7 +73,7 @@ touched_too job (x ∷ js) j k is e = by_place (or_cases (same_key j x) (list_an
 abbrev pub touched_by : ℕ → List Key → List SetKey
 touched_by job js = distinct (all_keys job js)
 
-pub touched_once : (job : ℕ) (js : List Key) → are_different (touched_by job js) ≡ true
+pub touched_once : (job : ℕ) (js : List Key) → all_different same_set_key (touched_by job js) ≡ true
 touched_once job js = distinct_once (all_keys job js)
 
 untouched : (job : ℕ) (js : List Key) (j : Key) (k : SetKey) → world_key job j ≡ Some k → is_touched (touched_by job js) k ≡ false →

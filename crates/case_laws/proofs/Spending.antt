@@ -18,7 +18,7 @@ use Rattle.jcl_meaning.specs.TakeActs.{new_set}
 use Rattle.cb_meaning.specs.Writable.{kind_at}
 use Rattle.world_meaning.specs.Admissions.{primary_asked}
 use Rattle.world_meaning.specs.Lenses.{WorldStore, put_back, seen, seen_set, world_key, written_set}
-use Rattle.world_meaning.specs.Tracks.{Conserves, are_different, is_touched, kept_on, kept_unless_made, tracks_of, used_by}
+use Rattle.world_meaning.specs.Tracks.{Conserves, is_touched, kept_on, kept_unless_made, tracks_of, used_by}
 use Rattle.world_meaning.specs.Worlds.{Kept, Shared}
 use Rattle.case_laws.specs.Cases.{HasTracks}
 use Rattle.case_laws.specs.Gains.{Gains, GainsNone, MakesSet, grows, none, one}
@@ -28,11 +28,13 @@ use Rattle.case_laws.proofs.Known.{IsKnown}
 use Rattle.case_laws.proofs.Sights.{made_gains, put_gains, put_others, touched_by, touched_once}
 use Rattle.case_laws.proofs.Sums.{sum_filter}
 use Rattle.case_laws.proofs.TouchedKeys.{sum_gains}
+use Rattle.plain.specs.Lists.{all_different}
+use Rattle.vtoc_core.specs.Entries.{same_key as same_set_key}
 
 -- On no volume are more tracks kept and in sets than before, and of the sets these alone changed.
 pub record Spent (old : Shared) (store : WorldStore) (kept : List Kept) : Type 0 where
   pub touched : List SetKey
-  pub once : are_different touched ≡ true
+  pub once : all_different same_set_key touched ≡ true
   pub others : (k : SetKey) (v : List ℕ) → is_touched touched k ≡ false → store.set k v ≡ old.store.set k v
   pub fits : (v : List ℕ) → kept_on kept v + used_by store v touched ≤ kept_on old.kept v + used_by old.store v touched
 

@@ -14,7 +14,7 @@ use Rattle.world_meaning.specs.declared.event.Event.TheVariants as event
 use Rattle.world_meaning.specs.Cancels.{RunsNot, is_admitted}
 use Rattle.world_meaning.specs.Lenses.{WorldStore, seen}
 use Rattle.world_meaning.specs.Readings.{Denoting}
-use Rattle.world_meaning.specs.Starts.{Differ, IsStart}
+use Rattle.world_meaning.specs.Starts.{IsStart}
 use Rattle.world_meaning.specs.Transitions.{Transition}
 use Rattle.world_meaning.specs.Worlds.{Admission, Admitted, Config, Initiator, IsAt, Kept, Named, Running, Selected, Shared, Stage, Wanting, World}
 use Rattle.world_laws.specs.Beside.{FitsAt, IsBesideAt, IsCancelOf, IsTurnOf, RunsBeside, RunsFit, TurnsBeside}
@@ -29,6 +29,7 @@ use Rattle.case_laws.proofs.Going.{RunsOn, goes_on}
 use Rattle.case_laws.proofs.Making.{may_make_alike}
 use Rattle.case_laws.proofs.Spooled.{HasLines, spooled_kept}
 use Rattle.case_laws.proofs.StillKept.{has_for_job}
+use Rattle.plain.specs.Lists.{Differ}
 
 -- an initiator has one place
 no_other : (ns : List ℕ) (n k : ℕ) → All (λ m. n ≢ m) ns → slice_get ns k ≡ Some n → ⊥

@@ -9,7 +9,8 @@ use Rattle.vtoc_core.specs.declared.entry.SetKey.{SetKey}
 use Rattle.vtoc_core.specs.declared.entry.SetKey.TheVariants.{Named, Temporary, Unnamed}
 use Rattle.vtoc_core.specs.Entries.{same_key}
 use Rattle.vtoc_core.proofs.PlaceLemmas.{keys_same}
-use Rattle.world_meaning.specs.Tracks.{are_different, is_touched}
+use Rattle.world_meaning.specs.Tracks.{is_touched}
+use Rattle.plain.specs.Lists.{all_different}
 
 pub itself : (k : SetKey) → same_key k k ≡ true
 itself (Named a) = (bytes_eq-Decides a a).1 refl
@@ -25,13 +26,13 @@ abbrev pub distinct : List SetKey → List SetKey
 distinct [] = []
 distinct (k ∷ keys) = joined (is_touched (distinct keys) k) k (distinct keys)
 
-pub distinct_once : (keys : List SetKey) → are_different (distinct keys) ≡ true
+pub distinct_once : (keys : List SetKey) → all_different same_key (distinct keys) ≡ true
 distinct_once [] = refl
 distinct_once (k ∷ keys) = by_test (is_touched (distinct keys) k) refl (distinct_once keys)
   where
-    by_test : (b : Bool) → is_touched (distinct keys) k ≡ b → are_different (distinct keys) ≡ true → are_different (joined b k (distinct keys)) ≡ true
+    by_test : (b : Bool) → is_touched (distinct keys) k ≡ b → all_different same_key (distinct keys) ≡ true → all_different same_key (joined b k (distinct keys)) ≡ true
     by_test true e h = h
-    by_test false e h = and_from (not (is_touched (distinct keys) k)) (are_different (distinct keys)) (ap not e) h
+    by_test false e h = and_from (not (is_touched (distinct keys) k)) (all_different same_key (distinct keys)) (ap not e) h
 
 distinct_has : (keys : List SetKey) (x : SetKey) → is_touched keys x ≡ true → is_touched (distinct keys) x ≡ true
 distinct_has [] x e = absurd cc
@@ -62,10 +63,10 @@ gain_elsewhere here n (k ∷ keys) out =
     let p : (same_key here k ≡ false) × (is_touched keys here ≡ false) = or_parts (same_key here k) (is_touched keys here) out in
     sum_by-cons (gain (Some here) n) k keys ∙ (λ i. cond (p.0 i) n 0 + gain_elsewhere here n keys p.1 i)
 
-one_gain : (here : SetKey) (n : ℕ) (keys : List SetKey) → are_different keys ≡ true → sum_by (gain (Some here) n) keys ≤ n
+one_gain : (here : SetKey) (n : ℕ) (keys : List SetKey) → all_different same_key keys ≡ true → sum_by (gain (Some here) n) keys ≤ n
 one_gain here n [] once = omega arith
 one_gain here n (k ∷ keys) once =
-    let p : (not (is_touched keys k) ≡ true) × (are_different keys ≡ true) = and_parts (not (is_touched keys k)) (are_different keys) once in
+    let p : (not (is_touched keys k) ≡ true) × (all_different same_key keys ≡ true) = and_parts (not (is_touched keys k)) (all_different same_key keys) once in
     by_test (same_key here k) refl p.0 (one_gain here n keys p.1)
   where
     first_only : (m a b : ℕ) → m ≡ a + b → a ≡ n → b ≡ 0 → m ≤ n
@@ -88,7 +89,7 @@ one_gain here n (k ∷ keys) once =
         later_only (sum_by (gain (Some here) n) (k ∷ keys)) (gain (Some here) n k) (sum_by (gain (Some here) n) keys) (sum_by-cons (gain (Some here) n) k keys)
         (ap (λ (b : Bool). cond b n 0) e) later
 
-pub gained_once : (here : Option SetKey) (n : ℕ) (keys : List SetKey) → are_different keys ≡ true → sum_by (gain here n) keys ≤ n
+pub gained_once : (here : Option SetKey) (n : ℕ) (keys : List SetKey) → all_different same_key keys ≡ true → sum_by (gain here n) keys ≤ n
 gained_once None n keys once = let none : sum_by (gain None n) keys ≡ 0 = no_gain keys n in omega (arith, none)
 gained_once (Some here) n keys once = one_gain here n keys once
 
@@ -105,7 +106,7 @@ within : (all few more n : ℕ) (whole : ℕ) → all ≤ whole → whole ≡ fe
 within all few more n whole e f g = omega (arith, e, f, g)
 
 -- sums of which each term gains nothing, but for one that gains so many
-pub sum_gains : (f g : SetKey → ℕ) (here : Option SetKey) (n : ℕ) (keys : List SetKey) → are_different keys ≡ true →
+pub sum_gains : (f g : SetKey → ℕ) (here : Option SetKey) (n : ℕ) (keys : List SetKey) → all_different same_key keys ≡ true →
     ((k : SetKey) → f k ≤ g k + gain here n k) → sum_by f keys ≤ sum_by g keys + n
 sum_gains f g here n keys once each =
     within (sum_by f keys) (sum_by g keys) (sum_by (gain here n) keys) n (sum_by (λ k. g k + gain here n k) keys)

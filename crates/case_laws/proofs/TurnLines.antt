@@ -15,7 +15,7 @@ use Rattle.world_meaning.specs.Holdings.{Holds, ReadsRecords, blocked, broken, h
 use Rattle.world_meaning.specs.Transitions.{GoesOn}
 use Rattle.world_meaning.specs.Turns.{Advanced, Advances, acts as does_act, ends, is_cancelled, is_result, must_wait, volume_needed, waits}
 use Rattle.world_meaning.specs.Worlds.{Admission, Admitted, Config, Named, Running, Selected, Shared, Stage, Wanting}
-use Rattle.case_laws.specs.Lines.{IsDecided}
+use Rattle.case_laws.specs.Lines.{HasNoChoice}
 use Rattle.case_laws.proofs.Blocks.{not_both as not_both_held, same_block}
 use Rattle.case_laws.proofs.SameTurns.{IsSameTurn, turn_same}
 
@@ -54,7 +54,7 @@ module _ (c : Config) (old : Shared) (r : Running) (a b : Shared) (on off : Opti
   other_waits : (x y : Advanced) → IsSameTurn x y → must_wait old.operations r.job x ≡ false → must_wait old.operations r.job y ≡ true → ⊥
   other_waits x y s e f = both_ways (must_wait old.operations r.job x) e (same_wait x y s ∙ f)
 
-  advances_same : (plan : JobPlan) (q : Admission) (count : ℕ) (own : Own) → IsDecided c old r.job (Admitted plan q count own) →
+  advances_same : (plan : JobPlan) (q : Admission) (count : ℕ) (own : Own) → HasNoChoice c old r.job (Admitted plan q count own) →
       Advances c old r plan q count own l a on → Advances c old r plan q count own m b off → l ≡ m
   advances_same plan q count own d (waits x g p e must t n k) (waits y h o f must_too u v j) = t ∙ sym u
   advances_same plan q count own d (waits x g p e must t n k) (does_act y h o free f grants goes more u v conserved j) =
@@ -78,7 +78,7 @@ module _ (c : Config) (old : Shared) (r : Running) (a b : Shared) (on off : Opti
       (ends y h o free_too f grants_too goes_too last_too u v conserved_too j) =
       t ∙ (turn_same c old r.job plan q count own d g p h o x y e f).lines ∙ sym u
 
-  pub goes_same : (stage : Stage) → IsDecided c old r.job stage → GoesOn c old r stage l a on → GoesOn c old r stage m b off → l ≡ m
+  pub goes_same : (stage : Stage) → HasNoChoice c old r.job stage → GoesOn c old r stage l a on → GoesOn c old r stage m b off → l ≡ m
   goes_same (Selected first) d p q = records_same first p q
   goes_same (Wanting plan) d p q = holds_same plan p q
   goes_same (Named plan) d p q = absurd d

@@ -9,12 +9,13 @@ use Rattle.jcl_plan.specs.declared.plan.JobPlan.{JobPlan}
 use Rattle.jcl_plan.specs.declared.plan.StepPlan.{StepPlan}
 use Rattle.jcl_meaning.specs.declared.state.Place.{Place}
 use Rattle.jcl_meaning.specs.NoSets.{HasNoSets, IsNoSet, StepHasNoSets}
-use Rattle.jcl_meaning.specs.Solo.{given}
+use Rattle.jcl_meaning.specs.Solo.{at_start, given}
 use Rattle.jcl_meaning.specs.States.{Fixed}
 use Rattle.jcl_meaning.specs.Stores.{Store}
 use Rattle.meaning_laws.proofs.Setless.{quiet_run}
-use Rattle.world_meaning.specs.Admissions.{AreKept, IsFounded, IsSafe, Makes, first_state, is_for_set, names_a_set}
+use Rattle.world_meaning.specs.Admissions.{AreKept, IsFounded, is_for_set, names_a_set}
 use Rattle.run_laws.proofs.Elements.{none_passes}
+use Rattle.path_meaning.specs.Paths.{IsSafe, Makes}
 
 no_set : (kind : DdKind) → is_for_set kind ≡ false → IsNoSet kind
 no_set (Set p) e = absurd cc
@@ -32,14 +33,14 @@ has_no_sets plan e =
     (none_passes (λ (step : StepPlan). list_any (λ d. is_for_set d.kind) step.dds) plan.steps e)
 
 pub is_safe : (fixed : Fixed) (plan : JobPlan) (store : Store) → HasNoSets plan → IsSafe fixed plan store
-is_safe fixed plan store h = λ outcomes within. ap (λ faults. length faults == 0) (quiet_run plan [] fixed (first_state store (given outcomes)) h).0
+is_safe fixed plan store h = λ outcomes within. ap (λ faults. length faults == 0) (quiet_run plan [] fixed (at_start store (given outcomes)) h).0
 
 in_none : (p : Place) → Contains [] p → ⊥
 in_none p (n, less, is) = omega (arith, less)
 
 nothing_made : (fixed : Fixed) (plan : JobPlan) (store : Store) (p : Place) → HasNoSets plan → Makes fixed plan store p → ⊥
 nothing_made fixed plan store p h m =
-    in_none p (subst (λ (made : List Place). Contains made p) (quiet_run plan [] fixed (first_state store (given m.outcomes)) h).1 m.made)
+    in_none p (subst (λ (made : List Place). Contains made p) (quiet_run plan [] fixed (at_start store (given m.outcomes)) h).1 m.made)
 
 pub none_kept : (fixed : Fixed) (plan : JobPlan) (store : Store) (job : ℕ) → HasNoSets plan → AreKept fixed plan store job []
 none_kept fixed plan store job h = record {

@@ -23,15 +23,15 @@ pub record AsksNothing (x : Advanced) : Type 0 where
 
 -- What a job does next is decided: its records are to be read, or its names to be held; or its next line asks nothing, when all is granted.
 -- Whether and how a job with its names is admitted is open.
-abbrev pub IsDecided : Config → Shared → ℕ → Stage → Type 0
-IsDecided c s job (Selected first) = Unit {0}
-IsDecided c s job (Wanting plan) = Unit {0}
-IsDecided c s job (Named plan) = ⊥
-IsDecided c s job (Admitted plan a count own) = (x : Advanced) → advanced c s job plan a count own true true ≡ Some x → AsksNothing x
+abbrev pub HasNoChoice : Config → Shared → ℕ → Stage → Type 0
+HasNoChoice c s job (Selected first) = Unit {0}
+HasNoChoice c s job (Wanting plan) = Unit {0}
+HasNoChoice c s job (Named plan) = ⊥
+HasNoChoice c s job (Admitted plan a count own) = (x : Advanced) → advanced c s job plan a count own true true ≡ Some x → AsksNothing x
 
 -- the event is no turn of a job for which something is open
 abbrev pub LeavesNoneOpen : World → Event → Type 0
-LeavesNoneOpen w e = (place : ℕ) (r : Running) (run : RunsAt w place r) → IsTurnOf e run.it → IsDecided w.config w.shared r.job r.stage
+LeavesNoneOpen w e = (place : ℕ) (r : Running) (run : RunsAt w place r) → IsTurnOf e run.it → HasNoChoice w.config w.shared r.job r.stage
 
 -- The table leaves no freedom in the lines of such an event.
 abbrev pub LinesAreDetermined : Type 0

@@ -1,5 +1,5 @@
 pub mod Bounds
 pub mod Maps
 pub mod Members
-pub mod Numbers
+pub mod AbsentNumbers
 pub mod Outcomes

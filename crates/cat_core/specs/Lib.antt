@@ -1,4 +1,4 @@
 pub mod Bounds
 pub mod Catalogs
 pub mod Codes
-pub mod Numbers
+pub mod RefusalNumbers

@@ -1,6 +1,6 @@
 //! What the catalog refuses.
 ghost use Rattle.std.specs.Prelude.{◌≡◌, Some, None};
-ghost use Rattle.cat_core.specs.Numbers.{number_of};
+ghost use Rattle.cat_core.specs.RefusalNumbers.{number_of};
 
 use thiserror::Error;
 

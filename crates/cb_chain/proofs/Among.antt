@@ -6,8 +6,8 @@ use Rattle.std.proofs.lemmas.Map.Steps.{length-le_from_distinct_below}
 use Rattle.std.specs.Prelude.{All}
 use Rattle.std.proofs.lemmas.Bool.{and_from, and_parts, both_ways, eq-eqb, eqb-false, eqb-true, ne_eqb, not-true, or_cases, or_left, or_right}
 use Rattle.std.proofs.lemmas.List.Elements.{All-head, All-tail}
-use Rattle.cb_meaning.specs.Spelled.{are_different}
 use Rattle.cb_chain.specs.Taking.{is_among}
+use Rattle.plain.specs.Lists.{are_different}
 
 pub true_not_false : true ≡ false → ⊥
 true_not_false e = cc

@@ -1,7 +1,7 @@
 -- A record that was taken is written once those below it are, and the next one was taken.
 use Rattle.std.proofs.Common.{◌≡◌, ◌≢◌, ℕ, ◌≤◌, Bool, true, false, List, [], ◌∷◌, ◌++◌, Some, arith, ap, ◌∙◌, sym, refl, subst, append_assoc}
 use Rattle.std.specs.Prelude.{is_some}
-use Rattle.cb_meaning.specs.Spelled.{Records, are_different}
+use Rattle.cb_meaning.specs.Spelled.{Records}
 use Rattle.cb_meaning.specs.declared.layout.Layout.{Layout}
 use Rattle.cb_queue.specs.RecordQueues.{unlinked, RecordQueue, bytes_or_zeros, owner_at, owner_in, record_at, with_record_at, zero_record}
 use Rattle.cb_queue.proofs.Parts.{owner_zero}
@@ -9,6 +9,7 @@ use Rattle.cb_chain.specs.Composed.{IsOf}
 use Rattle.cb_chain.specs.Taking.{Filled, IsHeld, IsReady, IsTaken, Keeps, TakesIf, Took, Writes, held, is_among}
 use Rattle.cb_chain.proofs.Among.{among_head, among_left, among_right, among_tail, disjoint, not_cons, not_head, not_left, not_right, not_same, not_tail}
 use Rattle.cb_chain.proofs.Stored.{at_other, at_there, put_free, put_layout, put_size, put_waiting}
+use Rattle.plain.specs.Lists.{are_different}
 
 pub nothing_taken : (q : RecordQueue) → Took [] q q
 nothing_taken q = record { layout = refl; waiting = refl; size = refl; free = refl; others = λ n out. refl }

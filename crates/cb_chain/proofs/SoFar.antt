@@ -2,11 +2,12 @@
 use Rattle.std.proofs.Common.{◌≡◌, ◌≢◌, ℕ, suc, ◌+◌, ◌≤◌, Bool, true, false, List, [], ◌∷◌, ◌++◌, length, arith, ap, ◌∙◌, sym, refl, subst, append_assoc}
 use Rattle.std.proofs.Common.{length-append}
 use Rattle.std.proofs.lemmas.List.{append-nil}
-use Rattle.cb_meaning.specs.Spelled.{Records, are_different}
+use Rattle.cb_meaning.specs.Spelled.{Records}
 use Rattle.cb_queue.specs.RecordQueues.{RecordQueue, bytes_or_zeros}
 use Rattle.cb_chain.specs.Taking.{IsHeld, IsReady, Keeps, Links, TakesIf, Took, Writes, held, is_among, is_more}
 use Rattle.cb_chain.proofs.Among.{among_left, among_right, disjoint, not_head, not_left, not_right, not_tail, not_both, not_cons, true_not_false}
 use Rattle.cb_chain.proofs.Stored.{ready_after}
+use Rattle.plain.specs.Lists.{are_different}
 
 pub record SoFar {X : Type 0} (job : ℕ) (needs : List X → ℕ) (chain : Records → ℕ → List ℕ → List X → Type 0) (all rest : List X) (old q : RecordQueue)
     (first here : ℕ) : Type 0 where

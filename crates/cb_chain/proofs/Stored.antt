@@ -3,11 +3,11 @@ use Rattle.std.proofs.Common.{◌≡◌, ◌≢◌, ℕ, zero, suc, ◌≤◌, t
 use Rattle.std.specs.Prelude.{All, slice_get}
 use Rattle.std.proofs.lemmas.List.{get_or-set_other, get_or-set_same, length-set}
 use Rattle.std.proofs.lemmas.List.Elements.{All-head, All-same}
-use Rattle.cb_meaning.specs.Spelled.{are_different}
 use Rattle.cb_queue.specs.RecordQueues.{RecordQueue, first_taken, next_free, record_at, taken, with_record_at, zero_record}
 use Rattle.cb_chain.specs.Taking.{IsReady, TakesIf, Took}
 use Rattle.cb_chain.specs.Written.{HoldsJobs}
 use Rattle.cb_chain.proofs.Among.{all_right, different_head, different_right, not_head}
+use Rattle.plain.specs.Lists.{are_different}
 
 pub at_there : (q : RecordQueue) (n : ℕ) (r : Option (List ℕ)) → 1 ≤ n → n ≤ length q.records → record_at (with_record_at q n r) n ≡ r
 at_there q zero r low high = absurd (omega (arith, low))

@@ -8,9 +8,9 @@ use Rattle.jcl_plan.specs.declared.plan.StepPlan.{StepPlan}
 use Rattle.cb_meaning.specs.declared.layout.Layout.{Layout}
 use Rattle.cb_meaning.specs.Fields.{number_at}
 use Rattle.cb_meaning.specs.Needs.{records_needed}
-use Rattle.cb_meaning.specs.Spelled.{Spell, SpellsJct, StepChain, are_different, jct}
+use Rattle.cb_meaning.specs.Spelled.{Spell, SpellsJct, StepChain, jct}
 use Rattle.cb_meaning.specs.Writable.{AreSteps, most_dds}
-use Rattle.cb_queue.specs.RecordQueues.{IsSound, RecordQueue, shown, unlinked, with_record_at}
+use Rattle.cb_queue.specs.RecordQueues.{IsSoundQueue, RecordQueue, shown, unlinked, with_record_at}
 use Rattle.cb_chain.specs.Composed.{IsJct}
 use Rattle.cb_chain.specs.Taking.{Filled, IsReady, IsTaken, Keeps, TakesIf, Took, Writes, is_among, OfSteps, steps_needed}
 use Rattle.cb_chain.specs.Written.{HoldsJobs, Written}
@@ -18,8 +18,9 @@ use Rattle.cb_chain.proofs.Among.{different_left, disjoint}
 use Rattle.cb_chain.proofs.Chains.{owned}
 use Rattle.cb_chain.proofs.Linked.{Stepped, filled_took, none_after, stepped}
 use Rattle.cb_chain.proofs.Stored.{ready_after}
+use Rattle.plain.specs.Lists.{are_different}
 
-pub ready_from : (q : RecordQueue) → HoldsJobs q.layout → IsSound q → IsReady q
+pub ready_from : (q : RecordQueue) → HoldsJobs q.layout → IsSoundQueue q → IsReady q
 ready_from q holds sound = record { holds = holds; size = sound.size; once = sound.once; within = sound.within }
 
 pub few_dds : (units : ℕ) (all : List StepPlan) (k : ℕ) (steps : List StepPlan) → AreSteps units all k steps → All (λ (step : StepPlan). length step.dds ≤

@@ -6,10 +6,11 @@ use Rattle.jcl_plan.specs.declared.plan.DdPlan.{DdPlan}
 use Rattle.jcl_plan.specs.declared.plan.StepPlan.{StepPlan}
 use Rattle.cb_meaning.specs.declared.layout.Layout.{Layout}
 use Rattle.cb_meaning.specs.Needs.{records_below, records_of_step}
-use Rattle.cb_meaning.specs.Spelled.{Below, CardChain, DdChain, Records, StepChain, are_different}
+use Rattle.cb_meaning.specs.Spelled.{Below, CardChain, DdChain, Records, StepChain}
 use Rattle.cb_queue.specs.RecordQueues.{RecordQueue, bytes_or_zeros, record_at, zero_record}
 use Rattle.std.specs.Prelude.{All}
 use Rattle.cb_chain.specs.Written.{HoldsJobs}
+use Rattle.plain.specs.Lists.{are_different}
 
 abbrev pub is_among : ℕ → List ℕ → Bool
 is_among n numbers = list_any (λ m. m == n) numbers

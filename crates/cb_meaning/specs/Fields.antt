@@ -34,6 +34,10 @@ filled_or_blank width (Some text) = filled width text
 abbrev pub then_zeros : ℕ → List ℕ → List ℕ
 then_zeros width bytes = bytes ++ replicate (width - length bytes) 0
 
+-- a record with these bytes from a place on
+abbrev pub with_part : List ℕ → ℕ → List ℕ → List ℕ
+with_part r at bytes = take at r ++ (bytes ++ drop (at + length bytes) r)
+
 -- every byte but those of these fields is zero
 abbrev pub is_in : Field → ℕ → Bool
 is_in f k = nat_le f.at k && nat_lt k (f.at + f.width)

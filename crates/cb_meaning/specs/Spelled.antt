@@ -21,6 +21,7 @@ use Rattle.cb_meaning.specs.declared.layout.TheConstants.{RECORD_BYTES}
 use Rattle.cb_meaning.specs.Codes.{after_abend_code, conditional_code, job_test_bytes, mark, normal_code, or_zero, status_code, step_test_bytes}
 use Rattle.cb_meaning.specs.Writable.{IsWritable}
 use Rattle.cb_meaning.specs.Fields.{byte_at, field, filled, filled_or_blank, is_zero_but, number_at, part, then_zeros, two_bytes}
+use Rattle.plain.specs.Lists.{are_different}
 
 -- the records by number, and which of them are free
 pub record Records : Type 0 where
@@ -240,17 +241,12 @@ StepChain l q job first numbers (step ∷ steps) =
     (below : List ℕ) × (behind : List ℕ) × (numbers ≡ first ∷ (below ++ behind)) × IsOwned l q job sct first × SpellsSct l step (q.at first)
     × DdChain l q job (number_at (q.at first) l.first_dd) below step.dds × StepChain l q job (number_at (q.at first) l.next_step) behind steps
 
--- no record is used twice
-abbrev pub are_different : List ℕ → Bool
-are_different [] = true
-are_different (n ∷ numbers) = not (list_any (λ m. m == n) numbers) && are_different numbers
-
 -- The records with these numbers, in the order of writing, spell the job.
 pub record Spell (l : Layout) (q : Records) (job : ℕ) (numbers : List ℕ) (plan : JobPlan) : Type 0 where
   pub first : ℕ
   pub behind : List ℕ
   pub begins : numbers ≡ first ∷ behind
-  pub once : are_different numbers ≡ true
+  pub once : are_different numbers ≡ true  -- no record is used twice
   pub owned : IsOwned l q job jct first
   pub head : SpellsJct l plan (q.at first)
   pub steps : StepChain l q job (number_at (q.at first) l.first_step) behind plan.steps

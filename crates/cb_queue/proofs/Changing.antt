@@ -7,10 +7,10 @@ use Rattle.std.proofs.lemmas.List.{length-replicate}
 use Rattle.std.proofs.lemmas.List.Elements.{All-cons, All-filter, All-head, All-nil, All-push, All-same, All-tail}
 use Rattle.cb_meaning.specs.declared.layout.Layout.{Layout}
 use Rattle.cb_meaning.specs.Fields.{field, number_at}
-use Rattle.cb_meaning.specs.Spelled.{are_different}
 use Rattle.cb_meaning.specs.Walks.{is_free, owner_of}
 use Rattle.queue_core.specs.declared.queue.Queued.{Queued}
-use Rattle.cb_queue.specs.RecordQueues.{AreInOrder, HasOwnLink, IsInUse, IsSound, RecordQueue, bytes_or_zeros, empty_queue, first_numbers, first_taken, given_back, no_records, numbers_from, owner_at, owner_in, record_at, shown, taken, with_record_at, zero_record}
+use Rattle.cb_queue.specs.RecordQueues.{AreInOrder, HasOwnLink, IsInUse, IsSoundQueue, RecordQueue, bytes_or_zeros, empty_queue, first_numbers, first_taken, given_back, no_records, owner_at, owner_in, record_at, shown, taken, with_record_at, zero_record}
+use Rattle.plain.specs.Lists.{are_different, numbers_from}
 
 -- a number is in a list
 abbrev pub member : ℕ → List ℕ → Bool
@@ -50,7 +50,7 @@ module _ (q : RecordQueue) (i : ℕ) (o : Option (List ℕ)) (free : List ℕ) w
       let apart : j ≡ i → ⊥ = λ is. eqb-false (suc j) (suc i) e (ap suc is) in
       get_or-set_other q.records i j o None apart
 
-  module _ (h : IsSound q) (here : i < length q.records) (once : are_different free ≡ true) (within : All (is_number q.layout.most_records) free)
+  module _ (h : IsSoundQueue q) (here : i < length q.records) (once : are_different free ≡ true) (within : All (is_number q.layout.most_records) free)
       (members : (m : ℕ) → member m free ≡ cond (m == suc i) (is_none o) (member m q.free)) (used : IfSome o (IsInUse q.layout)) where
     is_free_at : (m : ℕ) → 1 ≤ m → m ≤ q.layout.most_records → member m free ≡ is_none (record_at changed m)
     is_free_at zero from to = absurd (omega (arith, from))
@@ -69,7 +69,7 @@ module _ (q : RecordQueue) (i : ℕ) (o : Option (List ℕ)) (free : List ℕ) w
         by true e = subst (λ r. IfSome r (IsInUse q.layout)) (sym (at_other j true e here)) used
         by false e = subst (λ r. IfSome r (IsInUse q.layout)) (sym (at_other j false e here)) (h.in_use (suc j))
 
-    pub sound_changed : IsSound changed
+    pub sound_changed : IsSoundQueue changed
     sound_changed = record {
       own_link = h.own_link;
       size = length-set q.records i o ∙ h.size;
@@ -81,15 +81,15 @@ module _ (q : RecordQueue) (i : ℕ) (o : Option (List ℕ)) (free : List ℕ) w
     }
 
 -- a number is free exactly where its record is none
-free_none : (q : RecordQueue) (i : ℕ) → IsSound q → is_some (record_at q (suc i)) ≡ true → member (suc i) q.free ≡ false
+free_none : (q : RecordQueue) (i : ℕ) → IsSoundQueue q → is_some (record_at q (suc i)) ≡ true → member (suc i) q.free ≡ false
 free_none q i h used =
     let here = reaches q.records i used in
     let size = h.size in
     h.free (suc i) (omega arith) (omega (arith, here, size)) ∙ some_is_not_none (record_at q (suc i)) used
 
 -- a record in use is written anew
-pub sound_put : (q : RecordQueue) (i : ℕ) (r : List ℕ) → IsSound q → is_some (record_at q (suc i)) ≡ true → IsInUse q.layout r →
-    IsSound (with_record_at q (suc i) (Some r))
+pub sound_put : (q : RecordQueue) (i : ℕ) (r : List ℕ) → IsSoundQueue q → is_some (record_at q (suc i)) ≡ true → IsInUse q.layout r →
+    IsSoundQueue (with_record_at q (suc i) (Some r))
 sound_put q i r h used u = sound_changed q i (Some r) q.free h (reaches q.records i used) h.once h.within (λ m. by m (m == suc i) refl) u
   where
     by : (m : ℕ) (b : Bool) → (m == suc i) ≡ b → member m q.free ≡ cond b false (member m q.free)
@@ -97,7 +97,7 @@ sound_put q i r h used u = sound_changed q i (Some r) q.free h (reaches q.record
     by m false e = refl
 
 -- the next free one is taken
-module _ (q : RecordQueue) (i owner : ℕ) (rest : List ℕ) (h : IsSound q) (first : q.free ≡ suc i ∷ rest) where
+module _ (q : RecordQueue) (i owner : ℕ) (rest : List ℕ) (h : IsSoundQueue q) (first : q.free ≡ suc i ∷ rest) where
   parts : (not (member (suc i) rest) ≡ true) × (are_different rest ≡ true)
   parts = and_parts _ _ (sym (ap are_different first) ∙ h.once)
 
@@ -127,14 +127,14 @@ module _ (q : RecordQueue) (i owner : ℕ) (rest : List ℕ) (h : IsSound q) (fi
       let other : (suc i == m) ≡ false = ne_eqb (suc i) m (λ is. eqb-false m (suc i) e (sym is)) in
       sym (ap (member m) first ∙ ap (λ b. b || member m rest) other)
 
-  pub sound_taken : IsInUse q.layout (zero_record owner) → IsSound (taken q owner)
+  pub sound_taken : IsInUse q.layout (zero_record owner) → IsSoundQueue (taken q owner)
   sound_taken u =
-      subst (λ free. IsSound (first_taken q owner free)) (sym first)
+      subst (λ free. IsSoundQueue (first_taken q owner free)) (sym first)
       (sound_changed q i (Some (zero_record owner)) rest h first_here parts.1 (All-tail (is_number q.layout.most_records) (suc i) rest numbers)
       (λ m. members m (m == suc i) refl) u)
 
 -- one in use is given back
-pub sound_given : (q : RecordQueue) (i : ℕ) → IsSound q → is_some (record_at q (suc i)) ≡ true → IsSound (given_back q (suc i))
+pub sound_given : (q : RecordQueue) (i : ℕ) → IsSoundQueue q → is_some (record_at q (suc i)) ≡ true → IsSoundQueue (given_back q (suc i))
 sound_given q i h used =
     let here = reaches q.records i used in
     let size = h.size in
@@ -147,7 +147,7 @@ sound_given q i h used =
     by m false e = ap (λ b. b || member m q.free) (ne_eqb (suc i) m (λ is. eqb-false m (suc i) e (sym is)))
 
 -- other jobs wait
-pub sound_waiting : (q : RecordQueue) (waiting : List Queued) → IsSound q → AreInOrder waiting → IsSound (record q { waiting = waiting })
+pub sound_waiting : (q : RecordQueue) (waiting : List Queued) → IsSoundQueue q → AreInOrder waiting → IsSoundQueue (record q { waiting = waiting })
 sound_waiting q waiting h order = record { own_link = h.own_link; size = h.size; once = h.once; within = h.within; free = h.free; in_use = h.in_use; in_order = order }
 
 pub order_entered : (xs : List Queued) (x : Queued) → AreInOrder xs → All (λ y. y.job < x.job) xs → AreInOrder (xs ++ x ∷ [])
@@ -199,7 +199,7 @@ none_at (suc count) (suc i) = none_at count i
 abbrev fresh : Layout → RecordQueue
 fresh l = record { layout = l; records = replicate l.most_records None; free = numbers_from 1 l.most_records; waiting = [] }
 
-sound_fresh : (l : Layout) → HasOwnLink l → IsSound (fresh l)
+sound_fresh : (l : Layout) → HasOwnLink l → IsSoundQueue (fresh l)
 sound_fresh l own = record {
   own_link = own;
   size = length-replicate l.most_records None;
@@ -218,7 +218,7 @@ sound_fresh l own = record {
     none_used zero = tt
     none_used (suc i) = subst (λ r. IfSome r (IsInUse l)) (sym (none_at l.most_records i)) tt
 
-pub sound_empty : (l : Layout) → HasOwnLink l → IsSound (empty_queue l)
+pub sound_empty : (l : Layout) → HasOwnLink l → IsSoundQueue (empty_queue l)
 unfolding first_numbers no_records
 sound_empty l own = sound_fresh l own
 
@@ -231,7 +231,7 @@ member_is P (x ∷ xs) n h e = by (x == n) refl e (member_is P xs n (All-tail P 
     by true is e rest = subst P (eqb-true x n is) (All-head P x xs h)
     by false is e rest = rest e
 
-pub shows_owner : (q : RecordQueue) → IsSound q → (n : ℕ) → owner_of (shown q) n ≡ owner_at q n
+pub shows_owner : (q : RecordQueue) → IsSoundQueue q → (n : ℕ) → owner_of (shown q) n ≡ owner_at q n
 shows_owner q h n = by (is_free (shown q) n) refl
   where
     of_bytes : (o : Option (List ℕ)) → number_at (bytes_or_zeros o) (field 2 2) ≡ owner_in o

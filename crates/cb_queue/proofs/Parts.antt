@@ -6,12 +6,12 @@ use Rattle.std.proofs.lemmas.Grind.{same_number_lists}
 use Rattle.std.proofs.lemmas.List.{get_or-append_right, get_or-drop, get_or-take, get_or_append_left, length-replicate, length-take-le}
 use Rattle.cb_meaning.specs.declared.layout.Field.{Field}
 use Rattle.cb_meaning.specs.declared.layout.Layout.{Layout}
-use Rattle.cb_meaning.specs.Fields.{field, is_in, number_at, number_of, part, two_bytes}
+use Rattle.cb_meaning.specs.Fields.{field, is_in, number_at, number_of, part, two_bytes, with_part}
 use Rattle.cb_meaning.specs.Spelled.{status_bytes}
 use Rattle.cb_records.proofs.Kept.{part_stays}
 use Rattle.cb_records.specs.Laws.{AreApart}
 use Rattle.cb_records.specs.Writes.{ChangesOnly}
-use Rattle.cb_queue.specs.RecordQueues.{HasOwnLink, IsInUse, unlinked, with_part, zero_record}
+use Rattle.cb_queue.specs.RecordQueues.{HasOwnLink, IsInUse, unlinked, zero_record}
 
 module _ (r : List ℕ) (at : ℕ) (bytes : List ℕ) (fits : at + length bytes ≤ length r) where
   front : length (take at r) ≡ at

@@ -9,10 +9,11 @@ use Rattle.std.proofs.lemmas.List.Sums.{count_by-le-length, sum_by-set}
 use Rattle.cb_meaning.specs.declared.layout.Layout.{Layout}
 use Rattle.cb_meaning.specs.Fields.{field, number_at}
 use Rattle.queue_core.specs.declared.queue.Queued.{Queued}
-use Rattle.cb_queue.specs.RecordQueues.{AreInOrder, HasOwnLink, IsInUse, IsSound, RecordQueue, empty_queue, first_numbers, first_taken, given_back, no_records, numbers_from, owner_in, record_at, taken, with_record_at, zero_record}
+use Rattle.cb_queue.specs.RecordQueues.{AreInOrder, HasOwnLink, IsInUse, IsSoundQueue, RecordQueue, empty_queue, first_numbers, first_taken, given_back, no_records, owner_in, record_at, taken, with_record_at, zero_record}
 use Rattle.cb_queue.specs.Stored.{AreStored, seen_in, seen_record, seen_records}
 use Rattle.cb_queue.proofs.Changing.{first_free, first_here, reaches, sound_empty, sound_given, sound_put, sound_taken, sound_waiting}
 use Rattle.cb_queue.proofs.Parts.{in_use_zero, owner_zero}
+use Rattle.plain.specs.Lists.{numbers_from}
 
 -- one record is another, and one owner
 pub seen_set : (os : List ℕ) (rs : List (List ℕ)) (i o : ℕ) (r : List ℕ) → seen_records (slice_set os i o) (slice_set rs i r) ≡ slice_set (seen_records os rs) i (seen_record o r)
@@ -107,7 +108,7 @@ module _ (l : Layout) (os : List ℕ) (rs : List (List ℕ)) (stack : List ℕ) 
 
     pub stored_put : (r : List ℕ) → IsInUse l r → number_at r (field 2 2) ≡ get_or os i 0 → AreStored l os (slice_set rs i r) stack count waiting
     stored_put r u owner = record {
-      sound = subst IsSound (sym (seen_put r)) (sound_put now i r h.sound used u);
+      sound = subst IsSoundQueue (sym (seen_put r)) (sound_put now i r h.sound used u);
       few = h.few;
       records_room = length-set rs i r ∙ h.records_room;
       owners_room = h.owners_room;
@@ -143,7 +144,7 @@ module _ (l : Layout) (os : List ℕ) (rs : List (List ℕ)) (stack : List ℕ) 
 
     pub stored_given : AreStored l (slice_set os i 0) rs (slice_set stack count (suc i)) (count + 1) waiting
     stored_given = record {
-      sound = subst IsSound (sym seen_given) (sound_given now i h.sound used);
+      sound = subst IsSoundQueue (sym seen_given) (sound_given now i h.sound used);
       few = h.few;
       records_room = h.records_room;
       owners_room = length-set os i 0 ∙ h.owners_room;
@@ -196,7 +197,7 @@ module _ (l : Layout) (os : List ℕ) (rs : List (List ℕ)) (stack : List ℕ) 
 
     pub stored_taken : All (λ b. b < 256) (zero_record owner) → AreStored l (slice_set os i owner) (slice_set rs i (zero_record owner)) stack c waiting
     stored_taken bytes = record {
-      sound = subst IsSound (sym seen_taken) (sound_taken now i owner (reverse (take c stack)) h.sound first_is (in_use_zero l h.sound.own_link owner some bytes));
+      sound = subst IsSoundQueue (sym seen_taken) (sound_taken now i owner (reverse (take c stack)) h.sound first_is (in_use_zero l h.sound.own_link owner some bytes));
       few = h.few;
       records_room = length-set rs i (zero_record owner) ∙ h.records_room;
       owners_room = length-set os i owner ∙ h.owners_room;
@@ -250,7 +251,7 @@ module _ (l : Layout) (r : List ℕ) (os : List ℕ) (rs : List (List ℕ)) (sta
 
   pub stored_new : HasOwnLink l → l.most_records < 2 ^ 32 → AreStored l os rs stack l.most_records waiting
   stored_new own few = record {
-    sound = subst IsSound (sym seen_new) (sound_empty l own);
+    sound = subst IsSoundQueue (sym seen_new) (sound_empty l own);
     few = few;
     records_room = ap length records ∙ length-replicate l.most_records r;
     owners_room = ap length owners ∙ length-replicate l.most_records 0;

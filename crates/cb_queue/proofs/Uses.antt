@@ -7,11 +7,11 @@ use Rattle.std.proofs.lemmas.Bool.{eq-eqb, true≢false}
 use Rattle.std.proofs.lemmas.List.Edits.{get_or-between}
 use Rattle.std.proofs.lemmas.List.{get_or_read, length-take-le}
 use Rattle.std.proofs.lemmas.List.Elements.{All-head, All-same}
-use Rattle.cb_meaning.specs.Fields.{field, number_at, part}
+use Rattle.cb_meaning.specs.Fields.{field, number_at, part, with_part}
 use Rattle.cb_meaning.specs.Spelled.{status_bytes}
 use Rattle.cb_records.specs.Writes.{ChangesOnly}
 use Rattle.cb_queue.specs.declared.list_store.ListStore.TheInside.{Inside}
-use Rattle.cb_queue.specs.RecordQueues.{HasNoneBetween, IsInUse, IsLent, given_back, next_free, owner_at, owner_in, record_at, taken, with_part, with_record_at, with_status, zero_record}
+use Rattle.cb_queue.specs.RecordQueues.{HasNoneBetween, IsInUse, IsLent, given_back, next_free, owner_at, owner_in, record_at, taken, with_record_at, with_status, zero_record}
 use Rattle.cb_queue.specs.Stored.{AreStored, IsStored, seen, seen_in}
 use Rattle.cb_queue.proofs.Parts.{in_use_status, owner_status, with_part_is}
 use Rattle.cb_queue.proofs.Storing.{here, in_stack, in_use, none_seen, owned_record, owner_seen, record_is, room, seen_given, seen_put, seen_taken, stack_more, stored_given, stored_put, stored_taken, used_number}

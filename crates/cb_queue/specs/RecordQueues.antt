@@ -3,12 +3,13 @@ use Rattle.std.specs.Prelude.{◌≡◌, ◌≢◌, ℕ, zero, suc, ◌+◌, ◌
 use Rattle.std.specs.Option.{option_map}
 use Rattle.cb_meaning.specs.declared.layout.Layout.{Layout}
 use Rattle.cb_meaning.specs.declared.layout.TheConstants.{RECORD_BYTES}
-use Rattle.cb_meaning.specs.Fields.{byte_at, field, is_in, number_at, two_bytes}
-use Rattle.cb_meaning.specs.Spelled.{Records, are_different, status_bytes}
+use Rattle.cb_meaning.specs.Fields.{byte_at, field, is_in, number_at, two_bytes, with_part}
+use Rattle.cb_meaning.specs.Spelled.{Records, status_bytes}
 use Rattle.cb_meaning.specs.Walks.{is_free, owner_of}
 use Rattle.cb_records.specs.Laws.{AreApart}
 use Rattle.cb_records.specs.Writes.{ChangesOnly, FitsRecord}
 use Rattle.queue_core.specs.declared.queue.Queued.{Queued}
+use Rattle.plain.specs.Lists.{are_different, numbers_from}
 
 pub record RecordQueue : Type 0 where
   -- where the fields of a record stand, and how many records there are
@@ -36,10 +37,6 @@ owner_at q n = owner_in (record_at q n)
 -- none of the records behind one number, up to another, is an owner's
 abbrev pub HasNoneBetween : RecordQueue → ℕ → ℕ → ℕ → Type 0
 HasNoneBetween q owner low high = (n : ℕ) → low < n → n ≤ high → owner_at q n ≢ owner
-
--- a record with these bytes from a place on
-abbrev pub with_part : List ℕ → ℕ → List ℕ → List ℕ
-with_part r at bytes = take at r ++ (bytes ++ drop (at + length bytes) r)
 
 -- a record with a link of zeros
 abbrev pub unlinked : Layout → List ℕ → List ℕ
@@ -93,11 +90,7 @@ unless_of owner r = if owner_in r == owner then None else r
 abbrev pub all_given_back : RecordQueue → ℕ → RecordQueue
 all_given_back q owner = record q { records = map (unless_of owner) q.records; free = numbers_of owner 1 q.records ++ q.free }
 
--- so many numbers from one on, and as many records of which none is in use
-abbrev pub numbers_from : ℕ → ℕ → List ℕ
-numbers_from n zero = []
-numbers_from n (suc count) = n ∷ numbers_from (n + 1) count
-
+-- so many numbers, and as many records of which none is in use
 unfoldable pub first_numbers : ℕ → List ℕ
 first_numbers count = numbers_from 1 count
 
@@ -136,7 +129,7 @@ AreInOrder [] = Unit {0}
 AreInOrder (x ∷ behind) = All (λ y. x.job < y.job) behind × AreInOrder behind
 
 -- What holds of a queue at any time.
-pub record IsSound (q : RecordQueue) : Type 0 where
+pub record IsSoundQueue (q : RecordQueue) : Type 0 where
   pub own_link : HasOwnLink q.layout
   pub size : length q.records ≡ q.layout.most_records
   -- each free number stands once, and is that of a record
@@ -153,4 +146,4 @@ pub record ShowsRecord (q : RecordQueue) (n : ℕ) : Type 0 where
   pub owner : owner_of (shown q) n ≡ owner_at q n
 
 abbrev pub ShowsRecords : Type 0
-ShowsRecords = (q : RecordQueue) → IsSound q → (n : ℕ) → ShowsRecord q n
+ShowsRecords = (q : RecordQueue) → IsSoundQueue q → (n : ℕ) → ShowsRecord q n

@@ -4,7 +4,7 @@ use Rattle.std.specs.List.{count_by}
 use Rattle.cb_meaning.specs.declared.layout.Layout.{Layout}
 use Rattle.queue_core.specs.declared.queue.Queued.{Queued}
 use Rattle.cb_queue.specs.declared.list_store.ListStore.TheInside.{Inside}
-use Rattle.cb_queue.specs.RecordQueues.{IsSound, RecordQueue, owner_in}
+use Rattle.cb_queue.specs.RecordQueues.{IsSoundQueue, RecordQueue, owner_in}
 
 -- a record, or none where it has no owner
 abbrev pub seen_record : ℕ → List ℕ → Option (List ℕ)
@@ -28,7 +28,7 @@ abbrev pub seen : Inside → RecordQueue
 seen a = seen_in a.layout a.owners.items a.records.items a.free.items a.free_count a.waiting
 
 pub record AreStored (l : Layout) (owners : List ℕ) (records : List (List ℕ)) (stack : List ℕ) (count : ℕ) (waiting : List Queued) : Type 0 where
-  pub sound : IsSound (seen_in l owners records stack count waiting)
+  pub sound : IsSoundQueue (seen_in l owners records stack count waiting)
   pub few : l.most_records < 2 ^ 32
   -- each table has its room from the start
   pub records_room : length records ≡ l.most_records

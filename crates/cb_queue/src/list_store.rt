@@ -1,9 +1,11 @@
 //! A store of records in one table.
 ghost use Rattle.std.specs.Prelude.{◌≡◌, ◌<◌, ◌^◌, IfOk, None, length, replicate, reverse, true};
 ghost use Rattle.cb_meaning.specs.declared.layout.TheConstants.{RECORD_BYTES};
-ghost use Rattle.cb_queue.specs.RecordQueues.{HasNoneBetween, HasOwnLink, empty_queue, numbers_from, owner_at, record_at, with_part, zero_record};
+ghost use Rattle.cb_queue.specs.RecordQueues.{HasNoneBetween, HasOwnLink, empty_queue, owner_at, record_at, zero_record};
 ghost use Rattle.cb_records.specs.Laws.{AreBytes};
 ghost use Rattle.cb_records.specs.Writes.{HoldsNumber};
+ghost use Rattle.plain.specs.Lists.{numbers_from};
+ghost use Rattle.cb_meaning.specs.Fields.{with_part};
 
 use crate::store::RecordStore;
 use cb_meaning::layout::{Field, Layout};

@@ -2,7 +2,7 @@
 ghost use Rattle.std.specs.Prelude.{◌≡◌, ◌≢◌, ◌<◌, ◌==◌, ◌++◌, ◌∷◌, [], Some, All, IfNone, IfSome, IsSome, OnErr, OnOk, filter, length, not};
 ghost use Rattle.std.specs.Option.{option_copied};
 ghost use Rattle.cb_meaning.specs.Fields.{field, number_at};
-ghost use Rattle.cb_queue.specs.RecordQueues.{IsLent, IsSound, RecordQueue, all_given_back, given_back, next_free, owner_at, record_at, taken, unlinked, with_record_at, with_status};
+ghost use Rattle.cb_queue.specs.RecordQueues.{IsLent, IsSoundQueue, RecordQueue, all_given_back, given_back, next_free, owner_at, record_at, taken, unlinked, with_record_at, with_status};
 ghost use Rattle.queue_core.specs.Queues.{HasNoneOf, IsFirstOf, IsJobOf};
 
 use cb_meaning::layout::Layout;
@@ -18,7 +18,7 @@ pub trait RecordStore {
     /// Where the fields of its records stand, and how many there are.
     fn layout(&self) -> &Layout
         ensures value { result.now ≡ (queue self.now).layout }
-        ensures sound { IsSound (queue self.now) };
+        ensures sound { IsSoundQueue (queue self.now) };
 
     /// A record in use. Its link is the store's own.
     fn get(&self, n: u32) -> Option<&Rec>

@@ -11,7 +11,7 @@ use Rattle.cb_meaning.specs.declared.layout.Layout.{Layout}
 use Rattle.cb_meaning.specs.Fields.{byte_at, is_in, part}
 use Rattle.cb_meaning.specs.Walks.{arrival_fault, is_free, kind_of, owner_of}
 use Rattle.cb_records.specs.Writes.{ChangesOnly}
-use Rattle.cb_queue.specs.RecordQueues.{IsInUse, IsLent, IsSound, RecordQueue, bytes_or_zeros, owner_in, record_at, shown}
+use Rattle.cb_queue.specs.RecordQueues.{IsInUse, IsLent, IsSoundQueue, RecordQueue, bytes_or_zeros, owner_in, record_at, shown}
 use Rattle.cb_queue.proofs.Changing.{shows_owner}
 use Rattle.cb_walk.specs.Marks.{AreMarked, arrival_told, is_met, kind_in}
 
@@ -37,7 +37,7 @@ lent_is : (l : Layout) (o : Option (List ℕ)) (s t : List ℕ) → IfSome o (Is
 lent_is l None s t used lent change zeros = absurd lent
 lent_is l (Some r) s t used lent change zeros = ap Some (given_again l r s t used lent change zeros)
 
-pub record_is : (q : RecordQueue) → IsSound q → (l : Layout) → l ≡ q.layout → (n : ℕ) (s t : List ℕ) → IsLent q.layout (record_at q n) (Some s) →
+pub record_is : (q : RecordQueue) → IsSoundQueue q → (l : Layout) → l ≡ q.layout → (n : ℕ) (s t : List ℕ) → IsLent q.layout (record_at q n) (Some s) →
     ChangesOnly l.link s t → part t l.link.at l.link.width ≡ replicate l.link.width 0 → Some t ≡ record_at q n
 record_is q sound l same n s t lent change zeros =
     let Lent : Layout → Type 0 = λ x. IsLent x (record_at q n) (Some s) in
@@ -61,7 +61,7 @@ kind_seen : (o : Option (List ℕ)) (b : Bool) → b ≡ is_none o → cond b 0 
 kind_seen None b e = ap (λ x. cond x 0 (byte_at (bytes_or_zeros None) 0)) e
 kind_seen (Some r) b e = ap (λ x. cond x 0 (byte_at r 0)) e
 
-shown_kind : (q : RecordQueue) → IsSound q → (n : ℕ) → 1 ≤ n → n ≤ q.layout.most_records → kind_of (shown q) n ≡ kind_in (record_at q n)
+shown_kind : (q : RecordQueue) → IsSoundQueue q → (n : ℕ) → 1 ≤ n → n ≤ q.layout.most_records → kind_of (shown q) n ≡ kind_in (record_at q n)
 shown_kind q sound n low high = kind_seen (record_at q n) (is_free (shown q) n) (sound.free n low high)
 
 abbrev told_with : ℕ → ℕ → Bool → ℕ → ℕ → Bool → Option ℕ
@@ -85,7 +85,7 @@ under job kind false k j o p m n h =
     ap (λ x. told_with job kind false x o m) alike.kinds ∙ ap (λ x. told_with job kind false j x m) alike.owners
     ∙ ap (λ x. told_with job kind false j p x) alike.met
 
-pub told_is : (q : RecordQueue) → IsSound q → (job kind n : ℕ) (seen : List ℕ) (met : Bool) → (n ≤ q.layout.most_records → met ≡ is_met seen n) →
+pub told_is : (q : RecordQueue) → IsSoundQueue q → (job kind n : ℕ) (seen : List ℕ) (met : Bool) → (n ≤ q.layout.most_records → met ≡ is_met seen n) →
     arrival_fault q.layout (shown q) job kind seen n ≡ arrival_told q.layout (record_at q n) job kind met n
 told_is q sound job kind n seen met same =
     under job kind (nat_lt n 1 || nat_lt q.layout.most_records n) (kind_of (shown q) n) (kind_in (record_at q n)) (owner_of (shown q) n)

@@ -2,8 +2,8 @@
 use Rattle.std.proofs.Common.{◌≡◌, ◌≢◌, Bool, true, false, List, [], ◌∷◌, ◌++◌, map, All}
 use Rattle.std.specs.List.{list_any}
 use Rattle.std.proofs.lemmas.List.Elements.{All-cons, All-head, All-nil, All-push, All-tail}
-use Rattle.world_meaning.specs.Starts.{Differ}
 use Rattle.config_core.proofs.Refused.{neither}
+use Rattle.plain.specs.Lists.{Differ}
 
 pub differ_push : {X : Type 0} (xs : List X) (x : X) → Differ xs → All (λ y. y ≢ x) xs → Differ (xs ++ x ∷ [])
 differ_push [] x d h = (All-nil (λ y. x ≢ y), tt)

@@ -15,7 +15,6 @@ use Rattle.vtoc_core.specs.declared.entry.SetEntry.{SetEntry}
 use Rattle.vtoc_core.specs.Entries.{key_cmp}
 use Rattle.machine_meaning.specs.declared.config.ConfiguredInitiator.{ConfiguredInitiator}
 use Rattle.mount_core.specs.Mounts.{MountedState}
-use Rattle.world_meaning.specs.Starts.{Differ}
 use Rattle.shared_core.specs.Shown.{mounted_in}
 use Rattle.config_core.specs.Configs.{Configuration, catalog_with, extents_on, group_fault, initiator_fault, is_full_for, new_volume, nothing_configured, set_fault, unit_fault, volume_fault, with_group_of, with_initiator, with_procedure, with_program, with_set, with_unit, with_volume}
 use Rattle.config_core.specs.Configured.{AreEntries, HasNamedSets, IsConfigured, IsInitiator, IsName, numbers_of, serials_of}
@@ -24,6 +23,7 @@ use Rattle.config_core.proofs.Differing.{differ_push, none_such}
 use Rattle.config_core.proofs.Entering.{entries_grouped, entries_named}
 use Rattle.config_core.proofs.Refused.{neither, no_fault, so}
 use Rattle.input_core.specs.declared.statement.SetStatement.{SetStatement}
+use Rattle.plain.specs.Lists.{Differ}
 
 abbrev KeepsNothing : MountedState → Type 0
 KeepsNothing m = m.kept ≡ finite.empty

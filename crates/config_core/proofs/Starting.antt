@@ -12,19 +12,20 @@ use Rattle.cb_meaning.specs.declared.layout.TheConstants.{LAYOUT_1}
 use Rattle.cb_meaning.specs.Walks.{is_free}
 use Rattle.cb_records.specs.Writes.{FitsRecord, HoldsNumber}
 use Rattle.cb_queue.specs.RecordQueues as queue
-use Rattle.cb_queue.specs.RecordQueues.{IsSound, bytes_or_zeros, empty_queue, no_records, record_at, shown}
+use Rattle.cb_queue.specs.RecordQueues.{IsSoundQueue, bytes_or_zeros, empty_queue, no_records, record_at, shown}
 use Rattle.cb_queue.proofs.Changing.{sound_empty}
 use Rattle.machine_meaning.specs.declared.config.ConfiguredInitiator.{ConfiguredInitiator}
 use Rattle.mount_core.specs.declared.place.KeptPlace.{KeptPlace}
 use Rattle.mount_core.specs.Kept.{place_cmp}
 use Rattle.mount_core.specs.Mounts.{MountedState}
-use Rattle.shared_core.specs.Shown.{data_of, kept_on, mounted_in, set_on}
-use Rattle.world_meaning.specs.Starts.{AreOfWaiting, Differ, IsWellFormed}
+use Rattle.shared_core.specs.Shown.{data_of, kept_extents, mounted_in, set_on}
+use Rattle.world_meaning.specs.Starts.{AreOfWaiting, IsWellFormed}
 use Rattle.world_meaning.specs.Worlds.{Config, Initiator}
 use Rattle.config_core.specs.Configs.{Configuration}
 use Rattle.config_core.specs.Configured.{HasNamedSets, IsConfigured, IsNamed, numbers_of}
 use Rattle.config_core.specs.Sets.{NothingKept}
 use Rattle.config_core.specs.Starts.{StartsOfConfigurations, idle, start_config, start_shared}
+use Rattle.plain.specs.Lists.{Differ}
 
 -- what holds of each volume holds of the one that is found
 found_by : (P : MountedState → Type 0) (b : Bool) (m : MountedState) (o : Option MountedState) → P m → IfSome o P → IfSome (cond b (Some m) o) P
@@ -37,11 +38,11 @@ of_found P (m ∷ ms) serial h =
     found_by P (bytes_eq m.serial serial) m (mounted_in ms serial) (All-head P m ms h) (of_found P ms serial (All-tail P m ms h))
 
 -- nothing is kept
-no_place_kept : (o : Option MountedState) (place : KeptPlace) → IfSome o (λ m. m.kept ≡ finite.empty) → kept_on o place ≡ None
+no_place_kept : (o : Option MountedState) (place : KeptPlace) → IfSome o (λ m. m.kept ≡ finite.empty) → kept_extents o place ≡ None
 no_place_kept None place h = refl
 no_place_kept (Some m) place h = ap (λ kept. finite.get kept place) h ∙ finite.get-empty place_cmp place
 
-pub nothing_on : (volumes : List MountedState) → NothingKept volumes → (serial : List ℕ) (place : KeptPlace) → kept_on (mounted_in volumes serial) place ≡ None
+pub nothing_on : (volumes : List MountedState) → NothingKept volumes → (serial : List ℕ) (place : KeptPlace) → kept_extents (mounted_in volumes serial) place ≡ None
 nothing_on volumes h serial place = no_place_kept (mounted_in volumes serial) place (of_found (λ m. m.kept ≡ finite.empty) volumes serial h)
 
 -- no job has a set of its own
@@ -84,7 +85,7 @@ fits_record l = record {
 own_link : (l : Layout) → queue.HasOwnLink (as_many l)
 own_link l = record { fits = fits_record l; kind = inr (omega arith); owner = inr (omega arith); status = inl (omega arith) }
 
-sound : (l : Layout) → IsSound (empty_queue (as_many l))
+sound : (l : Layout) → IsSoundQueue (empty_queue (as_many l))
 sound l = sound_empty (as_many l) (own_link l)
 
 none_at : (count i : ℕ) → slice_index_or (replicate {A = Option (List ℕ)} count None) i None ≡ None

@@ -30,6 +30,7 @@ use Rattle.input_core.specs.declared.statement.ConfigStatement.{ConfigStatement}
 use Rattle.input_core.specs.declared.statement.ConfigStatement.TheVariants as statement
 use Rattle.input_core.specs.declared.statement.SetStatement.{SetStatement}
 use Rattle.input_core.specs.declared.statement.TheConstants.{MOST_GENERATIONS, MOST_REQUESTS}
+use Rattle.plain.specs.Lists.{are_different}
 
 -- in the order of the statements; a volume with the sets that were made on it
 pub record Configuration : Type 0 where
@@ -161,10 +162,6 @@ with_program c name requests = record c { programs = c.programs ++ record { name
 -- INIT: one to eight different letters A to O
 abbrev pub has_class : List ℕ → ℕ → Bool
 has_class classes c = list_any (λ other. other == c) classes
-
-abbrev pub are_different : List ℕ → Bool
-are_different [] = true
-are_different (c ∷ classes) = not (has_class classes c) && are_different classes
 
 abbrev pub are_classes : List ℕ → Bool
 are_classes classes = not (length classes == 0) && nat_le (length classes) 8 && list_all is_job_class classes && are_different classes

@@ -10,9 +10,9 @@ use Rattle.vtoc_core.specs.declared.entry.SetKey.TheVariants.{Named, Temporary, 
 use Rattle.machine_meaning.specs.declared.config.TheConstants.{LAST_INITIATOR, MOST_UNITS, MOST_VOLUMES}
 use Rattle.machine_meaning.specs.declared.config.ConfiguredInitiator.{ConfiguredInitiator}
 use Rattle.mount_core.specs.Mounts.{MountedState}
-use Rattle.world_meaning.specs.Starts.{Differ}
 use Rattle.config_core.specs.Configs.{Configuration, are_classes}
 use Rattle.config_core.specs.Sets.{NothingKept}
+use Rattle.plain.specs.Lists.{Differ}
 
 -- a data set name, and the number of a generation
 abbrev pub IsName : List ℕ → Type 0

@@ -7,7 +7,7 @@ use Rattle.machine_meaning.specs.declared.config.ConfiguredInitiator.{Configured
 use Rattle.shared_core.specs.declared.store.SharedStore.{SharedStore}
 use Rattle.shared_core.specs.Shown.{mounted_in, set_on}
 use Rattle.shared_core.specs.Tracks.{free_on}
-use Rattle.world_meaning.specs.Records.{HasOwnLink}
+use Rattle.world_meaning.specs.Records.{IsQueueLayout}
 use Rattle.world_meaning.specs.Starts.{IsStart}
 use Rattle.world_meaning.specs.Worlds.{Config, Initiator, Shared, World}
 use Rattle.config_core.specs.Configs.{Configuration, unit_volumes}
@@ -65,5 +65,5 @@ start_of c refuses views l date = record {
 
 -- the start of a configuration is one of the machine's
 abbrev pub StartsOfConfigurations : Type 0
-StartsOfConfigurations = (c : Configuration) (refuses : Bool) (views date : ℕ) (l : Layout) → IsConfigured c → HasOwnLink l →
+StartsOfConfigurations = (c : Configuration) (refuses : Bool) (views date : ℕ) (l : Layout) → IsConfigured c → IsQueueLayout l →
     IsStart (start_of c refuses views l date)

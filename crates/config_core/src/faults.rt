@@ -2,7 +2,8 @@
 ghost use Rattle.std.specs.Prelude.{◌≡◌, ◌≤◌};
 ghost use Rattle.std.specs.List.{list_all};
 ghost use Rattle.jname_core.specs.Characters.{is_job_class};
-ghost use Rattle.config_core.specs.Configs.{are_classes, are_different, are_rising, has_class, has_initiator, has_program, has_volume, refused_by};
+ghost use Rattle.config_core.specs.Configs.{are_classes, are_rising, has_class, has_initiator, has_program, has_volume, refused_by};
+ghost use Rattle.plain.specs.Lists.{are_different};
 
 use extent_core::extent::Extent;
 use jcl_meaning::program::is_iefbr14;

@@ -7,7 +7,7 @@ use Rattle.std.proofs.lemmas.List.Elements.{All-head, All-tail}
 use Rattle.card_core.specs.declared.fault.CardFault.{CardFault}
 use Rattle.card_core.specs.declared.statement.Statement.{Statement}
 use Rattle.card_core.specs.Deck.{statements_of}
-use Rattle.card_core.specs.Numbers.{number_of}
+use Rattle.card_core.specs.RefusalNumbers.{number_of}
 use Rattle.jcl_plan.specs.declared.fault.Cause.{Cause}
 use Rattle.jcl_plan.specs.declared.fault.Cause.TheVariants.{C, P}
 use Rattle.jcl_plan.specs.declared.fault.StatementFault.TheVariants.{NoSuchProcedure}

@@ -7,7 +7,7 @@ ghost use Rattle.jname_core.specs.declared.key.Key.TheVariants as key;
 ghost use Rattle.jcl_meaning.specs.Dispositions.{catalogs, catalogs_by, catalogs_in_group, changed, disposed_by, is_entered_on};
 ghost use Rattle.jcl_meaning.specs.Lists.{member_copied};
 ghost use Rattle.jcl_meaning.specs.Stores.{after_rolling, catalogued, generation_entered, generation_entered_by, group_of, is_unexpired, member_of, name_entered, rolled_off, uncatalogued};
-ghost use Rattle.store_core.specs.Numbers.{TakesNumber};
+ghost use Rattle.store_core.specs.EnteredNumbers.{TakesNumber};
 
 use group_core::group::{Group, GroupFault, Rolled};
 use jcl_meaning::state::{Change, Disposed, TakenSet};

@@ -4,7 +4,7 @@ ghost use Rattle.std.specs.Prelude.{◌≡◌, ◌-◌, ◌<◌, ◌==◌, ◌&&
 ghost use Rattle.jcl_plan.specs.declared.entry.JobLine.TheVariants as line;
 ghost use Rattle.jcl_plan.specs.declared.words.DispWord.TheVariants as disp;
 ghost use Rattle.jcl_meaning.specs.Dispositions.{changed, disposed_by, left_word};
-ghost use Rattle.jcl_meaning.specs.EndActs.{after_abend, disposes, disposes_at, leaves, left_at, left_disposed, passed_by, passed_with, put_out, released, set_disposed, set_disposes, without_pass};
+ghost use Rattle.jcl_meaning.specs.EndActs.{after_abend, disposes, disposes_at, leaves, left_at, left_disposed, passed_by, passed_with, put_out, tracks_released, set_disposed, set_disposes, without_pass};
 ghost use Rattle.jcl_meaning.specs.Names.{is_temporary};
 ghost use Rattle.jcl_meaning.specs.Plans.{conditional_meaning, normal_meaning, word_done};
 ghost use Rattle.jcl_meaning.specs.States.{goes, if_runs, with_own};
@@ -61,7 +61,7 @@ fn say_and_change<S: JobStore>(
     key: &Key,
     serial: Serial,
 ) -> Result<(), AllocError>
-    ensures seen { OnOk result (S.seen job store.new ≡ released cuts key.now serial (changed what (S.seen job store.old) key.now serial date)) }
+    ensures seen { OnOk result (S.seen job store.new ≡ tracks_released cuts key.now serial (changed what (S.seen job store.old) key.now serial date)) }
     ensures said { OnOk result (course.new ≡ record course.old { lines = course.old.lines ++ line ∷ [] }) }
     ensures err { OnErr result ((S.seen job store.new ≡ S.seen job store.old) × (course.new ≡ course.old)) }
     ensures rest { S.rest job store.new ≡ S.rest job store.old }

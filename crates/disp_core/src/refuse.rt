@@ -2,7 +2,7 @@
 ghost use Rattle.std.specs.Prelude.{◌≡◌, ◌++◌, ◌∷◌, [], List, OnErr, OnOk, Some, take};
 ghost use Rattle.jcl_plan.specs.declared.entry.JobLine.{JobLine};
 ghost use Rattle.jcl_plan.specs.declared.entry.JobLine.TheVariants as line;
-ghost use Rattle.jcl_meaning.specs.TakeActs.{all_given_back, back_line, back_lines, given_back, refused};
+ghost use Rattle.jcl_meaning.specs.TakeActs.{all_given_back, back_line, back_lines, set_given_back, refused};
 ghost use Rattle.disp_core.specs.Courses.{Carried};
 
 use crate::course::Course;
@@ -75,7 +75,7 @@ fn say_refusal(
 
 /// Gives back what a DD had taken, if it took a set.
 fn give_back<S: JobStore>(store: &mut S, job: u16, taken: &Option<TakenSet>)
-    ensures seen { S.seen job store.new ≡ given_back taken.now (S.seen job store.old) }
+    ensures seen { S.seen job store.new ≡ set_given_back taken.now (S.seen job store.old) }
     ensures rest { S.rest job store.new ≡ S.rest job store.old }
 {
     match taken {

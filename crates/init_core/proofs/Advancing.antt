@@ -13,6 +13,7 @@ use Rattle.prog_core.specs.Operations.{IsRoomFor, OneEach, is_owner, without_own
 use Rattle.jcl_meaning.specs.NoSets.{HasNoSets}
 use Rattle.machine_meaning.specs.Spools.{sets_of, with_sets}
 use Rattle.world_meaning.specs.Admissions.{names_a_set}
+use Rattle.world_meaning.specs.Choices.{choice_of_advance}
 use Rattle.world_meaning.specs.Holdings.{cancels_without, released}
 use Rattle.world_meaning.specs.Lenses.{WorldStore, seen}
 use Rattle.world_meaning.specs.Records.{Reopened}
@@ -22,7 +23,7 @@ use Rattle.world_meaning.specs.Worlds.{Config, Shared}
 use Rattle.world_meaning.proofs.Conserved.{conserved_same}
 use Rattle.world_meaning.proofs.Following.{unopened}
 use Rattle.world_meaning.proofs.JobLens.{put_same}
-use Rattle.shared_core.specs.Shown.{world_of}
+use Rattle.shared_core.specs.Shown.{world_store_of}
 use Rattle.shared_core.specs.Tracks.{free_on}
 use Rattle.shared_core.specs.declared.store.SharedStore.{SharedStore}
 use Rattle.turn_core.specs.MachineTurns.{ActsAdvance, EndsAdvance, WaitsAdvance, shared_ended, shared_told}
@@ -41,6 +42,7 @@ use Rattle.init_core.specs.declared.running.Progress.{Progress}
 use Rattle.init_core.specs.declared.running.Progress.TheVariants.{GoesOn, Over}
 use Rattle.init_core.specs.declared.running.Running.{Running}
 use Rattle.init_core.specs.declared.running.Stage.TheVariants as stage
+use Rattle.init_core.specs.Choosing.{IsChosenByVolumes}
 use Rattle.init_core.specs.Going.{Went}
 use Rattle.init_core.specs.Running.{AreOn, IsAt, IsGood, config_of, shown_admission, shown_running}
 use Rattle.init_core.specs.Turning.{IsAsBefore, IsEnded, IsSameStore, IsWritten, answers_of, around_in, with_spool}
@@ -98,6 +100,10 @@ module _ {Q : Type 0} (queue_of : Q → RecordQueue) (profile : Profile) (p : Pa
   advances_to lines new runs =
       Advances c (shown queue_of p) (shown_running c its) plan (shown_admission c plan a) (count_at plan c.programs walk.todo) walk.course.own lines new runs
 
+  -- with what is open in it as the volumes decide it
+  abbrev pub chosen_to : List JobLine → Shared → Option world.Running → Type 0
+  chosen_to lines new runs = (g : advances_to lines new runs) × IsChosenByVolumes c p.store (choice_of_advance g)
+
   -- the store is as it was
   same_shown : (st : SharedStore) → IsSameStore p.store st → shown queue_of (record p { store = st }) ≡ shown queue_of p
   same_shown st is = λ i. record (shown queue_of p) { store = is.world i; free = λ serial. is.free serial i }
@@ -109,11 +115,11 @@ module _ {Q : Type 0} (queue_of : Q → RecordQueue) (profile : Profile) (p : Pa
   as_before st is = record { same = same_shown st is; queue = refl; good = good_there st is }
 
   pub told_as : (st : SharedStore) (after : Walk) (cancelled : Bool) (told same : Turned) → cancelled ≡ has_cancel p.cancels job → told ≡ same →
-      TellsJob (around_in profile p.units job plan a cancelled p.store) plan (seen job (world_of p.store)) walk (seen job (world_of st)) after told →
-      TellsJob its_around plan (seen job (world_of p.store)) walk (seen job (world_of st)) after same
+      TellsJob (around_in profile p.units job plan a cancelled p.store) plan (seen job (world_store_of p.store)) walk (seen job (world_store_of st)) after told →
+      TellsJob its_around plan (seen job (world_store_of p.store)) walk (seen job (world_store_of st)) after same
   told_as st after cancelled told same due is t =
-      subst (λ x. TellsJob its_around plan (seen job (world_of p.store)) walk (seen job (world_of st)) after x) is
-      (subst (λ b. TellsJob (around_in profile p.units job plan a b p.store) plan (seen job (world_of p.store)) walk (seen job (world_of st)) after told) due t)
+      subst (λ x. TellsJob its_around plan (seen job (world_store_of p.store)) walk (seen job (world_store_of st)) after x) is
+      (subst (λ b. TellsJob (around_in profile p.units job plan a b p.store) plan (seen job (world_store_of p.store)) walk (seen job (world_store_of st)) after told) due t)
 
   pub ended_err : (r : Result Progress Running) (st : SharedStore) (new : Parts Q) → IsSameStore p.store st → OnErr r (new ≡ record p { store = st }) →
       OnErr r (IsAsBefore queue_of c p new)
@@ -122,83 +128,86 @@ module _ {Q : Type 0} (queue_of : Q → RecordQueue) (profile : Profile) (p : Pa
 
   module _ (some : job ≢ 0) (at : IsAt c p.names job walk (stage.Admitted plan held a)) where
     -- where the job's sets are, and its operation starts
-    pub moved_on : (st : SharedStore) (after : Walk) (told : Acted) → JobActs its_around plan (seen job (world_of p.store)) (seen job (world_of st)) walk after told →
+    pub moved_on : (st : SharedStore) (after : Walk) (told : Acted) → JobActs its_around plan (seen job (world_store_of p.store)) (seen job (world_store_of st)) walk after told →
         AreOn c.volumes after.course.own.dds × IsOnOne c.volumes told.starts
-    moved_on st after told t = acted_on c.volumes its_around plan (seen job (world_of p.store)) (seen job (world_of st)) walk after told (known_on c.volumes) at.1.on
-        (subst (λ vs. StandOn vs (seen job (world_of p.store))) g.volumes (stand_on job p.store)) t
+    moved_on st after told t = acted_on c.volumes its_around plan (seen job (world_store_of p.store)) (seen job (world_store_of st)) walk after told (known_on c.volumes) at.1.on
+        (subst (λ vs. StandOn vs (seen job (world_store_of p.store))) g.volumes (stand_on job p.store)) t
 
-    pub room : (st : SharedStore) (after : Walk) (told : Acted) → JobActs its_around plan (seen job (world_of p.store)) (seen job (world_of st)) walk after told →
+    pub room : (st : SharedStore) (after : Walk) (told : Acted) → JobActs its_around plan (seen job (world_store_of p.store)) (seen job (world_store_of st)) walk after told →
         OneEach p.units → IfSome told.starts (IsRoomFor p.units)
     room st after told t each = room_if c.volumes p.units told.starts g.few each g.operations (moved_on st after told t).1
 
     pub waits : WaitsAdvance → (st : SharedStore) (after : Walk) → IsSameStore p.store st → after ≡ walk →
-        Waits its_around (undone plan c.programs walk.todo) (seen job (world_of p.store)) walk.course.own (count_at plan c.programs walk.todo) →
+        Waits its_around (undone plan c.programs walk.todo) (seen job (world_store_of p.store)) walk.course.own (count_at plan c.programs walk.todo) →
         Went queue_of c p its (record p { store = st }) (GoesOn (at_walk after) from)
-    waits law st after is same w = subst (λ x. Went queue_of c p its (record p { store = st }) (GoesOn (at_walk x) from)) (sym same) (record {
-      middle = shown queue_of p;
-      goes = subst (λ ls. advances_to ls (shown queue_of p) (Some (shown_running c its)))
-          (sym (lines_behind walk.course.lines walk.course.lines [] (sym (nothing_behind walk.course.lines))))
-          (law c (shown queue_of p) (shown_running c its) plan (shown_admission c plan a) (answers_of job p.store) walk w);
-      reopened = subst (λ s. Reopened c.layout (shown queue_of p) s) (sym (same_shown st is)) (unopened c.layout (shown queue_of p));
-      decides = λ told. absurd (told (lines_behind walk.course.lines walk.course.lines [] (sym (nothing_behind walk.course.lines))));
-      few = none_told (drop from walk.course.lines) (length walk.course.own.dds)
-          (lines_behind walk.course.lines walk.course.lines [] (sym (nothing_behind walk.course.lines)));
-      good = good_there st is;
-      left = record { same = refl; ready = record { some = some; at = at } };
-      rest = record { waiting = refl; others = λ other apart none. none };
-    })
+    waits law st after is same w =
+        let here = law c (shown queue_of p) (shown_running c its) plan (shown_admission c plan a) (answers_of job p.store) walk w in
+        let goes : chosen_to (drop from walk.course.lines) (shown queue_of p) (Some (shown_running c its)) =
+        subst (λ ls. chosen_to ls (shown queue_of p) (Some (shown_running c its)))
+        (sym (lines_behind walk.course.lines walk.course.lines [] (sym (nothing_behind walk.course.lines))))
+        (here.0, subst (IsChosenByVolumes c p.store) (sym here.1) tt) in
+        subst (λ x. Went queue_of c p its (record p { store = st }) (GoesOn (at_walk x) from)) (sym same) (record {
+          middle = shown queue_of p;
+          goes = goes.0;
+          reopened = subst (λ s. Reopened c.layout (shown queue_of p) s) (sym (same_shown st is)) (unopened c.layout (shown queue_of p));
+          chosen = goes.1;
+          few = none_told (drop from walk.course.lines) (length walk.course.own.dds)
+              (lines_behind walk.course.lines walk.course.lines [] (sym (nothing_behind walk.course.lines)));
+          good = good_there st is;
+          left = record { same = refl; ready = record { some = some; at = at } };
+          rest = record { waiting = refl; others = λ other apart none. none };
+        })
 
     module _ (st : SharedStore) (after : Walk) (told : Acted) (is : IsWritten job p.store st)
-        (t : JobActs its_around plan (seen job (world_of p.store)) (seen job (world_of st)) walk after told) where
+        (t : JobActs its_around plan (seen job (world_store_of p.store)) (seen job (world_store_of st)) walk after told) where
       abbrev pub told_free : List ℕ → ℕ
       told_free = λ serial. free_on st.volumes serial
 
       abbrev pub told_shared : Shared
-      told_shared = shared_told (shown queue_of p) job (seen job (world_of st)) told told_free
+      told_shared = shared_told (shown queue_of p) job (seen job (world_store_of st)) told told_free
 
       pub acted : ActsAdvance → FewLines → (a.assured ≡ true → t.acts.primary ≡ true) → IfSome told.starts (λ serial. Contains c.volumes serial) →
           IsAt c p.names job after (stage.Admitted plan held a) →
           (units : List Operation) (cancels : List ℕ) → units ≡ operations_by p.units job told.starts told.cancelled →
           cancels ≡ cond told.cancelled (cancels_without p.cancels job) p.cancels →
           Went queue_of c p its (record p { store = st; units = units; cancels = cancels }) (GoesOn (at_walk after) from)
-      acted law short granted on there units cancels us cs = record {
-        middle = told_shared;
-        goes = subst (λ ls. advances_to ls told_shared (Some (shown_running c (at_walk after))))
-            (sym (lines_behind walk.course.lines after.course.lines t.acts.its_turn.done.lines t.acts.lines))
-            (law c (shown queue_of p) (shown_running c its) plan (shown_admission c plan a) (answers_of job p.store) walk after (seen job (world_of st)) told told_free refl t granted
-            (is.conserves (shown queue_of p) told_shared (record { store = refl; free = λ v. refl; kept = refl })
-            (record { store = sym is.world; free = λ v. refl; kept = refl })));
-        reopened = subst (λ s. Reopened c.layout told_shared s)
-            (λ i. record (shown queue_of p) {
-              store = sym is.world i;
-              free = told_free;
-              operations = sym us i;
-              cancels = sym cs i;
-            })
-            (unopened c.layout told_shared);
-        decides = λ told. record {
-          its_turn = t.acts.its_turn;
-          growth = t.acts.growth;
-          primary = t.acts.primary;
-          advances = t.acts.advances;
-          growth_answered = t.acts.growth_answered;
-          primary_answered = t.acts.primary_answered;
-          told = lines_behind walk.course.lines after.course.lines t.acts.its_turn.done.lines t.acts.lines;
-        };
-        few = subst (λ (ls : List JobLine). length ls ≤ suc (length walk.course.own.dds))
-            (sym (lines_behind walk.course.lines after.course.lines t.acts.its_turn.done.lines t.acts.lines))
-            (short its_around plan (seen job (world_of p.store)) (seen job (world_of st)) walk after told t);
-        good = record {
-          kept = is.kept;
-          volumes = is.volumes ∙ g.volumes;
-          layout = g.layout;
-          fields = g.fields;
-          operations = subst (λ os. All (λ o. Contains c.volumes o.serial) os) (sym us) (operations_on c.volumes job p.units told.starts told.cancelled on g.operations);
-          few = g.few;
-        };
-        left = record { same = refl; ready = record { some = some; at = there } };
-        rest = record { waiting = refl; others = λ other apart none. none };
-      }
+      acted law short granted on there units cancels us cs =
+          let here = law c (shown queue_of p) (shown_running c its) plan (shown_admission c plan a) (answers_of job p.store) walk after (seen job (world_store_of st)) told told_free refl t granted
+          (is.conserves (shown queue_of p) told_shared (record { store = refl; free = λ v. refl; kept = refl })
+          (record { store = sym is.world; free = λ v. refl; kept = refl })) in
+          let goes : chosen_to (drop from after.course.lines) told_shared (Some (shown_running c (at_walk after))) =
+          subst (λ ls. chosen_to ls told_shared (Some (shown_running c (at_walk after))))
+          (sym (lines_behind walk.course.lines after.course.lines t.acts.its_turn.done.lines t.acts.lines)) (
+            here.0,
+            subst (IsChosenByVolumes c p.store) (sym here.1)
+                (record { growth_answered = t.acts.growth_answered; primary_answered = t.acts.primary_answered }),
+          ) in
+          record {
+            middle = told_shared;
+            goes = goes.0;
+            reopened = subst (λ s. Reopened c.layout told_shared s)
+                (λ i. record (shown queue_of p) {
+                  store = sym is.world i;
+                  free = told_free;
+                  operations = sym us i;
+                  cancels = sym cs i;
+                })
+                (unopened c.layout told_shared);
+            chosen = goes.1;
+            few = subst (λ (ls : List JobLine). length ls ≤ suc (length walk.course.own.dds))
+                (sym (lines_behind walk.course.lines after.course.lines t.acts.its_turn.done.lines t.acts.lines))
+                (short its_around plan (seen job (world_store_of p.store)) (seen job (world_store_of st)) walk after told t);
+            good = record {
+              kept = is.kept;
+              volumes = is.volumes ∙ g.volumes;
+              layout = g.layout;
+              fields = g.fields;
+              operations = subst (λ os. All (λ o. Contains c.volumes o.serial) os) (sym us) (operations_on c.volumes job p.units told.starts told.cancelled on g.operations);
+              few = g.few;
+            };
+            left = record { same = refl; ready = record { some = some; at = there } };
+            rest = record { waiting = refl; others = λ other apart none. none };
+          }
 
     -- its last line: what it held is given back
     module _ (st : SharedStore) (is : IsSameStore p.store st) (new : Parts Q) (e : IsEnded queue_of job walk plan (record p { store = st }) new) where
@@ -210,7 +219,7 @@ module _ {Q : Type 0} (queue_of : Q → RecordQueue) (profile : Profile) (p : Pa
 
       released_there : released c (shown queue_of mid) job (shown queue_of mid).free ≡ ended_shared
       released_there = λ i. released c (record (shown queue_of p) {
-        store = (is.world ∙ sym (put_same job (world_of p.store))) i;
+        store = (is.world ∙ sym (put_same job (world_store_of p.store))) i;
         free = λ serial. is.free serial i;
         spool = with_sets p.spool (sets_of job plan.message_class (walk.course.lines ++ line.End ∷ []) walk.course.own.outputs);
       }) job (λ serial. is.free serial i)
@@ -219,38 +228,40 @@ module _ {Q : Type 0} (queue_of : Q → RecordQueue) (profile : Profile) (p : Pa
       back_good = let h : IsGood queue_of c (record p { store = st }) = good_there st is in
           record { kept = h.kept; volumes = h.volumes; layout = h.layout; fields = h.fields; operations = h.operations; few = h.few }
 
-      pub ended : EndsAdvance → JobEnds its_around plan (seen job (world_of p.store)) walk → Went queue_of c p its new (Over line.End)
-      ended law h = record {
-        middle = ended_shared;
-        goes = law c (shown queue_of p) (shown_running c its) plan (shown_admission c plan a) (answers_of job p.store) walk (shown queue_of p).free refl h
-            (conserved_same (shown queue_of p) ended_shared (ap (λ (w : WorldStore). w.set) (put_same job (world_of p.store))) refl refl);
-        reopened = subst (λ s. Reopened c.layout s (shown queue_of new)) released_there (e.released c refl).reopened;
-        decides = tt;
-        few = one_told (line.End ∷ []) line.End (length walk.course.own.dds) refl;
-        good = good_again queue_of c job mid new e.back back_good;
-        left = subst (λ hs. HoldsNone hs job) (sym e.back.names) (releasing_leaves_none p.names job);
-        rest = record {
-          waiting = e.back.records.waiting;
-          others = λ other apart none. subst (λ hs. HoldsNone hs other) (sym e.back.names) (releasing_leaves p.names job other none);
-        };
-      }
+      pub ended : EndsAdvance → JobEnds its_around plan (seen job (world_store_of p.store)) walk → Went queue_of c p its new (Over line.End)
+      ended law h =
+          let here = law c (shown queue_of p) (shown_running c its) plan (shown_admission c plan a) (answers_of job p.store) walk (shown queue_of p).free refl h
+          (conserved_same (shown queue_of p) ended_shared (ap (λ (w : WorldStore). w.set) (put_same job (world_store_of p.store))) refl refl) in
+          record {
+            middle = ended_shared;
+            goes = here.0;
+            reopened = subst (λ s. Reopened c.layout s (shown queue_of new)) released_there (e.released c refl).reopened;
+            chosen = subst (IsChosenByVolumes c p.store) (sym here.1) tt;
+            few = one_told (line.End ∷ []) line.End (length walk.course.own.dds) refl;
+            good = good_again queue_of c job mid new e.back back_good;
+            left = subst (λ hs. HoldsNone hs job) (sym e.back.names) (releasing_leaves_none p.names job);
+            rest = record {
+              waiting = e.back.records.waiting;
+              others = λ other apart none. subst (λ hs. HoldsNone hs other) (sym e.back.names) (releasing_leaves p.names job other none);
+            };
+          }
 
     pub ended_by : (r : Result Progress Running) (st : SharedStore) (after : Walk) (is : IsSameStore p.store st) (new : Parts Q) → after ≡ walk →
         IfOk r (λ came. came ≡ Over line.End) → OnOk r (IsEnded queue_of job after plan (record p { store = st }) new) → EndsAdvance →
-        JobEnds its_around plan (seen job (world_of p.store)) walk → IfOk r (Went queue_of c p its new)
+        JobEnds its_around plan (seen job (world_store_of p.store)) walk → IfOk r (Went queue_of c p its new)
     ended_by (Ok came) st after is new same over e law h =
         subst (Went queue_of c p its new) (sym over) (ended st is new (subst (λ w. IsEnded queue_of job w plan (record p { store = st }) new) same e) law h)
     ended_by (Err back) st after is new same over e law h = tt
 
     pub acted_so : (st : SharedStore) (after : Walk) (told : Acted) (is : IsWritten job p.store st)
-        (t : JobActs its_around plan (seen job (world_of p.store)) (seen job (world_of st)) walk after told) → ActsAdvance → FewLines → NoneRefused →
+        (t : JobActs its_around plan (seen job (world_store_of p.store)) (seen job (world_store_of st)) walk after told) → ActsAdvance → FewLines → NoneRefused →
         ((plan : JobPlan) → names_a_set plan ≡ false → HasNoSets plan) →
         (units : List Operation) (cancels : List ℕ) → units ≡ operations_by p.units job told.starts told.cancelled →
         cancels ≡ cond told.cancelled (cancels_without p.cancels job) p.cancels →
         Went queue_of c p its (record p { store = st; units = units; cancels = cancels }) (GoesOn (at_walk after) from)
     acted_so st after told is t law short refused setless units cancels us cs =
         acted st after told is t law short
-        (λ e. refused its_around plan (seen job (world_of p.store)) (seen job (world_of st)) walk after told
+        (λ e. refused its_around plan (seen job (world_store_of p.store)) (seen job (world_store_of st)) walk after told
         (setless plan (not_so (names_a_set plan) (sym at.1.unless_set ∙ e))) t)
         (moved_on st after told t).1
         (at.0, record { stands = t.stands; unless_set = at.1.unless_set; on = (moved_on st after told t).0 })

@@ -56,7 +56,7 @@ module _ {Q : Type 0} (queue_of : Q → RecordQueue) (profile : Profile) (old ne
     middle = released c (shown queue_of old) job (shown queue_of old).free;
     goes = broken n (shown queue_of old).free fault refl refl r.conserves refl;
     reopened = r.reopened;
-    decides = tt;
+    chosen = tt;
     few = one_told (line.Broken n ∷ []) (line.Broken n) (length walk.course.own.dds) refl;
     good = good_again queue_of c job old new b g;
     left = subst (λ hs. HoldsNone hs job) (sym b.names) (releasing_leaves_none old.names job);
@@ -74,7 +74,7 @@ module _ {Q : Type 0} (queue_of : Q → RecordQueue) (profile : Profile) (old ne
     goes = reading plan d.behind d.denotes
         (holds_for (shown queue_of old) w.middle job walk.course.lines (world.Wanting plan) (world.Selected first) plan _ _ w.goes);
     reopened = w.reopened;
-    decides = tt;
+    chosen = tt;
     few = w.few;
     good = w.good;
     left = w.left;

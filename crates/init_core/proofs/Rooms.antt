@@ -13,7 +13,7 @@ use Rattle.prog_core.specs.declared.units.Operation.{Operation}
 use Rattle.prog_core.specs.Operations.{IsRoomFor, OneEach, is_busy}
 use Rattle.world_meaning.specs.Lenses.{seen}
 use Rattle.mount_core.specs.Mounts.{MountedState}
-use Rattle.shared_core.specs.Shown.{mounted_in, set_on, world_of}
+use Rattle.shared_core.specs.Shown.{mounted_in, set_on, world_store_of}
 use Rattle.shared_core.specs.declared.store.SharedStore.{SharedStore}
 use Rattle.place_core.specs.Placings.{serials_of}
 use Rattle.init_core.proofs.Volumes.{StandOn}
@@ -118,7 +118,7 @@ mounted_on (m ∷ ms) serial k h = by (bytes_eq m.serial serial) refl h (mounted
     by true e h more = first m.serial (serials_of ms) serial ((bytes_eq-Decides m.serial serial).0 e)
     by false e h more = further m.serial (serials_of ms) serial (more h)
 
-pub stand_on : (job : ℕ) (s : SharedStore) → StandOn (serials_of s.volumes) (seen job (world_of s))
+pub stand_on : (job : ℕ) (s : SharedStore) → StandOn (serials_of s.volumes) (seen job (world_store_of s))
 stand_on job s (key.Named name) serial h = mounted_on s.volumes serial (world.Named name) h
 stand_on job s (key.Relative base sign amount) serial h = absurd cc
 stand_on job s (key.Temporary name) serial h = mounted_on s.volumes serial (world.Temporary job name) h

@@ -10,7 +10,7 @@ use Rattle.world_meaning.proofs.JobLens.{put_same}
 use Rattle.mount_core.specs.Mounts.{MountedState}
 use Rattle.shared_core.specs.Laws.{NothingKeptStays, SetsOfOthersStay, TracksAreConserved}
 use Rattle.shared_core.specs.Rooms.{Others, Room, others_of, room_of, spent}
-use Rattle.shared_core.specs.Shown.{world_of}
+use Rattle.shared_core.specs.Shown.{world_store_of}
 use Rattle.shared_core.specs.Tracks.{NothingKept, VolumesAddUp, free_on}
 use Rattle.shared_core.specs.declared.store.SharedStore.{SharedStore}
 use Rattle.place_core.specs.Placings.{serials_of}
@@ -29,7 +29,7 @@ same_sum a b u e = omega (arith, e)
 -- a store as the machine has it, with nothing else
 abbrev shown_as : SharedStore → Shared
 shown_as s = record {
-  store = world_of s;
+  store = world_store_of s;
   free = λ serial. free_on s.volumes serial;
   kept = [];
   records = record { at = λ n. []; free = [] };
@@ -52,15 +52,15 @@ written job places old new sets stays conserved before after none rest =
       conserves = λ b a shows shows_now. conserved old new b a before after none kept rooms shows shows_now;
     }
 
-pub same_store : (job : ℕ) (old new : SharedStore) → IsWritten job old new → seen job (world_of new) ≡ seen job (world_of old) → IsSameStore old new
+pub same_store : (job : ℕ) (old new : SharedStore) → IsWritten job old new → seen job (world_store_of new) ≡ seen job (world_store_of old) → IsSameStore old new
 same_store job old new is sees =
-    let world : world_of new ≡ world_of old = is.world ∙ ap (put_back job (world_of old)) sees ∙ put_same job (world_of old) in
+    let world : world_store_of new ≡ world_store_of old = is.world ∙ ap (put_back job (world_store_of old)) sees ∙ put_same job (world_store_of old) in
     record {
       world = world;
       free = λ serial.
           let k : IsConserved (shown_as old) (shown_as new) serial = is.conserves (shown_as old) (shown_as new)
           (record { store = refl; free = λ v. refl; kept = refl }) (record { store = refl; free = λ v. refl; kept = refl }) serial in
-          same_sum (free_on new.volumes serial) (free_on old.volumes serial) (used_by (world_of old) serial k.touched)
+          same_sum (free_on new.volumes serial) (free_on old.volumes serial) (used_by (world_store_of old) serial k.touched)
           (ap (λ x. free_on new.volumes serial + (0 + used_by x serial k.touched)) (sym world) ∙ k.sum);
       kept = is.kept;
       volumes = is.volumes;
@@ -70,18 +70,18 @@ same_store job old new is sees =
 module _ {E : Type 0} (job : ℕ) (old new : SharedStore) (walk after : Walk) (sets : SetsOfOthersStay) (stays : NothingKeptStays) (conserved : TracksAreConserved)
     (before : VolumesAddUp old) (behind : VolumesAddUp new) (none : NothingKept old) where
   pub written_by : (r : Result Turned E) → IfOk r (λ told. others_of job new ≡ spent job (made_of (made_in told)) (others_of job old)) →
-      OnErr r ((seen job (world_of new) ≡ seen job (world_of old)) × (others_of job new ≡ others_of job old) × (after ≡ walk)) → IsWritten job old new
+      OnErr r ((seen job (world_store_of new) ≡ seen job (world_store_of old)) × (others_of job new ≡ others_of job old) × (after ≡ walk)) → IsWritten job old new
   written_by (Ok told) ok err = written job (made_of (made_in told)) old new sets stays conserved before behind none ok
   written_by (Err e) ok err = written job [] old new sets stays conserved before behind none err.1
 
   pub same_where : (r : Result Turned E) → IsWritten job old new →
-      IfOk r (λ told. acts told ≡ false → (seen job (world_of new) ≡ seen job (world_of old)) × (others_of job new ≡ others_of job old) × (after ≡ walk)) →
+      IfOk r (λ told. acts told ≡ false → (seen job (world_store_of new) ≡ seen job (world_store_of old)) × (others_of job new ≡ others_of job old) × (after ≡ walk)) →
       IfOk r (λ told. acts told ≡ false → IsSameStore old new × (after ≡ walk))
   same_where (Ok told) is kept = λ silent. (same_store job old new is (kept silent).0, (kept silent).2)
   same_where (Err e) is kept = tt
 
   pub same_on_err : (r : Result Turned E) → IsWritten job old new →
-      OnErr r ((seen job (world_of new) ≡ seen job (world_of old)) × (others_of job new ≡ others_of job old) × (after ≡ walk)) →
+      OnErr r ((seen job (world_store_of new) ≡ seen job (world_store_of old)) × (others_of job new ≡ others_of job old) × (after ≡ walk)) →
       OnErr r (IsSameStore old new × (after ≡ walk))
   same_on_err (Ok told) is err = tt
   same_on_err (Err e) is err = (same_store job old new is err.0, err.2)

@@ -103,7 +103,7 @@ module _ {Q : Type 0} (queue_of : Q → RecordQueue) (c : Config) (p : Parts Q) 
         (ap (λ (hs : List Hold). record (shown queue_of p) { holds = hs }) (w.holds ∙ ap (λ ws. p.names ++ holds_of job ws) are))
         (same_listing _ w.told (world.Named plan));
     reopened = unopened c.layout (shown queue_of new);
-    decides = tt;
+    chosen = tt;
     few = one_told told _ (length walk.course.own.dds) (lines_behind walk.course.lines lines _ w.told);
     good = still_good queue_of c p names g;
     left = record { same = refl; ready = record { some = some; at = w.for_job } };
@@ -120,7 +120,7 @@ module _ {Q : Type 0} (queue_of : Q → RecordQueue) (c : Config) (p : Parts Q) 
         (ap (λ (hs : List Hold). record (shown queue_of p) { holds = hs }) w.same)
         (same_listing _ w.told (world.Wanting plan));
     reopened = unopened c.layout (shown queue_of new);
-    decides = tt;
+    chosen = tt;
     few = one_told told _ (length walk.course.own.dds) (lines_behind walk.course.lines lines _ w.told);
     good = still_good queue_of c p names g;
     left = record { same = refl; ready = record { some = some; at = (subst (λ hs. HoldsNone hs job) (sym w.same) none, are) } };

@@ -4,6 +4,7 @@ use Rattle.std.specs.Option.{option_map}
 use Rattle.enq_core.specs.declared.table.Hold.{Hold}
 use Rattle.enq_core.specs.Holds.{HoldsNone}
 use Rattle.cb_queue.specs.RecordQueues.{RecordQueue}
+use Rattle.world_meaning.specs.Choices.{choice_of_going}
 use Rattle.world_meaning.specs.Records.{Reopened}
 use Rattle.world_meaning.specs.Transitions as world
 use Rattle.world_meaning.specs.Worlds.{Config, Shared}
@@ -11,7 +12,7 @@ use Rattle.machine_core.specs.declared.parts.Parts.{Parts}
 use Rattle.machine_core.specs.Shown.{shown}
 use Rattle.init_core.specs.declared.running.Progress.{Progress}
 use Rattle.init_core.specs.declared.running.Running.{Running}
-use Rattle.init_core.specs.Deciding.{Decides}
+use Rattle.init_core.specs.Choosing.{IsChosenByVolumes}
 use Rattle.init_core.specs.Running.{IsGood, IsReady, lines_told, runs_after, shown_running}
 
 -- the job that goes on is at its place, and one that is over holds no name
@@ -28,14 +29,15 @@ pub record LeavesRest {Q : Type 0} (queue_of : Q → RecordQueue) (job : ℕ) (o
   pub waiting : (queue_of new.queue).waiting ≡ (queue_of old.queue).waiting
   pub others : (other : ℕ) → other ≢ job → HoldsNone old.names other → HoldsNone new.names other
 
--- A case of the table, but for what is open in records; what the table leaves to the volumes is as they decide it; the lines are few; and what the
--- next event goes by holds again.
+-- A case of the table, but for what is open in records; what the case leaves open is as the volumes decide it; the lines are few; and what the next
+-- event goes by holds again.
 pub record Went {Q : Type 0} (queue_of : Q → RecordQueue) (c : Config) (old : Parts Q) (r : Running) (new : Parts Q) (came : Progress) : Type 0 where
   pub middle : Shared
   pub goes : world.GoesOn c (shown queue_of old) (shown_running c r) (shown_running c r).stage (lines_told came) middle
       (option_map (shown_running c) (runs_after came))
   pub reopened : Reopened c.layout middle (shown queue_of new)
-  pub decides : Decides c old.store (shown queue_of old) r came
+  pub chosen : IsChosenByVolumes c old.store (choice_of_going c (shown queue_of old) (shown_running c r) (shown_running c r).stage (lines_told came) middle
+      (option_map (shown_running c) (runs_after came)) goes)
   pub few : length (lines_told came) ≤ suc (length r.walk.course.own.dds)
   pub good : IsGood queue_of c new
   pub left : IsLeft c new.names r.job (runs_after came)

@@ -3,4 +3,4 @@ pub mod Finding
 pub mod Naming
 pub mod Going
 pub mod Turning
-pub mod Deciding
+pub mod Choosing

@@ -8,7 +8,7 @@ use Rattle.world_meaning.specs.Lenses.{put_back, seen}
 use Rattle.world_meaning.specs.Tracks.{Conserves}
 use Rattle.world_meaning.specs.Worlds.{Config, Shared}
 use Rattle.shared_core.specs.Rooms.{grants_growth, grants_new}
-use Rattle.shared_core.specs.Shown.{world_of}
+use Rattle.shared_core.specs.Shown.{world_store_of}
 use Rattle.shared_core.specs.Tracks.{IsShown, NothingKept, free_on}
 use Rattle.shared_core.specs.declared.store.SharedStore.{SharedStore}
 use Rattle.place_core.specs.Placings.{serials_of}
@@ -45,14 +45,14 @@ around_in p operations job plan a cancelled store = record {
 
 -- A job wrote what it sees: nothing is kept, the volumes are the same, and their tracks are conserved.
 pub record IsWritten (job : ℕ) (old new : SharedStore) : Type 0 where
-  pub world : world_of new ≡ put_back job (world_of old) (seen job (world_of new))
+  pub world : world_store_of new ≡ put_back job (world_store_of old) (seen job (world_store_of new))
   pub kept : NothingKept new
   pub volumes : serials_of new.volumes ≡ serials_of old.volumes
   pub conserves : (before after : Shared) → IsShown old before → IsShown new after → Conserves before after
 
 -- The store is as it was: its sets and its catalog, and its free tracks; nothing is kept, and the volumes are the same.
 pub record IsSameStore (old new : SharedStore) : Type 0 where
-  pub world : world_of new ≡ world_of old
+  pub world : world_store_of new ≡ world_store_of old
   pub free : (serial : List ℕ) → free_on new.volumes serial ≡ free_on old.volumes serial
   pub kept : NothingKept new
   pub volumes : serials_of new.volumes ≡ serials_of old.volumes

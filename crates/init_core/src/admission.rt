@@ -4,7 +4,7 @@ ghost use Rattle.jcl_plan.specs.declared.plan.JobPlan.{JobPlan};
 ghost use Rattle.jcl_meaning.specs.declared.program.SoloProgram.{SoloProgram};
 ghost use Rattle.turn_core.specs.Standing.{Stands, count_at};
 ghost use Rattle.world_meaning.specs.Lenses.{seen};
-ghost use Rattle.shared_core.specs.Shown.{world_of};
+ghost use Rattle.shared_core.specs.Shown.{world_store_of};
 ghost use Rattle.shared_core.specs.Tracks.{NothingKept};
 ghost use Rattle.place_core.specs.Placings.{placed};
 ghost use Rattle.admission_core.specs.Admitted.{IsAdmitted};
@@ -38,7 +38,7 @@ fn admit_placed(
     date: Day,
 ) -> Result<(Admission, JobLine), AllocError>
     requires { NothingKept store.old }
-    ensures ok { IfOk result (λ r. IsAdmitted (seen job (world_of store.old)) job plan.now profile.now.programs.now
+    ensures ok { IfOk result (λ r. IsAdmitted (seen job (world_store_of store.old)) job plan.now profile.now.programs.now
         (placed store.old.volumes profile.now.units.now job plan.now) date r.0 r.1) }
     ensures store { store.new ≡ store.old }
 {

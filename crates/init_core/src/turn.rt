@@ -4,7 +4,7 @@ ghost use Rattle.jcl_plan.specs.declared.entry.JobLine.TheVariants as line;
 ghost use Rattle.prog_core.specs.Operations.{IsRoomFor, is_busy};
 ghost use Rattle.world_meaning.specs.Holdings.{cancels_without};
 ghost use Rattle.world_meaning.specs.Lenses.{seen};
-ghost use Rattle.shared_core.specs.Shown.{world_of};
+ghost use Rattle.shared_core.specs.Shown.{world_store_of};
 ghost use Rattle.shared_core.specs.Tracks.{NothingKept};
 ghost use Rattle.disp_core.specs.Courses.{fixed_by};
 ghost use Rattle.admission_core.specs.Admitted.{fixed_for};
@@ -64,7 +64,7 @@ fn take_turn(
     requires stands { Stands plan.now profile.now.programs.now walk.old.todo }
     requires kept { NothingKept store.old }
     ensures ok { IfOk result (TellsJob (around_in profile.now units.now job plan.now admission.now cancelled store.old) plan.now
-        (seen job (world_of store.old)) walk.old (seen job (world_of store.new)) walk.new) }
+        (seen job (world_store_of store.old)) walk.old (seen job (world_store_of store.new)) walk.new) }
     ensures written { IsWritten job store.old store.new }
     ensures same { IfOk result (λ told. acts told ≡ false → IsSameStore store.old store.new × (walk.new ≡ walk.old)) }
     ensures err { OnErr result (IsSameStore store.old store.new × (walk.new ≡ walk.old)) }

@@ -74,15 +74,15 @@ abbrev pub passed_with : Bool → ℕ → ℕ → TakenSet → List Passed → L
 passed_with false n dd t passed = passed
 passed_with true n dd t passed = passed ++ record { key = t.key; serial = t.serial; made = t.made; by_catalog = t.by_catalog; step = n; dd = dd; abend_later = false } ∷ []
 
-abbrev pub released : Bool → Key → List ℕ → Store → Store
-released false key serial s = s
-released true key serial s = cut_at (s.set key serial) s key serial
+abbrev pub tracks_released : Bool → Key → List ℕ → Store → Store
+tracks_released false key serial s = s
+tracks_released true key serial s = cut_at (s.set key serial) s key serial
 
 abbrev pub set_disposed : Fixed → ℕ → ℕ → Option (List ℕ) → SetPlan → TakenSet → State → Disposed → Done
 set_disposed fixed n dd name p t s disposed = record {
   lines = line.Disp dd name disposed.word ∷ [];
   state = record {
-    store = released (releases p.space) t.key t.serial (changed disposed.change s.store t.key t.serial fixed.date);
+    store = tracks_released (releases p.space) t.key t.serial (changed disposed.change s.store t.key t.serial fixed.date);
     own = record s.own { passed = passed_with disposed.passes n dd t s.own.passed };
     answers = s.answers;
   };

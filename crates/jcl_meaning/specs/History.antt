@@ -11,10 +11,11 @@ use Rattle.jcl_plan.specs.declared.plan.Operator.{Operator}
 use Rattle.jcl_plan.specs.declared.plan.Operator.TheVariants.{Gt, Ge, Eq, Lt, Le, Ne}
 use Rattle.jcl_plan.specs.declared.plan.Test.{Test}
 use Rattle.jcl_meaning.specs.declared.state.Ended.{Ended}
+use Rattle.jcl_plan.specs.declared.outcome.TheConstants.{GREATEST_CODE}
 
 -- what a step may come to: a completion code is 0 to 4095
 abbrev pub IsStepOutcome : Outcome → Type 0
-IsStepOutcome (Code completion) = completion ≤ 4095
+IsStepOutcome (Code completion) = completion ≤ GREATEST_CODE
 IsStepOutcome (Abend a) = Unit {0}
 IsStepOutcome Bypassed = Unit {0}
 IsStepOutcome Flushed = Unit {0}

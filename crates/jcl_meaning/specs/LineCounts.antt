@@ -5,11 +5,10 @@ use Rattle.jcl_plan.specs.declared.entry.JobLine.TheVariants as line
 use Rattle.jcl_plan.specs.declared.plan.JobPlan.{JobPlan}
 use Rattle.jcl_meaning.specs.declared.program.SoloProgram.{SoloProgram}
 use Rattle.jcl_meaning.specs.declared.solo.SoloAnswers.{SoloAnswers}
-use Rattle.jcl_meaning.specs.declared.state.Place.{Place}
-use Rattle.jcl_meaning.specs.declared.store.SoloStore.{SoloStore}
 use Rattle.jcl_meaning.specs.Agendas.{Action, budget_of}
 use Rattle.jcl_meaning.specs.Solo.{is_clean, run, solo_of}
 use Rattle.jcl_meaning.specs.States.{Fixed, State}
+use Rattle.jcl_meaning.specs.Stores.{Store}
 
 -- a fault's own line, and one for each set that is given back
 abbrev pub is_of_fault : JobLine → Bool
@@ -31,7 +30,5 @@ CleanRunsKeepToTheirActions = (fixed : Fixed) (actions : List Action) (s : State
 
 -- a job that meets no fault keeps to its budget
 abbrev pub CleanJobsKeepToTheirBudgets : Type 0
-CleanJobsKeepToTheirBudgets =
-    (plan : JobPlan) (store : SoloStore) (places : List Place) (programs : List SoloProgram) (answers : SoloAnswers) (date : ℕ) →
-    is_clean (solo_of plan store places programs answers date) ≡ true →
-    length (solo_of plan store places programs answers date).lines ≤ budget_of plan programs
+CleanJobsKeepToTheirBudgets = (fixed : Fixed) (plan : JobPlan) (store : Store) (programs : List SoloProgram) (answers : SoloAnswers) →
+    is_clean (solo_of fixed plan store programs answers) ≡ true → length (solo_of fixed plan store programs answers).lines ≤ budget_of plan programs

@@ -22,6 +22,7 @@ use Rattle.jcl_meaning.specs.declared.state.TakenSet.{TakenSet}
 use Rattle.jcl_meaning.specs.declared.store.DataSet.{DataSet}
 use Rattle.jcl_meaning.specs.Names.{is_shr}
 use Rattle.jcl_meaning.specs.Stores.{Store}
+use Rattle.jcl_plan.specs.declared.plan.TheConstants.{RECORDS_A_TRACK}
 
 -- the Gets and Puts before a program's end
 abbrev pub moves_in : List Request → List Move
@@ -157,7 +158,7 @@ emptied true set = record { tracks = set.tracks; expires = set.expires; records 
 emptied false set = set
 
 abbrev pub is_full : DataSet → Bool
-is_full set = nat_le (32 * set.tracks) (length set.records)
+is_full set = nat_le (RECORDS_A_TRACK * set.tracks) (length set.records)
 
 abbrev pub grown_by : ℕ → DataSet → DataSet
 grown_by tracks set = record { tracks = set.tracks + tracks; expires = set.expires; records = set.records }

@@ -8,6 +8,7 @@ use Rattle.jcl_meaning.specs.declared.program.SoloProgram.{SoloProgram}
 use Rattle.jcl_meaning.specs.declared.solo.SoloAnswers.{SoloAnswers}
 use Rattle.jcl_meaning.specs.declared.solo.SoloRun.{SoloRun}
 use Rattle.jcl_meaning.specs.declared.state.Own.{Own}
+use Rattle.jcl_meaning.specs.declared.state.KeyMeaning.{KeyMeaning}
 use Rattle.jcl_meaning.specs.declared.state.Place.{Place}
 use Rattle.jcl_meaning.specs.declared.store.SoloStore.{SoloStore}
 use Rattle.jcl_meaning.specs.Acts.{act}
@@ -15,7 +16,7 @@ use Rattle.jcl_meaning.specs.Agendas.{Action, agenda, path_agenda}
 use Rattle.jcl_meaning.specs.Programs.{ending_of}
 use Rattle.jcl_meaning.specs.States.{Answers, Done, Fixed, State}
 use Rattle.jcl_meaning.specs.Resolutions.{meanings_of}
-use Rattle.jcl_meaning.specs.Stores.{store_of}
+use Rattle.jcl_meaning.specs.Stores.{Store, store_of}
 
 -- a fault that was met, and how many actions came before it
 pub record Met : Type 0 where
@@ -53,15 +54,14 @@ run fixed (a ∷ actions) s = then_ran (act fixed a s) (λ t. run fixed actions 
 abbrev pub is_clean : Ran → Bool
 is_clean ran = length ran.faults == 0
 
--- relative numbers are resolved in the store at the start
-abbrev pub fixed_of : JobPlan → SoloStore → List Place → ℕ → Fixed
-fixed_of plan store places date = record {
-  job_tests = plan.tests.items;
-  volumes = store.volumes;
-  places = places;
-  meanings = meanings_of (store_of store) plan;
-  date = date;
-}
+-- What is fixed for a job: the tests of its JOB statement, the volumes, where its sets are placed, what its keys mean, and the date.
+abbrev pub fixed_with : List (List ℕ) → JobPlan → List Place → List KeyMeaning → ℕ → Fixed
+fixed_with volumes plan places meanings date =
+    record { job_tests = plan.tests.items; volumes = volumes; places = places; meanings = meanings; date = date }
+
+-- in a store: its relative numbers are resolved there, once
+abbrev pub fixed_in : List (List ℕ) → Store → JobPlan → List Place → ℕ → Fixed
+fixed_in volumes store plan places date = fixed_with volumes plan places (meanings_of store plan) date
 
 abbrev pub nothing_own : Own
 nothing_own = record {
@@ -77,10 +77,11 @@ nothing_own = record {
   lines = 0;
 }
 
-abbrev pub fresh : SoloStore → Answers → State
-fresh store answers = record { store = store_of store; own = nothing_own; answers = answers }
+abbrev pub at_start : Store → Answers → State
+at_start store answers = record { store = store; own = nothing_own; answers = answers }
 
--- The solo meaning of a job: its programs end its steps; growths are granted and cancels come as the answers say, primaries are granted.
+-- The solo meaning of a job in a store: its programs end its steps; growths are granted and cancels come as the answers say, primaries are
+-- granted.
 abbrev pub answers_of : JobPlan → List SoloProgram → SoloAnswers → Answers
 answers_of plan programs answers = record {
   outcomes = map (λ step. ending_of programs step.program) plan.steps;
@@ -89,20 +90,22 @@ answers_of plan programs answers = record {
   primary = true;
 }
 
-abbrev pub solo_of : JobPlan → SoloStore → List Place → List SoloProgram → SoloAnswers → ℕ → Ran
-solo_of plan store places programs answers date =
-    run (fixed_of plan store places date) (agenda plan programs) (fresh store (answers_of plan programs answers))
+abbrev pub solo_of : Fixed → JobPlan → Store → List SoloProgram → SoloAnswers → Ran
+solo_of fixed plan store programs answers = run fixed (agenda plan programs) (at_start store (answers_of plan programs answers))
 
 -- The solo meaning along given outcomes, one a step.
 abbrev pub given : List Outcome → Answers
 given outcomes = record { outcomes = outcomes; cancels = []; grants = []; primary = true }
 
-abbrev pub solo_path_of : JobPlan → SoloStore → List Place → List Outcome → ℕ → Ran
-solo_path_of plan store places outcomes date =
-    run (fixed_of plan store places date) (path_agenda plan) (fresh store (given outcomes))
+abbrev pub solo_path_of : Fixed → JobPlan → Store → List Outcome → Ran
+solo_path_of fixed plan store outcomes = run fixed (path_agenda plan) (at_start store (given outcomes))
+
+-- of a job that is alone: in a store of lists
+abbrev pub fixed_alone : SoloStore → JobPlan → List Place → ℕ → Fixed
+fixed_alone store plan places date = fixed_in store.volumes (store_of store) plan places date
 
 -- a run of the code is a run of the definition
-pub record IsRun (result : SoloRun) (start : SoloStore) (ran : Ran) : Type 0 where
+pub record IsSoloRun (result : SoloRun) (start : SoloStore) (ran : Ran) : Type 0 where
   pub lines : result.lines ≡ ran.lines
   pub store : store_of result.store ≡ ran.state.store
   pub volumes : result.store.volumes ≡ start.volumes

@@ -93,13 +93,13 @@ abbrev pub back_lines : List DdState → List JobLine
 back_lines [] = []
 back_lines (x ∷ xs) = back_line x ++ back_lines xs
 
-abbrev pub given_back : Option TakenSet → Store → Store
-given_back None s = s
-given_back (Some t) s = if is_deleted_back t then with_set s t.key t.serial None else s
+abbrev pub set_given_back : Option TakenSet → Store → Store
+set_given_back None s = s
+set_given_back (Some t) s = if is_deleted_back t then with_set s t.key t.serial None else s
 
 abbrev pub all_given_back : List DdState → Store → Store
 all_given_back [] s = s
-all_given_back (x ∷ xs) s = all_given_back xs (given_back x.taken s)
+all_given_back (x ∷ xs) s = all_given_back xs (set_given_back x.taken s)
 
 abbrev pub refused : ℕ → ℕ → Fault → State → Done
 refused n dd fault s = record {

@@ -11,17 +11,15 @@ use Rattle.jcl_plan.specs.declared.plan.StepPlan.{StepPlan}
 use Rattle.jcl_plan.specs.declared.plan.VolumePlan.{VolumePlan}
 use Rattle.jcl_plan.specs.declared.plan.VolumePlan.TheVariants.{NotCoded, Serial, OfName, OfDd}
 use Rattle.jcl_meaning.specs.declared.state.Passed.{Passed}
-use Rattle.jcl_meaning.specs.declared.state.Place.{Place}
 use Rattle.jcl_meaning.specs.declared.store.DataSet.{DataSet}
-use Rattle.jcl_meaning.specs.declared.store.SoloStore.{SoloStore}
 use Rattle.jcl_meaning.specs.Agendas.{steps_from}
 use Rattle.jcl_meaning.specs.History.{IsStepOutcome, abended, satisfied}
 use Rattle.jcl_meaning.specs.Names.{names_of}
 use Rattle.jcl_meaning.specs.Parts.{part_of}
 use Rattle.jcl_meaning.specs.Programs.{moves_of}
-use Rattle.jcl_meaning.specs.Solo.{Ran, fixed_of, fresh, given, is_clean, run}
-use Rattle.jcl_meaning.specs.States.{State}
-use Rattle.jcl_meaning.specs.Stores.{is_unexpired}
+use Rattle.jcl_meaning.specs.Solo.{Ran, at_start, given, is_clean, run}
+use Rattle.jcl_meaning.specs.States.{Fixed, State}
+use Rattle.jcl_meaning.specs.Stores.{Store, is_unexpired}
 use Rattle.jcl_meaning.specs.Takes.{dd_volume}
 
 -- a set that is there, unexpired or not
@@ -68,16 +66,15 @@ view_at plan k date s = record {
 }
 
 -- a run along given outcomes to behind the k-th step
-abbrev pub ran_to : JobPlan → SoloStore → List Place → ℕ → ℕ → List Outcome → Ran
-ran_to plan store places date k outcomes =
-    run (fixed_of plan store places date) (steps_from (moves_of []) 1 (take k plan.steps)) (fresh store (given outcomes))
+abbrev pub ran_to : Fixed → JobPlan → Store → ℕ → List Outcome → Ran
+ran_to fixed plan store k outcomes = run fixed (steps_from (moves_of []) 1 (take k plan.steps)) (at_start store (given outcomes))
 
-abbrev pub view_of : JobPlan → SoloStore → List Place → ℕ → ℕ → List Outcome → View
-view_of plan store places date k outcomes = view_at plan k date (ran_to plan store places date k outcomes).state
+abbrev pub view_of : Fixed → JobPlan → Store → ℕ → List Outcome → View
+view_of fixed plan store k outcomes = view_at plan k fixed.date (ran_to fixed plan store k outcomes).state
 
 -- the views behind the k-th step: those of all runs that come so far without a fault
-pub record IsViewAfter (plan : JobPlan) (store : SoloStore) (places : List Place) (date k : ℕ) (view : View) : Type 0 where
+pub record IsViewAfter (fixed : Fixed) (plan : JobPlan) (store : Store) (k : ℕ) (view : View) : Type 0 where
   pub outcomes : List Outcome
   pub within : All IsStepOutcome outcomes
-  pub without_fault : is_clean (ran_to plan store places date k outcomes) ≡ true
-  pub seen : view ≡ view_of plan store places date k outcomes
+  pub without_fault : is_clean (ran_to fixed plan store k outcomes) ≡ true
+  pub seen : view ≡ view_of fixed plan store k outcomes

@@ -1,4 +1,4 @@
 pub mod Lines
-pub mod Numbers
+pub mod RefusalNumbers
 pub mod Texts
 pub mod Tracks

@@ -10,7 +10,7 @@ use Rattle.jcl_plan.specs.declared.fault.Fault.{Fault}
 use Rattle.jcl_plan.specs.declared.fault.Fault.TheVariants.{F1, F2, F3, F4, F5, F6, F7, F8, F9, F10}
 use Rattle.jcl_plan.specs.declared.fault.Cause.{Cause}
 use Rattle.jcl_plan.specs.declared.fault.Cause.TheVariants.{C, N, P, Q, B, A}
-use Rattle.jcl_plan.specs.Numbers.{event_number, number_of, queue_number}
+use Rattle.jcl_plan.specs.RefusalNumbers.{event_number, number_of, queue_number}
 use Rattle.jcl_plan.specs.declared.words.TakeWord.{TakeWord}
 use Rattle.jcl_plan.specs.declared.words.TakeWord.TheVariants as take
 use Rattle.jcl_plan.specs.declared.words.DispWord.{DispWord}

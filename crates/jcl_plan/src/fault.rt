@@ -1,6 +1,6 @@
 //! The numbers of refusals.
 ghost use Rattle.std.specs.Prelude.{◌≡◌};
-ghost use Rattle.jcl_plan.specs.Numbers.{event_number, number_of, queue_number};
+ghost use Rattle.jcl_plan.specs.RefusalNumbers.{event_number, number_of, queue_number};
 
 use thiserror::Error;
 
@@ -29,7 +29,7 @@ pub enum Fault {
     F10,
 }
 
-/// A fault of a deck's statements, and of what they refer to. Some are of what no deck can have yet, as procedures.
+/// A fault of a deck's statements, and of what they refer to.
 #[derive(Clone, Copy, Debug, PartialEq, Eq, Error)]
 pub enum StatementFault {
     #[error("the first statement is no JOB statement, or a second one follows")]
@@ -68,7 +68,7 @@ pub enum StatementFault {
     SeveralSerials,
     #[error("a data set has the name of a member behind it")]
     MemberName,
-    #[error("a keyword or a form is left out of this profile, or not there yet")]
+    #[error("a keyword or a form is left out of this profile")]
     LeftOut,
     #[error("there is no such procedure")]
     NoSuchProcedure,

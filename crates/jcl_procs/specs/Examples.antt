@@ -5,7 +5,7 @@ use Rattle.jname_core.specs.declared.key.Key.TheVariants.{Named, Temporary}
 use Rattle.card_core.specs.declared.fault.CardFault.{CardFault}
 use Rattle.card_core.specs.declared.statement.Statement.{Statement}
 use Rattle.card_core.specs.Deck.{statements_of}
-use Rattle.card_core.specs.Numbers.{number_of}
+use Rattle.card_core.specs.RefusalNumbers.{number_of}
 use Rattle.jcl_plan.specs.declared.fault.Cause.{Cause}
 use Rattle.jcl_plan.specs.declared.fault.Cause.TheVariants.{C, N, P}
 use Rattle.jcl_plan.specs.declared.fault.StatementFault.TheVariants.{CardsInProcedure, DdBeforeExec, ExcludeOneAnother, MissingPend, NoStep, NoSuchProcedure, NoSuchProcedureStep, NothingToContinue, OverrideOutOfOrder, ProcedureCallsProcedure, SymbolWithoutValue, TooManyProcedures, UnknownOperation}

@@ -5,7 +5,7 @@ use Rattle.std.specs.Str.{bytes_eq}
 use Rattle.card_core.specs.declared.statement.Statement.{Statement}
 use Rattle.card_core.specs.Deck.{statements_of}
 use Rattle.card_core.specs.declared.fault.CardFault.{CardFault}
-use Rattle.card_core.specs.Numbers.{number_of}
+use Rattle.card_core.specs.RefusalNumbers.{number_of}
 use Rattle.jcl_plan.specs.declared.fault.Cause.{Cause}
 use Rattle.jcl_plan.specs.declared.fault.Cause.TheVariants.{C, P}
 use Rattle.jcl_plan.specs.declared.fault.StatementFault.TheVariants.{NoSuchProcedure, NoSuchProcedureStep}

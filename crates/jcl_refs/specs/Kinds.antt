@@ -16,7 +16,7 @@ use Rattle.jcl_procs.specs.Expansions.{and_then}
 use Rattle.jcl_refs.specs.declared.kinds.Source.{Source}
 use Rattle.jcl_refs.specs.declared.kinds.Spot as code
 use Rattle.jcl_refs.specs.Plans.{Led, MakesDummy, Names, NamesNothing, Naming, Nowhere, Own, OwnCards, OwnDummy, OwnSet, OwnSysout, Spot, ToDummy, ToSet}
-use Rattle.jcl_refs.specs.Plans.{disposition_of, faults_of, kind_of, kinds_in, led, set_with, spot, uncataloged_faults, volume_faults, with_kind}
+use Rattle.jcl_refs.specs.Plans.{disposition_of, faults_of, kind_of, kinds_in, led, most_dds, most_steps, set_with, spot, uncataloged_faults, volume_faults, with_kind}
 use Rattle.jcl_refs.specs.LaterDds.{references_of}
 
 -- what DDs are
@@ -35,7 +35,7 @@ spot_of at = record {
 
 -- few enough that their numbers are kept
 abbrev pub FewPlanned : code.Spot → Type 0
-FewPlanned at = (length at.done.now ≤ 32) × All (λ s. length s.dds ≤ 64) at.done.now × (length at.here.now ≤ 64)
+FewPlanned at = (length at.done.now ≤ most_steps) × All (λ s. length s.dds ≤ most_dds) at.done.now × (length at.here.now ≤ most_dds)
 
 -- the set that a reference leads to, none where it leads to a DUMMY
 abbrev pub source_of : Led → Result (Option Source) Cause

@@ -63,8 +63,8 @@ may_mean (Some call) (step.Step name) s = is_step_of_call call name s || is_own_
 may_mean call (step.ProcedureStep name procedure_step) s = is_brought_by name procedure_step s
 
 -- the place of the first DD of a name, from 1
-abbrev pub place_of : List ℕ → List DdCard → Option ℕ
-place_of name dds = by (position (has_name name) dds)
+abbrev pub dd_position : List ℕ → List DdCard → Option ℕ
+dd_position name dds = by (position (has_name name) dds)
   where
     by : Option ℕ → Option ℕ
     by None = None
@@ -79,7 +79,7 @@ dds_of steps k = first (drop (k - 1) steps)
 
 -- a DD of the same step: an earlier one, else it looks forward or to nothing
 abbrev pub in_step : List ℕ → ℕ → ℕ → List DdCard → Result Target Cause
-in_step name k d dds = by (place_of name dds)
+in_step name k d dds = by (dd_position name dds)
   where
     by : Option ℕ → Result Target Cause
     by None = Err (P ReferenceToNothing)
@@ -95,7 +95,7 @@ earlier_dd call s name k steps = by_step (earlier_step call s k steps)
 
     by_step : Option ℕ → Option Target
     by_step None = None
-    by_step (Some t) = by_place t (place_of name (dds_of steps t))
+    by_step (Some t) = by_place t (dd_position name (dds_of steps t))
 
 -- whether a step from the k-th on has the DD
 abbrev pub looks_forward : Option ℕ → StepReference → List ℕ → ℕ → List FlatStep → Bool

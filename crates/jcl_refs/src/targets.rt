@@ -4,7 +4,7 @@ ghost use Rattle.std.specs.List.{list_any, position};
 ghost use Rattle.jcl_refs.specs.LaterDds.{has_name};
 ghost use Rattle.jcl_refs.specs.Meant.{is_meant};
 ghost use Rattle.jcl_refs.specs.Targets.{dds_of, earlier_dd, earlier_named, earlier_step, in_earlier, in_step, is_brought_by, is_call, is_name, is_own_step, is_step_of_call};
-ghost use Rattle.jcl_refs.specs.Targets.{latest, looks_forward, may_mean, missing, place_of, target_of};
+ghost use Rattle.jcl_refs.specs.Targets.{latest, looks_forward, may_mean, missing, dd_position, target_of};
 
 use jcl_cards::dd::DdCard;
 use jcl_plan::fault::{Cause, StatementFault};
@@ -170,8 +170,8 @@ fn first_of(name: Name8, dds: &[DdCard]) -> Option<usize>
 }
 
 /// The place of the first DD of a name, from 1.
-fn place_of(name: Name8, dds: &[DdCard]) -> Option<usize>
-    ensures { result ≡ place_of name dds.now }
+fn dd_position(name: Name8, dds: &[DdCard]) -> Option<usize>
+    ensures { result ≡ dd_position name dds.now }
 {
     match first_of(name, dds) {
         None => None,
@@ -204,7 +204,7 @@ fn dds_of(steps: &[FlatStep], k: usize) -> &[DdCard]
 fn in_step(name: Name8, k: usize, d: usize, dds: &[DdCard]) -> Result<Target, Cause>
     ensures { result ≡ in_step name k d dds.now }
 {
-    let Some(n) = place_of(name, dds) else {
+    let Some(n) = dd_position(name, dds) else {
         return Err(Cause::P(StatementFault::ReferenceToNothing));
     };
     if n >= d {
@@ -254,7 +254,7 @@ fn earlier_dd(
     ensures { result ≡ earlier_dd call reference name k steps.now }
 {
     let step = earlier_step(call, reference, k, steps)?;
-    let dd = place_of(name, dds_of(steps, step))?;
+    let dd = dd_position(name, dds_of(steps, step))?;
     Some(Target { step, dd })
 }
 

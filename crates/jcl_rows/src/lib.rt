@@ -1,5 +1,11 @@
-//! Worked values, operands, statements and decks: what they read as, or the fault that is told. All of it is tests.
+//! Worked values, operands, statements and decks: what they read as, or the fault that is told. All of it is laws that are computed.
 #![tactic(auto)]
 
-#[cfg(test)]
-mod tests;
+pub mod cards;
+pub mod conditions;
+pub mod decks;
+pub mod denoted;
+pub mod edges;
+pub mod procedures;
+pub mod symbols;
+pub mod values;

@@ -1,4 +1,4 @@
-pub mod Numbers
+pub mod RefusalNumbers
 pub mod Characters
 pub mod Faults
 pub mod Grammar

@@ -1,6 +1,6 @@
 //! Why a text is no name.
 ghost use Rattle.std.specs.Prelude.{◌≡◌};
-ghost use Rattle.jname_core.specs.Numbers.{number_of};
+ghost use Rattle.jname_core.specs.RefusalNumbers.{number_of};
 
 use thiserror::Error;
 

@@ -2,10 +2,10 @@
 use Rattle.std.proofs.Common.{◌≡◌, ℕ, [], refl, subst, sym}
 use Rattle.cb_queue.specs.RecordQueues as queue
 use Rattle.cb_queue.specs.RecordQueues.{RecordQueue}
-use Rattle.shared_core.specs.Shown.{world_of}
+use Rattle.shared_core.specs.Shown.{world_store_of}
 use Rattle.shared_core.specs.Tracks.{free_on}
 use Rattle.world_meaning.specs.Holdings.{released}
-use Rattle.world_meaning.specs.Records.{SameRecords, given_back}
+use Rattle.world_meaning.specs.Records.{SameRecords, records_given_back}
 use Rattle.world_meaning.specs.Worlds.{Config}
 use Rattle.world_meaning.proofs.Conserved.{conserved_same}
 use Rattle.machine_core.specs.declared.parts.Parts.{Parts}
@@ -17,9 +17,9 @@ pub is_released : {Q : Type 0} (queue_of : Q → RecordQueue) (c : Config) (job 
 is_released queue_of c job old new layout b = record {
   reopened = record {
     records = queue.shown (queue_of new.queue);
-    same = subst (λ l. SameRecords l (given_back l (queue.shown (queue_of old.queue)) job) (queue.shown (queue_of new.queue))) (sym layout) b.records.records;
+    same = subst (λ l. SameRecords l (records_given_back l (queue.shown (queue_of old.queue)) job) (queue.shown (queue_of new.queue))) (sym layout) b.records.records;
     rest = λ i. record {
-      store = world_of (b.store i);
+      store = world_store_of (b.store i);
       free = λ serial. free_on (b.store i).volumes serial;
       kept = [];
       records = queue.shown (queue_of new.queue);

@@ -1,1 +1,2 @@
 pub mod Spools
+pub mod Limits

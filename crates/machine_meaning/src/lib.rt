@@ -2,4 +2,5 @@
 #![tactic(auto)]
 
 pub mod config;
+pub mod laws;
 pub mod machine;

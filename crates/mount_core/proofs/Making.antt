@@ -10,7 +10,7 @@ use Rattle.vtoc_core.specs.declared.volume.Track.{Track}
 use Rattle.vtoc_core.specs.declared.volume.Track.TheVariants.{Free, Aside, InSet}
 use Rattle.vtoc_core.specs.Entries.{changed, with_extents}
 use Rattle.vtoc_core.specs.Extents.{free_extents, kept_front, past_front, planned, tracks_in}
-use Rattle.vtoc_core.specs.Volumes.{AnswersGrow, AreOf, IsSound, Moves, VolumeState, marked, tracks_past}
+use Rattle.vtoc_core.specs.Volumes.{AnswersGrow, AreOf, IsSoundVolume, Moves, VolumeState, marked, tracks_past}
 use Rattle.vtoc_core.proofs.PlanLemmas.{planned_is}
 use Rattle.vtoc_core.proofs.SoundLemmas.{past_tracks, set_tracks}
 use Rattle.mount_core.specs.declared.place.KeptPlace.{KeptPlace}
@@ -80,24 +80,24 @@ freed_kept old new n es kept x q m a = others_kept InSet Free old.tracks new.tra
 
 module _ {X E : Type 0} (r : Result X E) (old new : VolumeState) (key : SetKey) (kept : Kept) where
   pub scratched_kept : OnOk r ((entry : SetEntry) × (get old.sets key ≡ Some entry) × (new ≡ record { tracks = marked Free entry.extents.items old.tracks; sets = remove old.sets key })
-      × Moves InSet Free (tracks_in entry.extents.items) old.tracks new.tracks) → OnErr r (new ≡ old) → IsSound old → AreKept old.tracks kept → AreKept new.tracks kept
+      × Moves InSet Free (tracks_in entry.extents.items) old.tracks new.tracks) → OnErr r (new ≡ old) → IsSoundVolume old → AreKept old.tracks kept → AreKept new.tracks kept
   scratched_kept = by r
     where
       by : (q : Result X E) → OnOk q ((entry : SetEntry) × (get old.sets key ≡ Some entry) × (new ≡ record { tracks = marked Free entry.extents.items old.tracks; sets = remove old.sets key })
-          × Moves InSet Free (tracks_in entry.extents.items) old.tracks new.tracks) → OnErr q (new ≡ old) → IsSound old → AreKept old.tracks kept → AreKept new.tracks kept
+          × Moves InSet Free (tracks_in entry.extents.items) old.tracks new.tracks) → OnErr q (new ≡ old) → IsSoundVolume old → AreKept old.tracks kept → AreKept new.tracks kept
       by (Ok x) h e s a = freed_kept old new (tracks_in h.0.extents.items) h.0.extents.items kept (set_tracks old key h.0 h.1 s) (ap (λ v. v.tracks) h.2) h.3 a
       by (Err f) h e s a = subst (λ v. AreKept v.tracks kept) (sym e) a
 
   pub trimmed_kept : (n : ℕ) → OnOk r ((entry : SetEntry) × (get old.sets key ≡ Some entry) × (new ≡ record {
     tracks = marked Free (past_front n entry.extents.items) old.tracks;
     sets = changed old.sets key (with_extents (kept_front n));
-  }) × Moves InSet Free (tracks_past n entry.extents.items) old.tracks new.tracks) → OnErr r (new ≡ old) → IsSound old → AreKept old.tracks kept → AreKept new.tracks kept
+  }) × Moves InSet Free (tracks_past n entry.extents.items) old.tracks new.tracks) → OnErr r (new ≡ old) → IsSoundVolume old → AreKept old.tracks kept → AreKept new.tracks kept
   trimmed_kept n = by r
     where
       by : (q : Result X E) → OnOk q ((entry : SetEntry) × (get old.sets key ≡ Some entry) × (new ≡ record {
         tracks = marked Free (past_front n entry.extents.items) old.tracks;
         sets = changed old.sets key (with_extents (kept_front n));
-      }) × Moves InSet Free (tracks_past n entry.extents.items) old.tracks new.tracks) → OnErr q (new ≡ old) → IsSound old → AreKept old.tracks kept → AreKept new.tracks kept
+      }) × Moves InSet Free (tracks_past n entry.extents.items) old.tracks new.tracks) → OnErr q (new ≡ old) → IsSoundVolume old → AreKept old.tracks kept → AreKept new.tracks kept
       by (Ok x) h e s a =
           freed_kept old new (tracks_past n h.0.extents.items) (past_front n h.0.extents.items) kept (past_tracks old n key h.0 h.1 s) (ap (λ v. v.tracks) h.2) h.3 a
       by (Err f) h e s a = subst (λ v. AreKept v.tracks kept) (sym e) a

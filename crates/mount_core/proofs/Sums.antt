@@ -6,7 +6,7 @@ use Rattle.std.proofs.lemmas.Option.{same_Some}
 use Rattle.vtoc_core.specs.declared.volume.Track.{Track}
 use Rattle.vtoc_core.specs.declared.volume.Track.TheVariants.{Free, Aside, InSet, Unusable}
 use Rattle.vtoc_core.specs.Extents.{tracks_in}
-use Rattle.vtoc_core.specs.Volumes.{IsSound, VolumeState, count_of, extents_of_all, is_kind, marked, times_in}
+use Rattle.vtoc_core.specs.Volumes.{IsSoundVolume, VolumeState, count_of, extents_of_all, is_kind, marked, times_in}
 use Rattle.vtoc_core.proofs.CountLemmas.{count-cons, counts_sum, moves}
 use Rattle.vtoc_core.proofs.KindLemmas.{marked_in, marked_not_in}
 use Rattle.mount_core.specs.Kept.{AreKept, Kept, extents_kept}
@@ -47,7 +47,7 @@ free≢in_set h = absurd cc
 in_set≢free : InSet ≢ Free
 in_set≢free h = absurd cc
 
-module _ (v : VolumeState) (s : IsSound v) where
+module _ (v : VolumeState) (s : IsSoundVolume v) where
   not_in_set : (k : ℕ) → slice_get (marked Free (extents_of_all v.sets) v.tracks) k ≢ Some InSet
   not_in_set k h =
       ⊎_elim

@@ -27,9 +27,9 @@ abbrev pub kept_for : MountedState → KeptPlace → List Extent → MountedStat
 kept_for m place list = record m { volume = record m.volume { tracks = marked Aside list m.volume.tracks }; kept = insert m.kept place list }
 
 -- the tracks of a place given back
-abbrev pub given_back : Option (List Extent) → MountedState → KeptPlace → MountedState
-given_back None m place = m
-given_back (Some list) m place = record m { volume = record m.volume { tracks = marked Free list m.volume.tracks }; kept = remove m.kept place }
+abbrev pub kept_given_back : Option (List Extent) → MountedState → KeptPlace → MountedState
+kept_given_back None m place = m
+kept_given_back (Some list) m place = record m { volume = record m.volume { tracks = marked Free list m.volume.tracks }; kept = remove m.kept place }
 
 -- whether so many tracks are there for a set: those that are kept for it, or free ones
 abbrev pub holds : Option (List Extent) → VolumeState → ℕ → Bool

@@ -8,7 +8,7 @@ ghost use Rattle.vtoc_core.specs.Volumes.{AnswersGrow, AnswersWrite, Moves, coun
 ghost use Rattle.vtoc_core.specs.declared.entry.SetEntry.{SetEntry};
 ghost use Rattle.vtoc_core.specs.declared.volume.Track.TheVariants.{Aside, Free, InSet, Unusable};
 ghost use Rattle.mount_core.specs.Kept.{extents_kept};
-ghost use Rattle.mount_core.specs.Mounts.{WasMade, given_back, holds, kept_for};
+ghost use Rattle.mount_core.specs.Mounts.{WasMade, kept_given_back, holds, kept_for};
 
 use crate::lists::{self, Lists, copy_of, drop_place, extents_at, is_taken};
 use crate::place::KeptPlace;
@@ -112,7 +112,7 @@ impl Mounted {
 
     /// Gives the tracks of a place back, if some are kept there.
     pub fn give_back(&mut self, place: &KeptPlace)
-        ensures { self.new ≡ given_back (map.get self.old.kept place.now) self.old place.now }
+        ensures { self.new ≡ kept_given_back (map.get self.old.kept place.now) self.old place.now }
     {
         if let Some(extents) = extents_at(&self.kept, place) {
             self.volume.give_back(ExtentList::of(extents));

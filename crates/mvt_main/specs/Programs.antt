@@ -9,7 +9,7 @@ use Rattle.session_core.specs.Failures.{AreTold}
 use Rattle.session_core.specs.Outcomes.{IsRun}
 use Rattle.session_core.specs.Streams.{SinkState, SourceState}
 use Rattle.jname_core.specs.Decimals.{number_within}
-use Rattle.session_text.specs.Numbers.{number_of}
+use Rattle.session_text.specs.FaultNumbers.{number_of}
 use Rattle.mvt_main.specs.declared.report.Message.{Message}
 use Rattle.mvt_main.specs.declared.report.Message.TheVariants.{Nothing, Fault, OutOfMemory}
 

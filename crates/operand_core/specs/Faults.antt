@@ -3,10 +3,10 @@ use Rattle.std.specs.Prelude.{ℕ, ◌+◌, ◌==◌, Bool, nat_lt, List, [], �
 use Rattle.jcl_plan.specs.declared.fault.Cause.{Cause}
 use Rattle.jcl_plan.specs.declared.fault.Cause.TheVariants.{C, N, P, Q, B, A}
 use Rattle.jcl_plan.specs.declared.fault.StatementFault.TheVariants.{OperandTooLong}
-use Rattle.jcl_plan.specs.Numbers as refusal
+use Rattle.jcl_plan.specs.RefusalNumbers as refusal
 use Rattle.jname_core.specs.declared.fault.NameFault.{NameFault}
 use Rattle.jname_core.specs.Faults.{name8_fault}
-use Rattle.jname_core.specs.Numbers.{number_of}
+use Rattle.jname_core.specs.RefusalNumbers.{number_of}
 
 -- names before statements, then the lowest number; numbers are below 256
 abbrev pub rank : Cause → ℕ

@@ -32,7 +32,7 @@ use Rattle.jcl_meaning.specs.declared.take.Target.{Target}
 use Rattle.jcl_meaning.specs.Acts.{act}
 use Rattle.jcl_meaning.specs.Agendas.{Action}
 use Rattle.jcl_meaning.specs.Dispositions.{as_taken, changed, disposed_by, is_deleted_back, left_word}
-use Rattle.jcl_meaning.specs.EndActs.{after_abend, disposes, finished, finishes, leaves, left_at, passed_by, released, set_disposes}
+use Rattle.jcl_meaning.specs.EndActs.{after_abend, disposes, finished, finishes, leaves, left_at, passed_by, tracks_released, set_disposes}
 use Rattle.jcl_meaning.specs.Names.{is_temporary}
 use Rattle.jcl_meaning.specs.Plans.{conditional_meaning, normal_meaning, word_done}
 use Rattle.jcl_meaning.specs.Programs.{dd_of, emptied, empties, grown_by, is_concatenated, is_full, is_read_only, or_nothing, taken_by}
@@ -41,7 +41,7 @@ use Rattle.jcl_meaning.specs.Resolutions.{meaning_at, place_of}
 use Rattle.jcl_meaning.specs.Solo.{run}
 use Rattle.jcl_meaning.specs.States.{Done, Fixed, State, abended_by, asks_open, cancel_due, if_runs, unless_cancelled}
 use Rattle.jcl_meaning.specs.Stores.{Store, catalogued, cut_at, with_set, with_set_there}
-use Rattle.jcl_meaning.specs.TakeActs.{all_given_back, decided, decision_at, given_back, new_set, store_made, takes, takes_set, target_at}
+use Rattle.jcl_meaning.specs.TakeActs.{all_given_back, decided, decision_at, set_given_back, new_set, store_made, takes, takes_set, target_at}
 use Rattle.jcl_meaning.specs.Takes.{first_passed, is_known, is_there, looked_at, releases, secondary_of, where_of}
 use Rattle.part_laws.specs.Fits.{AreTaken, Fits, HasTaken, IsDdHeld, IsDue, IsHeldFor, IsPassed, IsTakenBy, sees_alone, sees_set}
 use Rattle.part_laws.specs.Keeping.{HasSoundGroups}
@@ -64,7 +64,7 @@ module _ (names : List HeldName) where
   cut_sound s key serial None sound = sound
   cut_sound s key serial (Some a) sound = sound
 
-  released_stays : (b : Bool) (s : Store) (key : Key) (serial : List ℕ) → sees_set names key ≡ true → Stays names s (released b key serial s)
+  released_stays : (b : Bool) (s : Store) (key : Key) (serial : List ℕ) → sees_set names key ≡ true → Stays names s (tracks_released b key serial s)
   released_stays false s key serial seen = stays_same names s
   released_stays true s key serial seen =
       record { within = cut_within names s key serial (s.set key serial) refl seen; sound = cut_sound s key serial (s.set key serial) }
@@ -88,7 +88,7 @@ module _ (names : List HeldName) where
       by_mark (inr f) = temporary_alone t.key f
 
   module _ (meanings : List KeyMeaning) (n : ℕ) where
-    one_back_stays : (dd : ℕ) (kind : DdKind) (x : Option TakenSet) (s : Store) → IsTakenBy names meanings n dd kind x → Stays names s (given_back x s)
+    one_back_stays : (dd : ℕ) (kind : DdKind) (x : Option TakenSet) (s : Store) → IsTakenBy names meanings n dd kind x → Stays names s (set_given_back x s)
     one_back_stays dd kind None s h = stays_same names s
     one_back_stays dd (Sysout class) (Some t) s h = absurd h
     one_back_stays dd Dummy (Some t) s h = absurd h
@@ -100,8 +100,8 @@ module _ (names : List HeldName) where
     all_back_stays dd [] (x ∷ xs) s h = absurd h
     all_back_stays dd (d ∷ ds) [] s h = absurd h
     all_back_stays dd (d ∷ ds) (x ∷ xs) s h =
-        let one : Stays names s (given_back x.taken s) = one_back_stays dd d.kind x.taken s h.0 in
-        stays_along names s (given_back x.taken s) (all_given_back xs (given_back x.taken s)) one (all_back_stays (dd + 1) ds xs (given_back x.taken s) h.1)
+        let one : Stays names s (set_given_back x.taken s) = one_back_stays dd d.kind x.taken s h.0 in
+        stays_along names s (set_given_back x.taken s) (all_given_back xs (set_given_back x.taken s)) one (all_back_stays (dd + 1) ds xs (set_given_back x.taken s) h.1)
 
   -- a take
   made_stays : (h : How) (fixed : Fixed) (plan : SetPlan) (key : Key) (serial : List ℕ) (s : Store) → IsSoundHow names key h →

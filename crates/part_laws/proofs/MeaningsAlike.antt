@@ -16,14 +16,13 @@ use Rattle.jcl_meaning.specs.declared.solo.SoloAnswers.{SoloAnswers}
 use Rattle.jcl_meaning.specs.declared.state.Place.{Place}
 use Rattle.jcl_meaning.specs.declared.state.Resolution.{Resolution}
 use Rattle.jcl_meaning.specs.declared.state.Resolution.TheVariants.{Fails}
-use Rattle.jcl_meaning.specs.declared.store.SoloStore.{SoloStore}
 use Rattle.jcl_meaning.specs.Agendas.{agenda}
 use Rattle.jcl_meaning.specs.Names.{dd_names, held_under, names_of, set_names, volume_names, wanted_by, wants_alone}
 use Rattle.jcl_meaning.specs.Parts.{SamePart}
 use Rattle.jcl_meaning.specs.Resolutions.{meaning_of_dd, meanings_from, meanings_in, meanings_of}
-use Rattle.jcl_meaning.specs.Solo.{answers_of, fixed_of, fresh, given, run, solo_of, solo_path_of}
+use Rattle.jcl_meaning.specs.Solo.{answers_of, at_start, fixed_in, fixed_with, given, run, solo_of, solo_path_of}
 use Rattle.jcl_meaning.specs.States.{Answers, Fixed}
-use Rattle.jcl_meaning.specs.Stores.{Store, by_group, resolution_of, store_of}
+use Rattle.jcl_meaning.specs.Stores.{Store, by_group, resolution_of}
 use Rattle.jcl_meaning.specs.WellFormed.{IsWellFormedPlan}
 use Rattle.part_laws.specs.Alike.{AlikeRun}
 use Rattle.part_laws.specs.Keeping.{HasSoundGroups}
@@ -64,36 +63,30 @@ pub same_meanings : (plan : JobPlan) (s t : Store) → SamePart (names_of plan) 
 same_meanings plan s t p = same_meanings_from (names_of plan) s t p 1 plan.steps (all_held plan)
 
 -- the same is fixed
-same_fixed : (plan : JobPlan) (a b : SoloStore) (places : List Place) (date : ℕ) → a.volumes ≡ b.volumes → SamePart (names_of plan) (store_of a) (store_of b) →
-    fixed_of plan a places date ≡ fixed_of plan b places date
-same_fixed plan a b places date volumes p = λ i. record {
-  job_tests = plan.tests.items;
-  volumes = volumes i;
-  places = places;
-  meanings = same_meanings plan (store_of a) (store_of b) p i;
-  date = date;
-}
+same_fixed : (volumes : List (List ℕ)) (plan : JobPlan) (s t : Store) (places : List Place) (date : ℕ) → SamePart (names_of plan) s t →
+    fixed_in volumes s plan places date ≡ fixed_in volumes t plan places date
+same_fixed volumes plan s t places date p = ap (λ meanings. fixed_with volumes plan places meanings date) (same_meanings plan s t p)
 
 -- so a whole run from its start is the same
-same_from_start : (plan : JobPlan) (programs : List SoloProgram) (a b : SoloStore) (places : List Place) (answers : Answers) (date : ℕ) →
-    IsWellFormedPlan plan → HasSoundGroups (store_of a) → a.volumes ≡ b.volumes → SamePart (names_of plan) (store_of a) (store_of b) →
-    AlikeRun (names_of plan) (run (fixed_of plan a places date) (agenda plan programs) (fresh a answers))
-    (run (fixed_of plan b places date) (agenda plan programs) (fresh b answers))
-same_from_start plan programs a b places answers date good sound volumes p =
-    subst (λ (fixed : Fixed). AlikeRun (names_of plan) (run (fixed_of plan a places date) (agenda plan programs) (fresh a answers))
-    (run fixed (agenda plan programs) (fresh b answers)))
-    (same_fixed plan a b places date volumes p)
-    (run_alike (names_of plan) (fixed_of plan a places date) (agenda plan programs) (fresh a answers) (fresh b answers)
+same_from_start : (volumes : List (List ℕ)) (plan : JobPlan) (programs : List SoloProgram) (s t : Store) (places : List Place) (answers : Answers) (date : ℕ) →
+    IsWellFormedPlan plan → HasSoundGroups s → SamePart (names_of plan) s t →
+    AlikeRun (names_of plan) (run (fixed_in volumes s plan places date) (agenda plan programs) (at_start s answers))
+    (run (fixed_in volumes t plan places date) (agenda plan programs) (at_start t answers))
+same_from_start volumes plan programs s t places answers date good sound p =
+    subst (λ (fixed : Fixed). AlikeRun (names_of plan) (run (fixed_in volumes s plan places date) (agenda plan programs) (at_start s answers))
+    (run fixed (agenda plan programs) (at_start t answers)))
+    (same_fixed volumes plan s t places date p)
+    (run_alike (names_of plan) (fixed_in volumes s plan places date) (agenda plan programs) (at_start s answers) (at_start t answers)
     (record { part = p; own = refl; answers = refl })
-    (start_fits plan programs (store_of a) good sound))
+    (start_fits plan programs s good sound))
 
-pub solo_alike : (plan : JobPlan) (a b : SoloStore) (places : List Place) (programs : List SoloProgram) (answers : SoloAnswers) (date : ℕ) →
-    IsWellFormedPlan plan → HasSoundGroups (store_of a) → a.volumes ≡ b.volumes → SamePart (names_of plan) (store_of a) (store_of b) →
-    AlikeRun (names_of plan) (solo_of plan a places programs answers date) (solo_of plan b places programs answers date)
-solo_alike plan a b places programs answers date good sound volumes p =
-    same_from_start plan programs a b places (answers_of plan programs answers) date good sound volumes p
+pub solo_alike : (volumes : List (List ℕ)) (plan : JobPlan) (s t : Store) (places : List Place) (programs : List SoloProgram) (answers : SoloAnswers) (date : ℕ) →
+    IsWellFormedPlan plan → HasSoundGroups s → SamePart (names_of plan) s t →
+    AlikeRun (names_of plan) (solo_of (fixed_in volumes s plan places date) plan s programs answers) (solo_of (fixed_in volumes t plan places date) plan t programs answers)
+solo_alike volumes plan s t places programs answers date good sound p =
+    same_from_start volumes plan programs s t places (answers_of plan programs answers) date good sound p
 
-pub path_alike : (plan : JobPlan) (a b : SoloStore) (places : List Place) (outcomes : List Outcome) (date : ℕ) → IsWellFormedPlan plan →
-    HasSoundGroups (store_of a) → a.volumes ≡ b.volumes → SamePart (names_of plan) (store_of a) (store_of b) →
-    AlikeRun (names_of plan) (solo_path_of plan a places outcomes date) (solo_path_of plan b places outcomes date)
-path_alike plan a b places outcomes date good sound volumes p = same_from_start plan [] a b places (given outcomes) date good sound volumes p
+pub path_alike : (volumes : List (List ℕ)) (plan : JobPlan) (s t : Store) (places : List Place) (outcomes : List Outcome) (date : ℕ) →
+    IsWellFormedPlan plan → HasSoundGroups s → SamePart (names_of plan) s t →
+    AlikeRun (names_of plan) (solo_path_of (fixed_in volumes s plan places date) plan s outcomes) (solo_path_of (fixed_in volumes t plan places date) plan t outcomes)
+path_alike volumes plan s t places outcomes date good sound p = same_from_start volumes plan [] s t places (given outcomes) date good sound p

@@ -23,13 +23,13 @@ use Rattle.jcl_meaning.specs.declared.store.DataSet.{DataSet}
 use Rattle.jcl_meaning.specs.declared.take.How.{How}
 use Rattle.jcl_meaning.specs.declared.take.How.TheVariants as how
 use Rattle.jcl_meaning.specs.Dispositions.{changed, is_deleted_back}
-use Rattle.jcl_meaning.specs.EndActs.{released}
+use Rattle.jcl_meaning.specs.EndActs.{tracks_released}
 use Rattle.jcl_meaning.specs.Parts.{SamePart, but_for_tracks, compared, is_alone, is_among, seen_entry}
 use Rattle.jcl_meaning.specs.Programs.{appended, or_nothing}
 use Rattle.jcl_meaning.specs.RequestActs.{appended_at}
 use Rattle.jcl_meaning.specs.States.{Fixed}
 use Rattle.jcl_meaning.specs.Stores.{Store, after_rolling, cut, cut_at, generation_entered, generation_entered_by, is_unexpired, member_of, name_entered, rolled_off, scratched_unless, uncatalogued, uncatalogued_by, with_entry, with_set, with_set_there}
-use Rattle.jcl_meaning.specs.TakeActs.{all_given_back, given_back, new_set, store_made}
+use Rattle.jcl_meaning.specs.TakeActs.{all_given_back, set_given_back, new_set, store_made}
 use Rattle.meaning_laws.proofs.Parts.{part_along, part_back}
 use Rattle.part_laws.specs.Fits.{sees_set}
 use Rattle.part_laws.proofs.SameReads.{both_unexpired, same_but_for_tracks, same_member}
@@ -268,7 +268,7 @@ same_change names s t p change.Uncatalog key serial date h = same_uncatalogued n
 same_change names s t p change.EnterGeneration key serial date h = same_generation names s t p key serial date h
 
 pub same_release : (names : List HeldName) (s t : Store) → SamePart names s t → (b : Bool) (key : Key) (serial : List ℕ) → sees_set names key ≡ true →
-    SamePart names (released b key serial s) (released b key serial t)
+    SamePart names (tracks_released b key serial s) (tracks_released b key serial t)
 same_release names s t p false key serial h = p
 same_release names s t p true key serial h =
     cut_both names s t p key serial (s.set key serial) (t.set key serial) (same_but_for_tracks names s t p key serial h) (same_at names s t p key serial)
@@ -281,7 +281,7 @@ same_made names s t p how.Found fixed plan key serial = p
 same_made names s t p how.FoundByCatalog fixed plan key serial = p
 same_made names s t p (how.Received made by_catalog) fixed plan key serial = p
 
-one_given_back : (names : List HeldName) (s t : Store) → SamePart names s t → (x : Option TakenSet) → SamePart names (given_back x s) (given_back x t)
+one_given_back : (names : List HeldName) (s t : Store) → SamePart names s t → (x : Option TakenSet) → SamePart names (set_given_back x s) (set_given_back x t)
 one_given_back names s t p None = p
 one_given_back names s t p (Some x) = deleted_if (is_deleted_back x)
   where
@@ -292,4 +292,4 @@ one_given_back names s t p (Some x) = deleted_if (is_deleted_back x)
 pub same_given_back : (names : List HeldName) (s t : Store) → SamePart names s t → (xs : List DdState) →
     SamePart names (all_given_back xs s) (all_given_back xs t)
 same_given_back names s t p [] = p
-same_given_back names s t p (x ∷ xs) = same_given_back names (given_back x.taken s) (given_back x.taken t) (one_given_back names s t p x.taken) xs
+same_given_back names s t p (x ∷ xs) = same_given_back names (set_given_back x.taken s) (set_given_back x.taken t) (one_given_back names s t p x.taken) xs

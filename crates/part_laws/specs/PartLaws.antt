@@ -18,19 +18,18 @@ use Rattle.jcl_meaning.specs.declared.state.Passed.{Passed}
 use Rattle.jcl_meaning.specs.declared.state.Place.{Place}
 use Rattle.jcl_meaning.specs.declared.state.TakenSet.{TakenSet}
 use Rattle.jcl_meaning.specs.declared.store.DataSet.{DataSet}
-use Rattle.jcl_meaning.specs.declared.store.SoloStore.{SoloStore}
 use Rattle.jcl_meaning.specs.Acts.{act}
 use Rattle.jcl_meaning.specs.Agendas.{Action, agenda}
 use Rattle.jcl_meaning.specs.Dispositions.{changed, disposed_by}
-use Rattle.jcl_meaning.specs.EndActs.{released}
+use Rattle.jcl_meaning.specs.EndActs.{tracks_released}
 use Rattle.jcl_meaning.specs.Names.{names_of}
 use Rattle.jcl_meaning.specs.Parts.{SamePart, but_for_tracks, is_among}
 use Rattle.jcl_meaning.specs.Programs.{sources_from, taken_at}
 use Rattle.jcl_meaning.specs.RequestActs.{appended_at}
 use Rattle.jcl_meaning.specs.Resolutions.{meanings_of}
-use Rattle.jcl_meaning.specs.Solo.{nothing_own, run, solo_of, solo_path_of}
+use Rattle.jcl_meaning.specs.Solo.{fixed_in, nothing_own, run, solo_of, solo_path_of}
 use Rattle.jcl_meaning.specs.States.{Fixed, State}
-use Rattle.jcl_meaning.specs.Stores.{Store, catalogued, group_of, member_of, store_of, volume_of, with_entry, with_set, with_set_there}
+use Rattle.jcl_meaning.specs.Stores.{Store, catalogued, group_of, member_of, volume_of, with_entry, with_set, with_set_there}
 use Rattle.jcl_meaning.specs.Takes.{where_of}
 use Rattle.jcl_meaning.specs.WellFormed.{IsWellFormedPlan, IsWellFormedStore}
 use Rattle.part_laws.specs.Alike.{Alike, AlikeDone, AlikeRun}
@@ -57,7 +56,7 @@ abbrev pub EqualReads : Type 0
 EqualReads = (names : List HeldName) (s t : Store) → SamePart names s t → SameReads names s t
 
 -- What it writes in both leaves equal parts: a set, a set that is there, an entry, a record put, what a disposition changes, and
--- tracks released.
+-- tracks tracks_released.
 pub record SameWrites (names : List HeldName) (s t : Store) : Type 0 where
   pub set : (key : Key) (serial : List ℕ) (there : Option DataSet) → SamePart names (with_set s key serial there) (with_set t key serial there)
   pub set_there : (key : Key) (serial : List ℕ) (set : DataSet) → sees_set names key ≡ true →
@@ -66,7 +65,7 @@ pub record SameWrites (names : List HeldName) (s t : Store) : Type 0 where
   pub record_put : (x : TakenSet) (text : List ℕ) → sees_set names x.key ≡ true → SamePart names (appended_at (Some x) text s) (appended_at (Some x) text t)
   pub change : (c : Change) (key : Key) (serial : List ℕ) (date : ℕ) → sees_set names key ≡ true →
       SamePart names (changed c s key serial date) (changed c t key serial date)
-  pub release : (key : Key) (serial : List ℕ) → sees_set names key ≡ true → SamePart names (released true key serial s) (released true key serial t)
+  pub release : (key : Key) (serial : List ℕ) → sees_set names key ≡ true → SamePart names (tracks_released true key serial s) (tracks_released true key serial t)
 
 abbrev pub EqualWrites : Type 0
 EqualWrites = (names : List HeldName) (s t : Store) → SamePart names s t → SameWrites names s t
@@ -106,17 +105,17 @@ SameLines = (plan : JobPlan) (programs : List SoloProgram) (fixed : Fixed) (n : 
     Fits (names_of plan) fixed.meanings (drop n (agenda plan programs)) s.own →
     AlikeRun (names_of plan) (run fixed (drop n (agenda plan programs)) s) (run fixed (drop n (agenda plan programs)) t)
 
--- The solo meanings of a job in two stores with the same volumes and equal parts are the same.
+-- The solo meanings of a job in two stores with equal parts are the same, with what is fixed in either.
 abbrev pub SameSolo : Type 0
-SameSolo = (plan : JobPlan) (a b : SoloStore) (places : List Place) (programs : List SoloProgram) (answers : SoloAnswers) (date : ℕ) → IsWellFormedPlan plan →
-    HasSoundGroups (store_of a) → a.volumes ≡ b.volumes → SamePart (names_of plan) (store_of a) (store_of b) →
-    AlikeRun (names_of plan) (solo_of plan a places programs answers date) (solo_of plan b places programs answers date)
+SameSolo = (volumes : List (List ℕ)) (plan : JobPlan) (s t : Store) (places : List Place) (programs : List SoloProgram) (answers : SoloAnswers) (date : ℕ) →
+    IsWellFormedPlan plan → HasSoundGroups s → SamePart (names_of plan) s t →
+    AlikeRun (names_of plan) (solo_of (fixed_in volumes s plan places date) plan s programs answers) (solo_of (fixed_in volumes t plan places date) plan t programs answers)
 
 -- and so are those along given outcomes
 abbrev pub SameSoloPath : Type 0
-SameSoloPath = (plan : JobPlan) (a b : SoloStore) (places : List Place) (outcomes : List Outcome) (date : ℕ) → IsWellFormedPlan plan →
-    HasSoundGroups (store_of a) → a.volumes ≡ b.volumes → SamePart (names_of plan) (store_of a) (store_of b) →
-    AlikeRun (names_of plan) (solo_path_of plan a places outcomes date) (solo_path_of plan b places outcomes date)
+SameSoloPath = (volumes : List (List ℕ)) (plan : JobPlan) (s t : Store) (places : List Place) (outcomes : List Outcome) (date : ℕ) →
+    IsWellFormedPlan plan → HasSoundGroups s → SamePart (names_of plan) s t →
+    AlikeRun (names_of plan) (solo_path_of (fixed_in volumes s plan places date) plan s outcomes) (solo_path_of (fixed_in volumes t plan places date) plan t outcomes)
 
 -- What an action does stays within the names of its job.
 abbrev pub ActStays : Type 0

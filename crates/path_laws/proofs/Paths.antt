@@ -19,17 +19,17 @@ use Rattle.jcl_meaning.specs.Agendas.{Action, Ask, Finish, Left, Over, Receive, 
 use Rattle.jcl_meaning.specs.History.{IsStepOutcome}
 use Rattle.jcl_meaning.specs.Plans.{passes}
 use Rattle.jcl_meaning.specs.Programs.{ending_by, ending_in, ending_of, is_iefbr14, moves_of, program_of}
-use Rattle.jcl_meaning.specs.Solo.{answers_of, given, is_clean, run}
+use Rattle.jcl_meaning.specs.Solo.{answers_of, at_start, given, is_clean, run}
 use Rattle.jcl_meaning.specs.States.{Fixed, State}
 use Rattle.jcl_meaning.specs.Stores.{Store}
 use Rattle.jcl_meaning.specs.WellFormed.{AreWellFormedPrograms, IsRequest}
-use Rattle.path_laws.specs.Outcomes.{IsCleanForAll, at_start}
 use Rattle.path_laws.proofs.Alike.{Closed, Open, Same}
 use Rattle.path_laws.proofs.Asking.{ask_quiet, receive_quiet, stays_open}
 use Rattle.path_laws.proofs.Cleanly.{Clean, after, after_append, clean_is_run, clean_join, clean_split, run_is_clean}
 use Rattle.path_laws.proofs.Ending.{disposes_alike, finishes_alike, lefts_alike, outcome_good, outcome_of}
 use Rattle.path_laws.proofs.Shapes.{shaped_same}
 use Rattle.path_laws.proofs.Taking.{starts_alike, takes_alike}
+use Rattle.path_meaning.specs.Paths.{IsSafe}
 
 -- an outcome that a step may have
 abbrev in_range : Outcome → Outcome
@@ -234,7 +234,7 @@ endings_good programs h (step ∷ steps) =
     (ending_good programs h step.program) (endings_good programs h steps)
 
 pub clean_by_programs : (fixed : Fixed) (plan : JobPlan) (programs : List SoloProgram) (s : Store) (answers : SoloAnswers) → AreWellFormedPrograms programs →
-    IsCleanForAll fixed plan s → is_clean (run fixed (agenda plan programs) (at_start s (answers_of plan programs answers))) ≡ true
+    IsSafe fixed plan s → is_clean (run fixed (agenda plan programs) (at_start s (answers_of plan programs answers))) ≡ true
 clean_by_programs fixed plan programs s answers formed safe = by_choice (chosen fixed programs 1 plan.steps here)
   where
     here : State

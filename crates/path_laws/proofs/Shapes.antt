@@ -26,7 +26,7 @@ use Rattle.jcl_meaning.specs.declared.state.Passed.{Passed}
 use Rattle.jcl_meaning.specs.declared.state.TakenSet.{TakenSet}
 use Rattle.jcl_meaning.specs.declared.store.DataSet.{DataSet}
 use Rattle.jcl_meaning.specs.Dispositions.{catalogs, catalogs_by, changed, disposed_by, does, is_entered_on, unless_gone, word_does}
-use Rattle.jcl_meaning.specs.EndActs.{released}
+use Rattle.jcl_meaning.specs.EndActs.{tracks_released}
 use Rattle.jcl_meaning.specs.Names.{same_key, same_sign}
 use Rattle.jcl_meaning.specs.Stores.{Store, after_rolling, catalogued, cut, cut_at, generation_entered, generation_entered_by, group_of, is_later, is_unexpired, member_of, name_entered, rolled_off, scratched_unless, uncatalogued, uncatalogued_by, volume_of, with_entry, with_set, with_set_there}
 use Rattle.jcl_meaning.specs.Takes.{first_passed, is_there, passed_or_else, where_of}
@@ -236,11 +236,11 @@ cut_shaped : (s : Store) (key : Key) (serial : List ℕ) (o : Option DataSet) �
 cut_shaped s key serial None e = shaped_same s
 cut_shaped s key serial (Some set) e = rewritten s key serial set (cut set) e refl
 
-release_itself : (b : Bool) (s : Store) (key : Key) (serial : List ℕ) → Shaped (released b key serial s) s
+release_itself : (b : Bool) (s : Store) (key : Key) (serial : List ℕ) → Shaped (tracks_released b key serial s) s
 release_itself false s key serial = shaped_same s
 release_itself true s key serial = cut_shaped s key serial (s.set key serial) refl
 
-pub release_shaped : (b : Bool) (s t : Store) → Shaped s t → (key : Key) (serial : List ℕ) → Shaped (released b key serial s) (released b key serial t)
+pub release_shaped : (b : Bool) (s t : Store) → Shaped s t → (key : Key) (serial : List ℕ) → Shaped (tracks_released b key serial s) (tracks_released b key serial t)
 release_shaped b s t h key serial =
-    shaped_along (released b key serial s) s (released b key serial t) (release_itself b s key serial)
-    (shaped_along s t (released b key serial t) h (shaped_back (released b key serial t) t (release_itself b t key serial)))
+    shaped_along (tracks_released b key serial s) s (tracks_released b key serial t) (release_itself b s key serial)
+    (shaped_along s t (tracks_released b key serial t) h (shaped_back (tracks_released b key serial t) t (release_itself b t key serial)))

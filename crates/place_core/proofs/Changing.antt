@@ -4,7 +4,7 @@ use Rattle.std.specs.FinMap.{get}
 use Rattle.std.specs.Str.{bytes_eq}
 use Rattle.mount_core.specs.declared.place.KeptPlace.{KeptPlace}
 use Rattle.mount_core.specs.Mounts.{MountedState}
-use Rattle.shared_core.specs.Shown.{kept_on, mounted_in}
+use Rattle.shared_core.specs.Shown.{kept_extents, mounted_in}
 use Rattle.place_core.specs.Volumes.{changed_on}
 
 -- what leaves its volume as it is changes nothing
@@ -41,21 +41,21 @@ module _ (f g : MountedState → MountedState) (serial : List ℕ) (stays : (m :
 -- what is kept at a place that a change leaves alone
 module _ (f : MountedState → MountedState) (serial : List ℕ) (at : KeptPlace) (stays : (m : MountedState) → (f m).serial ≡ m.serial)
     (keeps : (m : MountedState) → get (f m).kept at ≡ get m.kept at) where
-  kept_first : (m : MountedState) (o p : Option MountedState) (a b : Bool) → a ≡ b → kept_on o at ≡ kept_on p at →
-      kept_on (cond a (Some (f m)) o) at ≡ kept_on (cond b (Some m) p) at
-  kept_first m o p a true e h = ap (λ c. kept_on (cond c (Some (f m)) o) at) e ∙ keeps m
-  kept_first m o p a false e h = ap (λ c. kept_on (cond c (Some (f m)) o) at) e ∙ h
+  kept_first : (m : MountedState) (o p : Option MountedState) (a b : Bool) → a ≡ b → kept_extents o at ≡ kept_extents p at →
+      kept_extents (cond a (Some (f m)) o) at ≡ kept_extents (cond b (Some m) p) at
+  kept_first m o p a true e h = ap (λ c. kept_extents (cond c (Some (f m)) o) at) e ∙ keeps m
+  kept_first m o p a false e h = ap (λ c. kept_extents (cond c (Some (f m)) o) at) e ∙ h
 
-  kept_behind : (m : MountedState) (o p : Option MountedState) (b : Bool) → kept_on o at ≡ kept_on p at → kept_on (cond b (Some m) o) at ≡ kept_on (cond b (Some m) p) at
+  kept_behind : (m : MountedState) (o p : Option MountedState) (b : Bool) → kept_extents o at ≡ kept_extents p at → kept_extents (cond b (Some m) o) at ≡ kept_extents (cond b (Some m) p) at
   kept_behind m o p true h = refl
   kept_behind m o p false h = h
 
-  kept_step : (v : List ℕ) (m : MountedState) (ms : List MountedState) (b : Bool) → kept_on (mounted_in (changed_on f serial ms) v) at ≡ kept_on (mounted_in ms v) at →
-      kept_on (mounted_in (cond b (f m ∷ ms) (m ∷ changed_on f serial ms)) v) at ≡ kept_on (mounted_in (m ∷ ms) v) at
+  kept_step : (v : List ℕ) (m : MountedState) (ms : List MountedState) (b : Bool) → kept_extents (mounted_in (changed_on f serial ms) v) at ≡ kept_extents (mounted_in ms v) at →
+      kept_extents (mounted_in (cond b (f m ∷ ms) (m ∷ changed_on f serial ms)) v) at ≡ kept_extents (mounted_in (m ∷ ms) v) at
   kept_step v m ms true h =
       kept_first m (mounted_in ms v) (mounted_in ms v) (bytes_eq (f m).serial v) (bytes_eq m.serial v) (ap (λ s. bytes_eq s v) (stays m)) refl
   kept_step v m ms false h = kept_behind m (mounted_in (changed_on f serial ms) v) (mounted_in ms v) (bytes_eq m.serial v) h
 
-  pub kept_alike : (v : List ℕ) (volumes : List MountedState) → kept_on (mounted_in (changed_on f serial volumes) v) at ≡ kept_on (mounted_in volumes v) at
+  pub kept_alike : (v : List ℕ) (volumes : List MountedState) → kept_extents (mounted_in (changed_on f serial volumes) v) at ≡ kept_extents (mounted_in volumes v) at
   kept_alike v [] = refl
   kept_alike v (m ∷ ms) = kept_step v m ms (bytes_eq m.serial serial) (kept_alike v ms)

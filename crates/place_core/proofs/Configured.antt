@@ -65,8 +65,8 @@ module _ (volumes : List MountedState) (n job step dd : ℕ) where
   by_volume (volume.OfName name) listed = refl
   by_volume (volume.OfDd s d) listed = refl
 
-  by_status : (c : Config) (p : SetPlan) (b : Bool) → PlacedIf b c step dd p (spot (chosen volumes n (cond b (candidates p.volume (unit_volumes c p.units)) [])) here)
-  by_status c p true = by_volume p.volume (unit_volumes c p.units)
+  by_status : (c : Config) (p : SetPlan) (b : Bool) → PlacedIf b c step dd p (spot (chosen volumes n (cond b (candidates p.volume (unit_volumes c.volumes c.units p.units)) [])) here)
+  by_status c p true = by_volume p.volume (unit_volumes c.volumes c.units p.units)
   by_status c p false = refl
 
 one_dd : (c : Config) (volumes : List MountedState) (job step dd : ℕ) (kind : DdKind) →

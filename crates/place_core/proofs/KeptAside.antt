@@ -11,7 +11,7 @@ use Rattle.vtoc_core.proofs.KindLemmas.{marked_back}
 use Rattle.vtoc_core.proofs.PlanLemmas.{planned_is, planned_some}
 use Rattle.mount_core.specs.declared.place.KeptPlace.{KeptPlace}
 use Rattle.mount_core.specs.Kept.{place_cmp}
-use Rattle.mount_core.specs.Mounts.{MountedState, given_back, kept_for}
+use Rattle.mount_core.specs.Mounts.{MountedState, kept_given_back, kept_for}
 use Rattle.mount_core.proofs.KeptMaps.{get_inserted, remove-insert, tied_equal}
 use Rattle.mount_core.proofs.Places.{place_total}
 use Rattle.place_core.specs.Volumes.{aside_by, aside_on, back_on, has_room}
@@ -64,14 +64,14 @@ module _ (at : KeptPlace) (n : ℕ) (m : MountedState) where
   Returns x = back_on at x ≡ m
 
   nothing_back : get m.kept at ≡ None → Returns m
-  nothing_back none = ap (λ o. given_back o m at) none
+  nothing_back none = ap (λ o. kept_given_back o m at) none
 
   back_by : get m.kept at ≡ None → (o : Option (List Extent)) → planned free_here n ≡ o → Returns (aside_by o at m)
   back_by none None p = nothing_back none
   back_by none (Some list) p =
       let tracks : marked Free list (marked Aside list m.volume.tracks) ≡ m.volume.tracks =
       marked_back Aside Free list m.volume.tracks (planned_is m.volume.tracks n list p).free in
-      ap (λ o. given_back o (kept_for m at list) at) (get_inserted m.kept at list)
+      ap (λ o. kept_given_back o (kept_for m at list) at) (get_inserted m.kept at list)
       ∙ (λ i. record { serial = m.serial; volume = record { tracks = tracks i; sets = m.volume.sets }; kept = remove-insert m.kept at list none i })
 
   back_if : (b : Bool) (x : MountedState) → Returns m → Returns x → Returns (cond b m x)

@@ -4,7 +4,7 @@ use Rattle.jcl_meaning.specs.declared.state.Place.{Place}
 use Rattle.mount_core.specs.declared.place.KeptPlace.{KeptPlace}
 use Rattle.mount_core.specs.Mounts.{MountedState}
 use Rattle.shared_core.specs.Rooms.{kept_place}
-use Rattle.shared_core.specs.Shown.{kept_on}
+use Rattle.shared_core.specs.Shown.{kept_extents}
 use Rattle.place_core.specs.Placings.{IsAhead, IsClearFrom, spot}
 use Rattle.place_core.specs.Volumes.{IsClear, all_back, aside_at, aside_on, back_on, changed_on}
 use Rattle.place_core.proofs.KeptAside.{aside_back, others_stay, serial_stays}
@@ -21,7 +21,7 @@ pub aside_undone : (volumes : List MountedState) (at : KeptPlace) (n : ℕ) (ser
     changed_on (back_on at) serial (changed_on (aside_on at n) serial volumes) ≡ volumes
 aside_undone volumes at n serial clear =
     undone (aside_on at n) (back_on at) serial (serial_stays at n) volumes
-    (λ x e. aside_back at n x (sym (ap (λ o. kept_on o at) e) ∙ clear serial))
+    (λ x e. aside_back at n x (sym (ap (λ o. kept_extents o at) e) ∙ clear serial))
 
 pub spot_undone : (job step dd n : ℕ) (o : Option (List ℕ)) (places : List Place) (volumes : List MountedState) →
     IsClear volumes (record { job = job; step = step; dd = dd }) →

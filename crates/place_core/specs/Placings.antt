@@ -10,18 +10,13 @@ use Rattle.jcl_plan.specs.declared.plan.VolumePlan.{VolumePlan}
 use Rattle.jcl_plan.specs.declared.plan.VolumePlan.TheVariants as volume
 use Rattle.jcl_meaning.specs.declared.state.Place.{Place}
 use Rattle.world_meaning.specs.Admissions.{primary_asked}
-use Rattle.world_meaning.specs.Placements.{ArePlaces, places}
+use Rattle.world_meaning.specs.Placements.{ArePlaces, places, unit_volumes}
 use Rattle.world_meaning.specs.Worlds.{Config}
 use Rattle.mount_core.specs.declared.place.KeptPlace.{KeptPlace}
 use Rattle.mount_core.specs.Mounts.{MountedState}
 use Rattle.shared_core.specs.declared.store.SharedStore.{SharedStore}
-use Rattle.shared_core.specs.Shown.{kept_on, mounted_in}
+use Rattle.shared_core.specs.Shown.{kept_extents, mounted_in}
 use Rattle.place_core.specs.Volumes.{aside_at, has_room}
-
--- the volumes of a unit name by its number, of those of each; without one all
-abbrev pub listed_for : List (List ℕ) → List (List (List ℕ)) → Option ℕ → List (List ℕ)
-listed_for all units None = all
-listed_for all units (Some number) = slice_index_or units (number - 1) []
 
 -- the volumes on which a DD's set may be placed, of those that are listed for its unit: a volume that is coded alone, and none where VOL is a reference
 abbrev pub candidates : VolumePlan → List (List ℕ) → List (List ℕ)
@@ -35,7 +30,7 @@ abbrev pub volumes_for : List (List ℕ) → List (List (List ℕ)) → DdKind �
 volumes_for all units (Sysout class) = []
 volumes_for all units Dummy = []
 volumes_for all units (Cards cards) = []
-volumes_for all units (Set p) = if places p.status p.volume then candidates p.volume (listed_for all units p.units) else []
+volumes_for all units (Set p) = if places p.status p.volume then candidates p.volume (unit_volumes all units p.units) else []
 
 -- the first of these volumes that has room, or else another
 abbrev pub first_with_room : List MountedState → ℕ → List ℕ → List (List ℕ) → List ℕ
@@ -99,8 +94,8 @@ IsAhead job step dd at = (at.job ≡ job) × ((step < at.step) ⊎ ((at.step ≡
 
 -- nothing is set aside there
 abbrev pub IsClearFrom : List MountedState → ℕ → ℕ → ℕ → Type 0
-IsClearFrom volumes job step dd = (serial : List ℕ) (at : KeptPlace) → IsAhead job step dd at → kept_on (mounted_in volumes serial) at ≡ None
+IsClearFrom volumes job step dd = (serial : List ℕ) (at : KeptPlace) → IsAhead job step dd at → kept_extents (mounted_in volumes serial) at ≡ None
 
 -- no tracks are kept for a job
 abbrev pub NothingKeptFor : ℕ → SharedStore → Type 0
-NothingKeptFor job s = (serial : List ℕ) (at : KeptPlace) → at.job ≡ job → kept_on (mounted_in s.volumes serial) at ≡ None
+NothingKeptFor job s = (serial : List ℕ) (at : KeptPlace) → at.job ≡ job → kept_extents (mounted_in s.volumes serial) at ≡ None

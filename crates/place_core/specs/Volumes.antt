@@ -6,9 +6,9 @@ use Rattle.extent_core.specs.declared.extent.Extent.{Extent}
 use Rattle.vtoc_core.specs.Extents.{five_largest, free_extents, planned}
 use Rattle.jcl_meaning.specs.declared.state.Place.{Place}
 use Rattle.mount_core.specs.declared.place.KeptPlace.{KeptPlace}
-use Rattle.mount_core.specs.Mounts.{MountedState, given_back, kept_for}
+use Rattle.mount_core.specs.Mounts.{MountedState, kept_given_back, kept_for}
 use Rattle.shared_core.specs.Rooms.{kept_place}
-use Rattle.shared_core.specs.Shown.{kept_on, mounted_in}
+use Rattle.shared_core.specs.Shown.{kept_extents, mounted_in}
 
 -- so many tracks can be set aside on a volume; none where there is no volume
 abbrev pub has_room : ℕ → Option MountedState → Bool
@@ -34,7 +34,7 @@ aside_at (Some serial) at n volumes = changed_on (aside_on at n) serial volumes
 
 -- what is set aside at a place given back
 abbrev pub back_on : KeptPlace → MountedState → MountedState
-back_on at m = given_back (get m.kept at) m at
+back_on at m = kept_given_back (get m.kept at) m at
 
 -- what was set aside for the sets of a job at these places given back, the last first
 abbrev pub all_back : ℕ → List Place → List MountedState → List MountedState
@@ -43,7 +43,7 @@ all_back job (p ∷ places) volumes = changed_on (back_on (kept_place job p)) p.
 
 -- nothing is set aside at a place on any volume
 abbrev pub IsClear : List MountedState → KeptPlace → Type 0
-IsClear volumes at = (serial : List ℕ) → kept_on (mounted_in volumes serial) at ≡ None
+IsClear volumes at = (serial : List ℕ) → kept_extents (mounted_in volumes serial) at ≡ None
 
 -- The volume of a serial is the one at this place of the list.
 pub record StandsAt (volumes : List MountedState) (serial : List ℕ) (place : ℕ) : Type 0 where

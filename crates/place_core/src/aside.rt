@@ -1,7 +1,7 @@
 //! Tracks set aside on the volume of a serial, and given back.
 ghost use Rattle.std.specs.Prelude.{◌≡◌, ℕ, ◌<◌, None, IfNone, IfOk, IfSome, OnErr, OnOk};
 ghost use Rattle.shared_core.specs.Rooms.{kept_place};
-ghost use Rattle.shared_core.specs.Shown.{kept_on, mounted_in};
+ghost use Rattle.shared_core.specs.Shown.{kept_extents, mounted_in};
 ghost use Rattle.place_core.specs.Placings.{chosen};
 ghost use Rattle.place_core.specs.Volumes.{IsClear, IsMissing, StandsAt, all_back, aside_at, aside_on, back_on, changed_on, has_room};
 
@@ -29,7 +29,7 @@ fn set_aside(
     tracks: u16,
 ) -> Result<bool, AllocError>
     requires some { 0 < tracks }
-    requires clear { kept_on (mounted_in volumes.old serial) at ≡ None }
+    requires clear { kept_extents (mounted_in volumes.old serial) at ≡ None }
     ensures room { IfOk result (λ room. room ≡ has_room tracks (mounted_in volumes.old serial)) }
     ensures ok { OnOk result (volumes.new ≡ changed_on (aside_on at tracks) serial volumes.old) }
     ensures err { OnErr result (volumes.new ≡ volumes.old) }

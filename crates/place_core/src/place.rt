@@ -8,7 +8,7 @@ ghost use Rattle.place_core.specs.Placings.{placing, serials_of};
 ghost use Rattle.place_core.specs.Volumes.{IsClear, all_back};
 
 use crate::aside::{aside_among, give_all_back, give_back};
-use crate::rule::{is_placed, listed_for, primary_of};
+use crate::rule::{is_placed, primary_of, unit_volumes};
 use jcl_meaning::state::Place;
 use jcl_plan::plan::{DdKind, DdPlan, JobPlan, SetPlan, StepPlan, VolumePlan};
 use jname_core::serial::Serial;
@@ -85,7 +85,7 @@ fn place_set(
     if !is_placed(plan.status, &plan.volume) {
         return Ok(());
     }
-    let listed = listed_for(all, units, plan.units);
+    let listed = unit_volumes(all, units, plan.units);
     let tracks = primary_of(&plan.space);
     place_by(volumes, places, &plan.volume, listed, at, tracks)
 }

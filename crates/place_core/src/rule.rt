@@ -2,7 +2,7 @@
 ghost use Rattle.std.specs.Prelude.{◌≡◌};
 ghost use Rattle.jcl_meaning.specs.Takes.{primary_of};
 ghost use Rattle.world_meaning.specs.Placements.{places};
-ghost use Rattle.place_core.specs.Placings.{listed_for};
+ghost use Rattle.world_meaning.specs.Placements.{unit_volumes};
 
 use jcl_plan::plan::{Space, Status, VolumePlan};
 use jname_core::serial::Serial;
@@ -26,12 +26,12 @@ pub(crate) fn is_placed(status: Status, volume: &VolumePlan) -> bool
 }
 
 /// The volumes of a unit name by its number from 1; without one all.
-pub(crate) fn listed_for<'a>(
+pub(crate) fn unit_volumes<'a>(
     all: &'a [Serial],
     units: &'a [Listed<Serial>],
     number: Option<u16>,
 ) -> &'a [Serial]
-    ensures { result.now ≡ listed_for all.now units.now number }
+    ensures { result.now ≡ unit_volumes all.now units.now number }
 {
     let Some(number) = number else {
         return all;

@@ -31,7 +31,7 @@ use Rattle.cb_meaning.specs.Writable.{IsBefore}
 use Rattle.jcl_refs.specs.declared.targets.Target.{Target}
 use Rattle.jcl_refs.specs.LaterDds.{has_name}
 use Rattle.jcl_refs.specs.Plans.{Led, Naming, Names, MakesDummy, NamesNothing, Nowhere, Own, OwnCards, OwnDummy, OwnSet, OwnSysout, Spot, ToDummy, ToSet, by_fault, kind_at, kind_of, kind_with, kinds_from, led, led_by, naming, naming_by, own_kind, spot, volume_by, volume_plan}
-use Rattle.jcl_refs.specs.Targets.{dds_of, earlier_step, in_earlier, looks_forward, missing, place_of, target_of}
+use Rattle.jcl_refs.specs.Targets.{dds_of, earlier_step, in_earlier, looks_forward, missing, dd_position, target_of}
 use Rattle.card_laws.specs.Ranges.{CodesName}
 use Rattle.deck_laws.proofs.Given.{same_ok}
 use Rattle.plan_laws.proofs.Places.{Extends, IsLast, look, look_in, more_there, was_there}
@@ -76,7 +76,7 @@ placed_from_one : (found : Option ℕ) (n : ℕ) → place_by found ≡ Some n �
 placed_from_one None n is = absurd (no_place n is)
 placed_from_one (Some m) n is = let e : m + 1 ≡ n = cc in omega (arith, e)
 
-place_from_one : (text : List ℕ) (dds : List DdCard) (n : ℕ) → place_of text dds ≡ Some n → 1 ≤ n
+place_from_one : (text : List ℕ) (dds : List DdCard) (n : ℕ) → dd_position text dds ≡ Some n → 1 ≤ n
 place_from_one text dds n is = placed_from_one (position (has_name text) dds) n is
 
 abbrev here_if : Bool → ℕ → ℕ → Result Target Cause
@@ -101,7 +101,7 @@ earlier_by_place s (Some n) = Some (record { step = s; dd = n })
 
 abbrev earlier_by : List ℕ → List FlatStep → Option ℕ → Option Target
 earlier_by text steps None = None
-earlier_by text steps (Some s) = earlier_by_place s (place_of text (dds_of steps s))
+earlier_by text steps (Some s) = earlier_by_place s (dd_position text (dds_of steps s))
 
 abbrev earlier_or : Cause → Option Target → Result Target Cause
 earlier_or fault None = Err fault
@@ -117,14 +117,14 @@ stands_earlier : (fault : Cause) (text : List ℕ) (steps : List FlatStep) (k d 
     AllStand k d (earlier_or fault (earlier_by text steps found))
 stands_earlier fault text steps k d None at t is = absurd (wrong fault t is)
 stands_earlier fault text steps k d (Some s) at t is =
-    stands_at fault k d s (place_of text (dds_of steps s)) (at s refl) (place_from_one text (dds_of steps s)) t is
+    stands_at fault k d s (dd_position text (dds_of steps s)) (at s refl) (place_from_one text (dds_of steps s)) t is
 
 stands_in_earlier : (call : Option ℕ) (s : StepReference) (text : List ℕ) (k d : ℕ) (steps : List FlatStep) → AllStand k d (in_earlier call s text k steps)
 stands_in_earlier call s text k d steps =
     stands_earlier (missing (looks_forward call s text k steps)) text steps k d (earlier_step call s k steps) (step_between call s k steps)
 
 target_stands : (call : Option ℕ) (k d : ℕ) (steps : List FlatStep) (r : DdReference) → 1 ≤ k → AllStand k d (target_of call k d steps r)
-target_stands call k d steps (reference.Dd text) one = stands_here k d (place_of text (dds_of steps k)) one (place_from_one text (dds_of steps k))
+target_stands call k d steps (reference.Dd text) one = stands_here k d (dd_position text (dds_of steps k)) one (place_from_one text (dds_of steps k))
 target_stands call k d steps (reference.OfStep s text) one = stands_in_earlier call (step.Step s) text k d steps
 target_stands call k d steps (reference.OfProcedureStep s p text) one = stands_in_earlier call (step.ProcedureStep s p) text k d steps
 

@@ -4,7 +4,7 @@ use Rattle.proc_library.specs.declared.library.LibraryProcedure.{LibraryProcedur
 use Rattle.card_core.specs.declared.fault.CardFault.{CardFault}
 use Rattle.card_core.specs.declared.statement.Statement.{Statement}
 use Rattle.card_core.specs.Deck.{statements_of}
-use Rattle.card_core.specs.Numbers.{number_of}
+use Rattle.card_core.specs.RefusalNumbers.{number_of}
 use Rattle.jcl_plan.specs.declared.fault.Cause.{Cause}
 use Rattle.jcl_plan.specs.declared.fault.Cause.TheVariants.{C}
 use Rattle.jcl_plan.specs.declared.plan.JobPlan.{JobPlan}

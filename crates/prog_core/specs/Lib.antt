@@ -1,4 +1,4 @@
 pub mod Moves
-pub mod Numbers
+pub mod RefusalNumbers
 pub mod Operations
 pub mod Places

@@ -1,6 +1,6 @@
 //! What is refused of the operations on volumes.
 ghost use Rattle.std.specs.Prelude.{◌≡◌};
-ghost use Rattle.prog_core.specs.Numbers.{number_of};
+ghost use Rattle.prog_core.specs.RefusalNumbers.{number_of};
 
 use thiserror::Error;
 

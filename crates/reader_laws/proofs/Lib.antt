@@ -12,7 +12,7 @@ mod Laws
 mod Lines
 mod NamedStatements
 mod Names
-mod Numbers
+mod Decimals
 mod OperandExamples
 mod Operands
 mod Places

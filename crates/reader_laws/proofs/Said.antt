@@ -18,7 +18,7 @@ use Rattle.reader_laws.specs.SpelledSessions.{class_characters, is_unit, times}
 use Rattle.reader_laws.specs.WrittenCards.{blanks, is_blank, is_empty}
 use Rattle.reader_laws.proofs.Fields.{is_false, is_field, no_position, none_pass, position_is, spaced_are}
 use Rattle.reader_laws.proofs.Names.{all_among, among_passes, name_all, neither, none_of, none_other, not_zero}
-use Rattle.reader_laws.proofs.Numbers.{Spells, more_zeros, spelled, within_is}
+use Rattle.reader_laws.proofs.Decimals.{Spells, more_zeros, spelled, within_is}
 
 -- what a field is made of
 abbrev pub is_good : ℕ → Bool

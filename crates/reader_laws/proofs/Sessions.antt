@@ -27,11 +27,11 @@ use Rattle.session_text.specs.Records.{filled}
 use Rattle.session_text.specs.Statements.{bad, behind_end, block_to, by_line, cancel_with, configures, device_end_with, group_with, initiator_with, is_end, is_end_by, program_with, says_of, set_with, statement_at, statements_from, statements_of, turns_with, unit_with, volume_with, writes_with}
 use Rattle.reader_laws.specs.Spelled.{component_characters, name_characters}
 use Rattle.reader_laws.specs.SpelledForms.{Form, is_card, is_of_line, line_with, number}
-use Rattle.reader_laws.specs.SpelledSessions.{IsConfigured, IsSaid, Spelled, block_of, config_block, config_fields, fields_of, lines_of, numbered, text_of, times, to_end}
+use Rattle.reader_laws.specs.SpelledSessions.{IsConfigStatement, IsSaid, Spelled, block_of, config_block, config_fields, fields_of, lines_of, numbered, text_of, times, to_end}
 use Rattle.reader_laws.specs.SpelledStores.{flag_field, request_line, used_fields}
 use Rattle.reader_laws.proofs.Fields.{is_false, position_is, spaced_are}
 use Rattle.reader_laws.proofs.Names.{name_is}
-use Rattle.reader_laws.proofs.Numbers.{within_is}
+use Rattle.reader_laws.proofs.Decimals.{within_is}
 use Rattle.reader_laws.proofs.Said.{class_good, class_is, class_no_star, is_good_field, line_of_line, line_says, listed_is, name_good, no_bad_serial, number_good, number_no_star, serials_good, times_are, times_good, unit_is, word_good}
 use Rattle.reader_laws.proofs.Stores.{filled_records, flag_good, flag_is, kept_records, lines_are_cards, name_read, requests_are, serial_read, set_name_good, set_name_read, used_good, used_is}
 use Rattle.reader_laws.proofs.TextLines.{lines_are}
@@ -49,7 +49,7 @@ two_with_flag : (a b c more : Bool) → a ≡ true → b ≡ true → c ≡ true
 two_with_flag a b c more h k l m = λ i. h i && (k i && (l i && m i))
 
 -- the fields of what can be said are fields
-config_good : (form : Form) (s : ConfigStatement) → IsConfigured s → list_all is_good_field (config_fields form s) ≡ true
+config_good : (form : Form) (s : ConfigStatement) → IsConfigStatement s → list_all is_good_field (config_fields form s) ≡ true
 config_good form (config.Volume serial tracks used) h =
     let k : tracks ≤ 65535 = h.1 in
     with_flag (is_good_field serial) (is_good_field (number form tracks)) _ (word_good 6 component_characters serial refl h.0)
@@ -107,7 +107,7 @@ line_of (says.Events (event.Cancel job) n) = LineSays.One (says.Events (event.Ca
 line_of (says.Events event.Display n) = LineSays.One (says.Events event.Display n)
 line_of (says.Refused fault) = LineSays.One (says.Refused fault)
 
-config_said : (form : Form) (s : ConfigStatement) → IsConfigured s → says_of (line_with form (config_fields form s)) ≡ config_line s
+config_said : (form : Form) (s : ConfigStatement) → IsConfigStatement s → says_of (line_with form (config_fields form s)) ≡ config_line s
 config_said form (config.Volume serial tracks used) h =
     let k : tracks ≤ 65535 = h.1 in
     line_says form (codes "VOLUME") (serial ∷ number form tracks ∷ used_fields form used) (config_good form (config.Volume serial tracks used) h)
@@ -238,7 +238,7 @@ whole_block n form row block cards rest h all =
     ∙ one_block n row block cards (end_of form) rest h (no_ends cards all) (end_is form)
     ∙ ap (λ (m : ℕ). statement_at n (block_says block cards) ∷ statements_from Whole m rest) place
 
-config_is : (n : ℕ) (form : Form) (s : ConfigStatement) (rest : List (List ℕ)) → IsConfigured s →
+config_is : (n : ℕ) (form : Form) (s : ConfigStatement) (rest : List (List ℕ)) → IsConfigStatement s →
     statements_from Whole n (line_with form (config_fields form s) ∷ (config_block form s ++ rest))
     ≡ statement_at n (configures s) ∷ statements_from Whole (n + suc (length (config_block form s))) rest
 config_is n form (config.Volume serial tracks used) rest h =
@@ -295,7 +295,7 @@ to_end_is form cards h =
     ∙ ap (λ (b : Bool). b && (list_all is_of_line (end_of form) && true)) (cards_of_line cards h)
     ∙ ap (λ (b : Bool). b && true) (line_of_line form (codes "END" ∷ []) refl)
 
-config_block_is : (form : Form) (s : ConfigStatement) → IsConfigured s → list_all (list_all is_of_line) (config_block form s) ≡ true
+config_block_is : (form : Form) (s : ConfigStatement) → IsConfigStatement s → list_all (list_all is_of_line) (config_block form s) ≡ true
 config_block_is form (config.Volume serial tracks used) h = refl
 config_block_is form (config.Unit name serials) h = refl
 config_block_is form (config.Group base limit scratch) h = refl

@@ -26,7 +26,7 @@ use Rattle.reader_laws.specs.SpelledOperands.{is_plain}
 use Rattle.reader_laws.specs.WrittenCards.{is_empty}
 use Rattle.reader_laws.proofs.NamedStatements.{both, class_good, class_plain, is_not, name_faultless, name_plain, name_short, name_written, not_long, plain_value, text_is}
 use Rattle.reader_laws.proofs.Names.{among_passes, name_all, name_is, not_zero}
-use Rattle.reader_laws.proofs.Numbers.{more_zeros, spelled as spelled_number, within_is}
+use Rattle.reader_laws.proofs.Decimals.{more_zeros, spelled as spelled_number, within_is}
 use Rattle.reader_laws.proofs.Operands.{operand_is}
 use Rattle.reader_laws.proofs.Said.{each}
 

@@ -24,7 +24,7 @@ use Rattle.reader_laws.specs.WrittenCards.{blanks, has_no_blank, is_blank, is_em
 use Rattle.reader_laws.proofs.Fields.{behind_blanks, is_false, no_position, none_pass, position_is, spaced_are}
 use Rattle.reader_laws.proofs.Fronts.{all_replicate, behind_is, front_is, stops}
 use Rattle.reader_laws.proofs.Names.{ds_name_within, joined_all, name_is, none_of}
-use Rattle.reader_laws.proofs.Numbers.{within_is}
+use Rattle.reader_laws.proofs.Decimals.{within_is}
 use Rattle.reader_laws.proofs.Said.{both, each, good_is_field, good_is_of_line, is_good, is_good_field, all_both, before_something, name_good, number_good, number_spells, serial_is, spaced_of_line}
 
 -- a word at the end of a line

@@ -88,20 +88,20 @@ is_nonempty [] = false
 is_nonempty (x ∷ xs) = true
 
 -- what can be spelled
-abbrev pub IsConfigured : ConfigStatement → Type 0
-IsConfigured (config.Volume serial tracks used) = (is_serial serial ≡ true) × (tracks ≤ 65535) × (list_all is_extent used ≡ true)
-IsConfigured (config.Unit name serials) = (is_unit name ≡ true) × (is_nonempty serials ≡ true) × (list_all is_serial serials ≡ true)
-IsConfigured (config.Group base limit scratch) = IsSetName 35 base × (limit ≤ 65535)
-IsConfigured (config.Set set) =
+abbrev pub IsConfigStatement : ConfigStatement → Type 0
+IsConfigStatement (config.Volume serial tracks used) = (is_serial serial ≡ true) × (tracks ≤ 65535) × (list_all is_extent used ≡ true)
+IsConfigStatement (config.Unit name serials) = (is_unit name ≡ true) × (is_nonempty serials ≡ true) × (list_all is_serial serials ≡ true)
+IsConfigStatement (config.Group base limit scratch) = IsSetName 35 base × (limit ≤ 65535)
+IsConfigStatement (config.Set set) =
     IsSetName 44 set.name × (is_serial set.serial ≡ true) × (set.tracks ≤ 65535) × (list_all is_record set.records ≡ true)
     × (list_all is_card set.records ≡ true)
-IsConfigured (config.Procedure name lines) = (is_name name ≡ true) × (list_all is_card lines ≡ true)
-IsConfigured (config.Program name requests) = (is_name name ≡ true) × (list_all is_request requests ≡ true) × (is_ended requests ≡ true)
-IsConfigured (config.Initiator n classes) = (n ≤ 65535) × (is_word 8 (codes "ABCDEFGHIJKLMNO") classes ≡ true)
+IsConfigStatement (config.Procedure name lines) = (is_name name ≡ true) × (list_all is_card lines ≡ true)
+IsConfigStatement (config.Program name requests) = (is_name name ≡ true) × (list_all is_request requests ≡ true) × (is_ended requests ≡ true)
+IsConfigStatement (config.Initiator n classes) = (n ≤ 65535) × (is_word 8 (codes "ABCDEFGHIJKLMNO") classes ≡ true)
 
 -- every block has its END
 abbrev pub IsSaid : Says → Type 0
-IsSaid (says.Config statement true) = IsConfigured statement
+IsSaid (says.Config statement true) = IsConfigStatement statement
 IsSaid (says.Config statement false) = ⊥
 IsSaid (says.Events (event.Read cards) n) = (n ≡ 1) × (list_all is_card cards ≡ true)
 IsSaid (says.Events (event.Turn i) n) = (1 ≤ i) × (i ≤ 15) × (1 ≤ n) × (n ≤ 9999)

@@ -4,3 +4,5 @@
 pub mod check;
 pub mod escapes;
 pub mod table;
+pub mod told;
+pub mod words;

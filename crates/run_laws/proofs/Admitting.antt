@@ -15,7 +15,7 @@ use Rattle.jcl_meaning.specs.Solo.{nothing_own}
 use Rattle.jcl_meaning.specs.States.{Fixed}
 use Rattle.world_meaning.specs.declared.event.Event.{Event}
 use Rattle.world_meaning.specs.declared.event.Event.TheVariants as event
-use Rattle.world_meaning.specs.Admissions.{Answered, IsSafe, MayFail, assured, fixed_at, no_space, refused, risk, risky, too_many, unchecked}
+use Rattle.world_meaning.specs.Admissions.{Answered, MayFail, assured, fixed_at, no_space, refused, risk, risky, too_many, unchecked}
 use Rattle.world_meaning.specs.Cancels.{admitted as cancels_admitted, no_job, selected as cancels_selected, waiting as cancels_waiting}
 use Rattle.world_meaning.specs.Devices.{ended, idle, no_volume, nothing_written, wrote}
 use Rattle.world_meaning.specs.Displays.{queue_line, set, volume_line}
@@ -32,6 +32,7 @@ use Rattle.world_laws.proofs.Beside.{set_here}
 use Rattle.run_laws.specs.Soundness.{RunsAt}
 use Rattle.run_laws.proofs.Over.{advance_stands, unassured}
 use Rattle.run_laws.proofs.PlainLines.{is_assured}
+use Rattle.path_meaning.specs.Paths.{IsSafe}
 
 -- what is known at the line
 pub record IsAdmitted (w v : World) (job actions : ℕ) : Type 0 where

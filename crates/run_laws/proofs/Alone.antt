@@ -4,11 +4,12 @@ use Rattle.std.specs.Prelude.{All, not, filter, slice_get}
 use Rattle.std.specs.List.{Contains}
 use Rattle.std.proofs.lemmas.Bool.{both_ways, eq-eqb}
 use Rattle.std.proofs.lemmas.List.Elements.{All-contains, All-filter, All-head, All-push, All-tail, All-weaker, filter_passes}
-use Rattle.world_meaning.specs.Starts.{AreInOrder, Differ}
+use Rattle.world_meaning.specs.Starts.{AreInOrder}
 use Rattle.world_meaning.specs.Worlds.{Initiator, IsAt, Running, Shared, Waiting, World, with_running, without_waiting}
 use Rattle.run_laws.specs.Soundness.{IsSound, IsThereAlone, RunsAt}
 use Rattle.run_laws.proofs.Moves.{Left, Moved, ended_early, enters, goes, named, over, picks, still, turn_left, turns, unqueued}
 use Rattle.run_laws.proofs.Places.{WasAt, here, runs_cases, runs_same, there}
+use Rattle.plain.specs.Lists.{Differ}
 
 -- a job's turn leaves it, or none
 pub job_left : (old : World) (q : Running) (shared : Shared) (runs : Option Running) → Left old.config old.shared q shared runs → (r : Running) →

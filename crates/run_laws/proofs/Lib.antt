@@ -1,3 +1,5 @@
+mod Acting
+pub mod AssuredAlone
 pub mod Admitting
 pub mod Alone
 pub mod Elements
@@ -5,6 +7,7 @@ pub mod Fitting
 pub mod Following
 pub mod Gone
 pub mod Holding
+pub mod Keeping
 pub mod Moves
 pub mod NextTurns
 pub mod Over

@@ -18,7 +18,6 @@ use Rattle.world_meaning.specs.declared.event.Event.TheVariants as event
 use Rattle.world_meaning.specs.Cancels.{is_admitted}
 use Rattle.world_meaning.specs.Lenses.{WorldStore, put_back, seen}
 use Rattle.world_meaning.specs.Readings.{Denoting}
-use Rattle.world_meaning.specs.Starts.{Differ}
 use Rattle.world_meaning.specs.Transitions.{Acts, Does, Goes, GoesOn, Happens, Transition, Turns, acts, past, taken, unknown}
 use Rattle.world_meaning.specs.Turns.{Advanced, Advances, acts as does_act, advance, advanced, answers_due, ends, has_cancel, is_over, state_in, waits}
 use Rattle.world_meaning.specs.Worlds.{Admission, Admitted, Config, Initiator, IsAt, Named, Running, Selected, Shared, Stage, Wanting, World, counted, of_job, with_running}
@@ -29,6 +28,7 @@ use Rattle.run_laws.specs.Soundness.{IsSound, RunsAt, named_plan}
 use Rattle.run_laws.proofs.Gone.{IsGone}
 use Rattle.run_laws.proofs.Places.{WasAt, here, one_running, runs_cases, there}
 use Rattle.run_laws.proofs.Voices.{Voice, ends_early, has_turn, heard, is_read, of_own, voice, waits as is_queued}
+use Rattle.plain.specs.Lists.{Differ}
 
 -- an initiator has one place
 no_other : (ns : List ℕ) (n : ℕ) (k : ℕ) → All (λ m. n ≢ m) ns → slice_get ns k ≡ Some n → ⊥

@@ -4,7 +4,7 @@ use Rattle.jcl_plan.specs.declared.entry.Entry.{Entry}
 use Rattle.jcl_meaning.specs.WellFormed.{AreWellFormedPrograms}
 use Rattle.world_meaning.specs.declared.event.Event.{Event}
 use Rattle.world_meaning.specs.Readings.{Denoting}
-use Rattle.world_meaning.specs.Records.{HasOwnLink}
+use Rattle.world_meaning.specs.Records.{IsQueueLayout}
 use Rattle.world_meaning.specs.Transitions.{Runs, Transition}
 use Rattle.world_meaning.specs.Worlds.{Config, World}
 use Rattle.world_laws.proofs.Effects.{changes}
@@ -20,7 +20,7 @@ sound_behind job_of old new e lines s t =
     let config : new.config ≡ old.config = (changes job_of old new e lines t).config in
     let m : Moved old new = moved job_of old new e lines t in
     record {
-      layout = subst (λ (k : Config). HasOwnLink k.layout) (sym config) s.layout;
+      layout = subst (λ (k : Config). IsQueueLayout k.layout) (sym config) s.layout;
       programs = subst (λ (k : Config). AreWellFormedPrograms k.programs) (sym config) s.programs;
       initiators = numbers_kept old new s m;
       in_order = in_order_kept old new s m;

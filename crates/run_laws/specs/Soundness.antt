@@ -13,11 +13,12 @@ use Rattle.world_meaning.specs.declared.event.Event.{Event}
 use Rattle.world_meaning.specs.Holdings.{wants_of}
 use Rattle.world_meaning.specs.Lenses.{seen}
 use Rattle.world_meaning.specs.Readings.{Denoting}
-use Rattle.world_meaning.specs.Records.{HasOwnLink}
-use Rattle.world_meaning.specs.Starts.{AreInOrder, Differ, IsStart}
+use Rattle.world_meaning.specs.Records.{IsQueueLayout}
+use Rattle.world_meaning.specs.Starts.{AreInOrder, IsStart}
 use Rattle.world_meaning.specs.Transitions.{Transition}
 use Rattle.world_meaning.specs.Worlds.{Admitted, Config, Initiator, IsAt, Named, Running, Selected, Stage, Wanting, World}
 use Rattle.world_laws.specs.Beside.{RunsFit}
+use Rattle.plain.specs.Lists.{Differ}
 
 -- the plan of a job whose names are held
 abbrev pub named_plan : Stage → Option JobPlan
@@ -56,7 +57,7 @@ pub record IsDenoted (c : Config) (q : Records) (job : ℕ) (plan : JobPlan) : T
 
 pub record IsSound (w : World) : Type 0 where
   -- of the configuration
-  pub layout : HasOwnLink w.config.layout
+  pub layout : IsQueueLayout w.config.layout
   pub programs : AreWellFormedPrograms w.config.programs
   pub initiators : Differ (map (λ x. x.number) w.initiators)
   -- jobs wait in the order of reading, and their numbers were given

@@ -1,6 +1,7 @@
 //! Laws of whole runs of the machine. They have no code: a law is a function that does nothing, and its contract is the law.
 #![tactic(auto)]
 
+ghost use Rattle.run_laws.specs.Promises.{PromisesAreKept};
 ghost use Rattle.run_laws.specs.Soundness.{SoundnessIsKept, StartsSound};
 ghost use Rattle.world_meaning.specs.Headlines.{AssuredRun};
 
@@ -15,7 +16,12 @@ pub fn soundness_is_kept()
 {}
 
 /// Whatever the events, a job that is answered ASSURED writes from there on a prefix of its solo meaning, which meets no fault, and at its end the
-/// whole.
+/// whole, a line at each of its actions, of which there are no more than were stated.
 pub fn assured_run()
     ensures { AssuredRun }
+{}
+
+/// So it is for each ASSURED line among the lines of a run.
+pub fn promises_are_kept()
+    ensures { PromisesAreKept }
 {}

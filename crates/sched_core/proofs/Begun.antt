@@ -22,7 +22,7 @@ use Rattle.run_laws.specs.Soundness.{IsSound, StartsSound}
 use Rattle.shared_core.specs.declared.store.SharedStore.{SharedStore}
 use Rattle.enq_core.specs.Holds.{HoldsNone}
 use Rattle.place_core.specs.Placings.{serials_of}
-use Rattle.shared_core.specs.Shown.{kept_on, mounted_in, set_on}
+use Rattle.shared_core.specs.Shown.{kept_extents, mounted_in, set_on}
 use Rattle.shared_core.specs.Tracks.{NothingKept, free_on}
 use Rattle.world_meaning.specs.Starts.{IsStart}
 use Rattle.world_meaning.specs.Worlds as world
@@ -123,7 +123,7 @@ module _ {Q : Type 0} (queue_of : Q → RecordQueue) (store : SharedStore) (q : 
 
       nothing_kept : NothingKept s.parts.store
       nothing_kept = subst NothingKept (sym (ap (λ (x : Parts Q). x.store) parts))
-          (λ serial at. subst (λ vs. kept_on (mounted_in vs serial) at ≡ None) (sym t.volumes) (nothing_on c.volumes k.kept serial at))
+          (λ serial at. subst (λ vs. kept_extents (mounted_in vs serial) at ≡ None) (sym t.volumes) (nothing_on c.volumes k.kept serial at))
 
       same_serials : serials_of s.parts.store.volumes ≡ p.volumes.now
       same_serials = ap (λ (x : Parts Q). serials_of x.store.volumes) parts ∙ ap serials_of t.volumes ∙ sym t.serials ∙ sym volumes

@@ -1,15 +1,15 @@
 -- Events one after another.
 use Rattle.std.proofs.Common.{◌≡◌, ◌+◌, ◌<◌, ◌≤◌, ◌++◌, ◌∷◌, ℕ, List, [], length, map, take, refl, sym, ap, ◌∙◌, subst, arith}
 use Rattle.std.specs.Prelude.{get_or}
-use Rattle.std.proofs.lemmas.List.{map-append, take_more}
+use Rattle.std.proofs.lemmas.List.{take_more}
 use Rattle.jcl_job.specs.Jobs.{job_of}
 use Rattle.jcl_plan.specs.declared.entry.Entry.{Entry}
 use Rattle.input_core.specs.declared.event.Event.{Event}
-use Rattle.world_meaning.specs.declared.event.Event as meant
-use Rattle.world_meaning.specs.Readings.{Denoting}
-use Rattle.world_meaning.specs.Transitions.{Runs, Transition}
+use Rattle.world_meaning.specs.Transitions.{Runs}
 use Rattle.world_meaning.specs.Worlds.{World}
-use Rattle.sched_core.specs.Systems.{IsDriven, IsSameFixed, Machine, denoting, meant_by, world_of}
+use Rattle.sched_core.specs.Systems.{Drives, IsDriven, IsSameFixed, Machine, Steps, denoting, meant_by, world_of}
+use Rattle.run_laws.specs.Promises.{ArePromises, PromisesAreKept}
+use Rattle.world_meaning.specs.Starts.{IsStart}
 
 -- what is fixed stays
 pub IsSameFixed-none : (m : Machine) → IsSameFixed m m
@@ -25,42 +25,68 @@ IsSameFixed-twice a b c first then = record {
 same_denoting : (a b : Machine) → IsSameFixed a b → denoting b ≡ denoting a
 same_denoting a b same = ap (λ names. job_of names b.library) same.unit_names ∙ ap (job_of a.unit_names) same.library
 
--- one event more
-runs_more : (job : Denoting) (old mid new : World) (events : List meant.Event) (entries : List (List Entry)) (e : meant.Event) (lines : List Entry) →
-    Runs job old events entries mid → Transition job mid e lines new → Runs job old (events ++ e ∷ []) (entries ++ lines ∷ []) new
-runs_more job old mid new [] [] e lines r t = (new, subst (λ w. Transition job w e lines new) r t, refl)
-runs_more job old mid new (x ∷ events) (y ∷ entries) e lines r t = (r.0, r.1, runs_more job r.0 mid new events entries e lines r.2 t)
-runs_more job old mid new [] (y ∷ entries) e lines r t = absurd r
-runs_more job old mid new (x ∷ events) [] e lines r t = absurd r
+-- steps of machine after machine are a run
+pub drives_run : (old new : Machine) (events : List Event) (entries : List (List Entry)) → Drives old events entries new →
+    Runs (denoting old) (world_of old) (map meant_by events) entries (world_of new)
+drives_run old new [] [] d = ap world_of d
+drives_run old new (e ∷ es) (lines ∷ more) d =
+    (world_of d.0, d.1.0, subst (λ job. Runs job (world_of d.0) (map meant_by es) more (world_of new)) (same_denoting old d.0 d.2) (drives_run d.0 new es more d.3))
+drives_run old new [] (lines ∷ more) d = absurd d
+drives_run old new (e ∷ es) [] d = absurd d
+
+drives_fixed : (old new : Machine) (events : List Event) (entries : List (List Entry)) → Drives old events entries new → IsSameFixed old new
+drives_fixed old new [] [] d = subst (IsSameFixed old) (sym d) (IsSameFixed-none old)
+drives_fixed old new (e ∷ es) (lines ∷ more) d = IsSameFixed-twice old d.0 new d.2 (drives_fixed d.0 new es more d.3)
+drives_fixed old new [] (lines ∷ more) d = absurd d
+drives_fixed old new (e ∷ es) [] d = absurd d
+
+-- one step more
+drives_on : (old mid new : Machine) (events : List Event) (entries : List (List Entry)) (e : Event) (lines : List Entry) → Drives old events entries mid →
+    Steps mid e lines (world_of new) → IsSameFixed mid new → Drives old (events ++ e ∷ []) (entries ++ lines ∷ []) new
+drives_on old mid new [] [] e lines d step fixed =
+    (new, subst (λ m. Steps m e lines (world_of new)) d step, subst (λ m. IsSameFixed m new) d fixed, refl)
+drives_on old mid new (x ∷ events) (y ∷ entries) e lines d step fixed = (d.0, d.1, d.2, drives_on d.0 mid new events entries e lines d.3 step fixed)
+drives_on old mid new [] (y ∷ entries) e lines d step fixed = absurd d
+drives_on old mid new (x ∷ events) [] e lines d step fixed = absurd d
+
+-- the events so far
+pub record DrivenTo (old : Machine) (events : List Event) (entries : List (List Entry)) (done : ℕ) (reached : Machine) : Type 0 where
+  pub within : done ≤ length events
+  pub drives : Drives old (take done events) entries reached
 
 -- no event
-pub driven_none : (m : Machine) (events : List Event) → IsDriven m events [] 0 m
-driven_none m events = record { within = omega arith; runs = refl; fixed = IsSameFixed-none m }
+pub driven_none : (m : Machine) (events : List Event) → DrivenTo m events [] 0 m
+driven_none m events = record { within = omega arith; drives = refl }
 
--- where nothing that is shown changed, the events so far
+-- that is what was done, where nothing that is shown changed since
 pub driven_still : (old mid new : Machine) (events : List Event) (entries : List (List Entry)) (done : ℕ) →
-    IsDriven old events entries done mid → world_of new ≡ world_of mid → IsSameFixed mid new → IsDriven old events entries done new
+    DrivenTo old events entries done mid → world_of new ≡ world_of mid → IsSameFixed mid new → IsDriven old events entries done new
 driven_still old mid new events entries done d same fixed = record {
   within = d.within;
-  runs = subst (λ w. Runs (denoting old) (world_of old) (map meant_by (take done events)) entries w) (sym same) d.runs;
-  fixed = IsSameFixed-twice old mid new d.fixed fixed;
+  reached = mid;
+  drives = d.drives;
+  shown = same;
+  runs = subst (λ w. Runs (denoting old) (world_of old) (map meant_by (take done events)) entries w) (sym same) (drives_run old mid (take done events) entries d.drives);
+  fixed = IsSameFixed-twice old mid new (drives_fixed old mid (take done events) entries d.drives) fixed;
 }
+
+pub driven_now : (old new : Machine) (events : List Event) (entries : List (List Entry)) (done : ℕ) → DrivenTo old events entries done new → IsDriven old events entries done new
+driven_now old new events entries done d = driven_still old new new events entries done d refl (IsSameFixed-none new)
 
 -- the next event of a list
 pub driven_more : (old mid new : Machine) (events : List Event) (entries : List (List Entry)) (done : ℕ) (e : Event) (lines : List Entry) →
-    IsDriven old events entries done mid → done < length events → e ≡ get_or events done e →
-    Transition (denoting mid) (world_of mid) (meant_by e) lines (world_of new) → IsSameFixed mid new →
-    IsDriven old events (entries ++ lines ∷ []) (done + 1) new
-driven_more old mid new events entries done e lines d less is t fixed = record {
+    DrivenTo old events entries done mid → done < length events → e ≡ get_or events done e →
+    Steps mid e lines (world_of new) → IsSameFixed mid new → DrivenTo old events (entries ++ lines ∷ []) (done + 1) new
+driven_more old mid new events entries done e lines d less is step fixed = record {
   within = omega (arith, less);
-  runs = subst (λ es. Runs (denoting old) (world_of old) es (entries ++ lines ∷ []) (world_of new)) (sym meant)
-      (runs_more (denoting old) (world_of old) (world_of mid) (world_of new) (map meant_by (take done events)) entries (meant_by e) lines d.runs
-      (subst (λ job. Transition job (world_of mid) (meant_by e) lines (world_of new)) (same_denoting old mid d.fixed) t));
-  fixed = IsSameFixed-twice old mid new d.fixed fixed;
+  drives = subst (λ es. Drives old es (entries ++ lines ∷ []) new) (sym taken) (drives_on old mid new (take done events) entries e lines d.drives step fixed);
 }
   where
     taken : take (done + 1) events ≡ take done events ++ e ∷ []
     taken = take_more events done e less ∙ ap (λ x. take done events ++ x ∷ []) (sym is)
 
-    meant : map meant_by (take (done + 1) events) ≡ map meant_by (take done events) ++ meant_by e ∷ []
-    meant = ap (map meant_by) taken ∙ map-append meant_by (take done events) (e ∷ [])
+-- the promises of what was driven
+pub promises_so : PromisesAreKept → (old new : Machine) (events : List Event) (entries : List (List Entry)) (done : ℕ) → IsDriven old events entries done new →
+    IsStart (world_of old) → ArePromises (denoting old) (world_of old) (world_of new) (map meant_by (take done events)) entries
+promises_so law old new events entries done d is_start =
+    law (denoting old) (world_of old) (world_of new) (map meant_by (take done events)) entries is_start d.runs

@@ -5,8 +5,6 @@ use Rattle.std.specs.Prelude.{Result, Ok, Err, IfOk, get_or}
 use Rattle.std.proofs.lemmas.Option.{get_or_from_slice_get}
 use Rattle.std.proofs.lemmas.List.Elements.{All-head, All-map, All-tail}
 use Rattle.cb_queue.specs.RecordQueues.{RecordQueue}
-use Rattle.input_core.specs.declared.event.Event.{Event}
-use Rattle.input_core.specs.declared.event.Event.TheVariants as input
 use Rattle.jcl_plan.specs.declared.entry.Entry.{Entry}
 use Rattle.jcl_plan.specs.declared.entry.Entry.TheVariants as entry
 use Rattle.jcl_plan.specs.declared.entry.JobLine.{JobLine}
@@ -19,7 +17,6 @@ use Rattle.world_meaning.specs.declared.event.Event as meant
 use Rattle.world_meaning.specs.Readings.{Denoting}
 use Rattle.world_meaning.specs.Selections.{Selects}
 use Rattle.world_meaning.specs.Selections as selecting
-use Rattle.world_meaning.specs.Starts.{Differ}
 use Rattle.world_meaning.specs.Devices.{Writes, nothing_written, wrote}
 use Rattle.world_meaning.specs.Displays.{queue_line, volume_line}
 use Rattle.world_meaning.specs.Transitions.{Acts, Does, Shows, Transition, Turns, acts, past, shown, taken, unknown}
@@ -29,9 +26,8 @@ use Rattle.world_meaning.proofs.Following.{unopened}
 use Rattle.init_core.specs.Running.{shown_running}
 use Rattle.init_core.specs.declared.running.Running.{Running}
 use Rattle.world_laws.proofs.Beside.{one_there}
-use Rattle.sched_core.specs.Events.{ActsAt, Answers, LeadsTo, RefusesFirst, SelectsAt}
-use Rattle.sched_core.specs.Going.{IsDecidedAt}
-use Rattle.sched_core.specs.Happening.{HasDecided, HasDecidedAt, IsSeat}
+use Rattle.sched_core.specs.Events.{ActsAt, ActsSo, Answers, DoesSo, FollowsSo, LeadsTo, RefusesFirst, SelectsAt, TurnsSo}
+use Rattle.sched_core.specs.Happening.{IsSeat}
 use Rattle.sched_core.specs.Machines.{RunsIn, shown_initiator, world_in}
 use Rattle.sched_core.specs.declared.fault.ApplyFault.{ApplyFault}
 use Rattle.sched_core.specs.declared.fault.ApplyFault.TheVariants.{Memory, Refused}
@@ -40,6 +36,8 @@ use Rattle.sched_core.specs.declared.state.State.{State}
 use Rattle.sched_core.specs.Fits.{IsFit, IsKept}
 use Rattle.sched_core.proofs.Counting.{fit_at}
 use Rattle.sched_core.proofs.Seats.{shown_at}
+use Rattle.plain.specs.Lists.{Differ}
+use Rattle.shared_core.specs.declared.store.SharedStore.{SharedStore}
 
 -- no turn of a job, and no selection, writes a refusal
 no_job_line : (cause : Cause) (job : ℕ) (lines : List JobLine) → entry.Refused cause ∷ [] ≡ of_job job lines → ⊥
@@ -83,8 +81,8 @@ module _ {Q : Type 0} (queue_of : Q → RecordQueue) (c : Config) (s : State Q) 
   pub nobody : All (λ (x : Initiator). x.number ≢ number) s.initiators.items → HasNoInitiator w number
   nobody all = All-map (λ (x : world.Initiator). x.number ≢ number) (shown_initiator c) s.initiators.items all
 
-  pub refused : All (λ (x : Initiator). x.number ≢ number) s.initiators.items → Turns w number (entry.Refused (A NoSuchInitiator) ∷ []) w
-  refused all = unknown (nobody all) refl refl
+  pub refused : All (λ (x : Initiator). x.number ≢ number) s.initiators.items → TurnsSo s.parts.store w number (entry.Refused (A NoSuchInitiator) ∷ []) w
+  refused all = (unknown (nobody all) refl refl, tt)
 
   by_unknown : (cause : Cause) → entry.Refused cause ∷ [] ≡ entry.Refused (A NoSuchInitiator) ∷ [] → cause ≡ A NoSuchInitiator
   by_unknown cause e = cc
@@ -94,11 +92,10 @@ module _ {Q : Type 0} (queue_of : Q → RecordQueue) (c : Config) (s : State Q) 
   refused_first result is cause new (acts place x at numbered does) = absurd (never_acts w new place x x.running cause does)
 
   module _ (place : ℕ) (seat : IsSeat s.initiators.items number place) where
-    pub turned : (lines : List Entry) (new : World) → LeadsTo (ActsAt w place lines) new → LeadsTo (Turns w number lines) new
-    turned lines new l = record {
+    pub turned : (lines : List Entry) (new : World) → LeadsTo (ActsAt s.parts.store w place lines) new → LeadsTo (TurnsSo s.parts.store w number lines) new
+    turned lines new l = let does = l.does_so (shown_initiator c seat.it) (shown_at c s.initiators.items place seat.it seat.at) in record {
       middle = l.middle;
-      does_so = acts place (shown_initiator c seat.it) (shown_at c s.initiators.items place seat.it seat.at) seat.numbered
-          (l.does_so (shown_initiator c seat.it) (shown_at c s.initiators.items place seat.it seat.at));
+      does_so = (acts place (shown_initiator c seat.it) (shown_at c s.initiators.items place seat.it seat.at) seat.numbered does.0, does.1);
       reopened = l.reopened;
       rest = l.rest;
     }
@@ -119,52 +116,29 @@ module _ {Q : Type 0} (queue_of : Q → RecordQueue) (c : Config) (s : State Q) 
     never_refused result cause new (unknown none told same) = absurd (there none)
     never_refused result cause new (acts at x is numbered does) = absurd (never_acts w new at x x.running cause does)
 
-    pub only_there : IsSound w → (other : ℕ) (r : Running) (h : RunsIn s.initiators.items other r) → h.it.number ≡ number → other ≡ place
-    only_there sound other r h is =
-        same_place (map (λ (y : world.Initiator). y.number) w.initiators) other place number sound.initiators
-        (number_at c s.initiators.items other h.it h.at ∙ ap Some is) (number_at c s.initiators.items place seat.it seat.at ∙ ap Some seat.numbered)
-
-    pub idle_decides : IsSound w → seat.it.running ≡ None → (lines : List Entry) → HasDecided queue_of c s number lines
-    idle_decides sound idle lines other r h is =
-        let same : Some h.it ≡ Some seat.it = sym h.at ∙ (ap (slice_get s.initiators.items) (only_there sound other r h is) ∙ seat.at) in
-        let one : h.it ≡ seat.it = cc in
-        let none : Some r ≡ None = sym h.running ∙ (ap (λ (z : Initiator). z.running) one ∙ idle) in
-        absurd cc
-
-    pub job_decides : IsSound w → (lines : List Entry) → IsDecidedAt queue_of c s place lines → HasDecided queue_of c s number lines
-    job_decides sound lines d other r h is = subst (λ p. IsDecidedAt queue_of c s p lines) (sym (only_there sound other r h is)) d
-
     -- the answer of a turn
-    pub turn_answer : (result : Result (List Entry) ApplyFault) (new : World) → Answers result w new (ActsAt w place) → ((cause : Cause) → result ≢ Err (Refused cause)) →
-        Answers result w new (Turns w number)
+    pub turn_answer : (result : Result (List Entry) ApplyFault) (new : World) → Answers result w new (ActsAt s.parts.store w place) → ((cause : Cause) → result ≢ Err (Refused cause)) →
+        Answers result w new (TurnsSo s.parts.store w number)
     turn_answer (Ok lines) new h never = turned lines new h
     turn_answer (Err (Refused cause)) new h never = absurd (never cause refl)
     turn_answer (Err Memory) new h never = h
 
-    acts_so : (idle : seat.it.running ≡ None) (lines : List Entry) (new : World) → LeadsTo (SelectsAt w place lines) new → LeadsTo (ActsAt w place lines) new
+    acts_so : (idle : seat.it.running ≡ None) (lines : List Entry) (new : World) → LeadsTo (SelectsAt w place lines) new → LeadsTo (ActsAt s.parts.store w place lines) new
     acts_so idle lines new l = record {
       middle = l.middle;
-      does_so = λ x at. subst (λ (y : world.Initiator). Acts w place y y.running lines l.middle)
+      does_so = λ x at. subst (λ (y : world.Initiator). ActsSo s.parts.store w place y y.running lines l.middle)
           (one_there w.initiators place place (shown_initiator c seat.it) x refl (shown_at c s.initiators.items place seat.it seat.at) at)
-          (subst (λ o. Acts w place (shown_initiator c seat.it) o lines l.middle) (sym (ap (option_map (shown_running c)) idle))
-          (l.does_so (shown_initiator c seat.it) (shown_at c s.initiators.items place seat.it seat.at)));
+          (subst (λ o. ActsSo s.parts.store w place (shown_initiator c seat.it) o lines l.middle) (sym (ap (option_map (shown_running c)) idle))
+          (l.does_so (shown_initiator c seat.it) (shown_at c s.initiators.items place seat.it seat.at), tt));
       reopened = l.reopened;
       rest = l.rest;
     }
 
     pub selects_acts : seat.it.running ≡ None → (result : Result (List Entry) ApplyFault) (new : World) → Answers result w new (SelectsAt w place) →
-        ((cause : Cause) → result ≢ Err (Refused cause)) → Answers result w new (ActsAt w place)
+        ((cause : Cause) → result ≢ Err (Refused cause)) → Answers result w new (ActsAt s.parts.store w place)
     selects_acts idle (Ok lines) new h never = acts_so idle lines new h
     selects_acts idle (Err (Refused cause)) new h never = absurd (never cause refl)
     selects_acts idle (Err Memory) new h never = h
-
-    pub job_decided : IsSound w → (result : Result (List Entry) ApplyFault) → IfOk result (IsDecidedAt queue_of c s place) → IfOk result (HasDecided queue_of c s number)
-    job_decided sound (Ok lines) h = job_decides sound lines h
-    job_decided sound (Err fault) h = tt
-
-    pub idle_decided : IsSound w → seat.it.running ≡ None → (result : Result (List Entry) ApplyFault) → IfOk result (HasDecided queue_of c s number)
-    idle_decided sound idle (Ok lines) = idle_decides sound idle lines
-    idle_decided sound idle (Err fault) = tt
 
 -- who is at a seat that was looked at
 some_of : (o : Option Running) (b : Bool) → b ≡ is_some o → b ≡ true → (r : Running) × (o ≡ Some r)
@@ -187,25 +161,32 @@ module _ (xs : List Initiator) (number place : ℕ) (seat : IsSeat xs number pla
   pub seat_idle : b ≡ false → seat.it.running ≡ None
   seat_idle f = none_of seat.it.running b (busy ∙ ap (λ (z : Initiator). is_some z.running) its) f
 
+-- what is done is done so
+pub so_answers : (result : Result (List Entry) ApplyFault) (old new : World) (does does_so : List Entry → World → Type 0) →
+    ((lines : List Entry) (v : World) → does lines v → does_so lines v) → Answers result old new does → Answers result old new does_so
+so_answers (Ok lines) old new does does_so so l = record { middle = l.middle; does_so = so lines l.middle l.does_so; reopened = l.reopened; rest = l.rest }
+so_answers (Err (Refused cause)) old new does does_so so h = (so (entry.Refused cause ∷ []) old h.0, h.1)
+so_answers (Err Memory) old new does does_so so h = h
+
 -- an event that was counted
-module _ (job_of : Denoting) (e : meant.Event) (old new : World) (few : old.events < MOST_EVENTS) where
-  happened : (lines : List Entry) → LeadsTo (Does job_of (counted old) e lines) new → Transition job_of old e lines new
-  happened lines l = taken few (record { middle = l.middle; does = l.does_so; reopened = l.reopened; rest = l.rest })
+module _ (store : SharedStore) (job_of : Denoting) (e : meant.Event) (old new : World) (few : old.events < MOST_EVENTS) where
+  pub done : (lines : List Entry) → LeadsTo (DoesSo store job_of (counted old) e lines) new → FollowsSo store job_of old e lines new
+  done lines l = (taken few (record { middle = l.middle; does = l.does_so.0; reopened = l.reopened; rest = l.rest }), l.does_so.1)
 
-  refused_so : (cause : Cause) → Does job_of (counted old) e (entry.Refused cause ∷ []) (counted old) → new ≡ counted old →
-      Transition job_of old e (entry.Refused cause ∷ []) new
-  refused_so cause does same = subst (Transition job_of old e (entry.Refused cause ∷ [])) (sym same) (taken few (record {
-    middle = counted old;
-    does = does;
-    reopened = unopened old.config.layout old.shared;
-    rest = refl;
-  }))
+  refused_so : (cause : Cause) → DoesSo store job_of (counted old) e (entry.Refused cause ∷ []) (counted old) → new ≡ counted old →
+      FollowsSo store job_of old e (entry.Refused cause ∷ []) new
+  refused_so cause does same = subst (FollowsSo store job_of old e (entry.Refused cause ∷ [])) (sym same) (
+    taken few (record {
+      middle = counted old;
+      does = does.0;
+      reopened = unopened old.config.layout old.shared;
+      rest = refl;
+    }),
+    does.1,
+  )
 
-  pub done : (lines : List Entry) → LeadsTo (Does job_of (counted old) e lines) new → Transition job_of old e lines new
-  done = happened
-
-  pub refuses : (cause : Cause) → Does job_of (counted old) e (entry.Refused cause ∷ []) (counted old) × (new ≡ counted old) →
-      Transition job_of old e (entry.Refused cause ∷ []) new × (new ≡ record old { events = new.events })
+  pub refuses : (cause : Cause) → DoesSo store job_of (counted old) e (entry.Refused cause ∷ []) (counted old) × (new ≡ counted old) →
+      FollowsSo store job_of old e (entry.Refused cause ∷ []) new × (new ≡ record old { events = new.events })
   refuses cause h = (
     refused_so cause h.0 h.1,
     h.1 ∙ (λ i. record old { events = sym (ap (λ (w : World). w.events) h.1) i }),
@@ -224,17 +205,6 @@ pub past_first : (job_of : Denoting) (e : meant.Event) (old : World) (result : R
 past_first job_of e old result many is cause new (past more told same) = is ∙ ap (λ x. Err (Refused x)) (sym (past_cause cause told))
 past_first job_of e old result many is cause new (taken few h) = absurd (omega (arith, few, many))
 
--- what was decided does not depend on the count of events
-pub decided_before : {Q : Type 0} (queue_of : Q → RecordQueue) (c : Config) (s : State Q) (n : ℕ) (e : Event) (lines : List Entry) →
-    HasDecidedAt queue_of c (record s { events = n }) e lines → HasDecidedAt queue_of c s e lines
-decided_before queue_of c s n (input.Read deck) lines h = tt
-decided_before queue_of c s n (input.Turn number) lines h = λ place r at is. let d = h place r at is in
-    record { running = d.running; runs = d.runs; came = d.came; told = d.told; decides = d.decides }
-decided_before queue_of c s n (input.DeviceEnd serial) lines h = tt
-decided_before queue_of c s n (input.Write class) lines h = tt
-decided_before queue_of c s n (input.Cancel job) lines h = tt
-decided_before queue_of c s n input.Display lines h = tt
-
 -- what no event writes that cannot be refused
 pub writes_never : (v : World) (class : ℕ) (cause : Cause) (new : World) → Writes v class (entry.Refused cause ∷ []) new → ⊥
 writes_never v class cause new (nothing_written n l s) = absurd cc
@@ -251,10 +221,6 @@ pub never_so : (does : List Entry → World → Type 0) (result : Result (List E
     RefusesFirst result does
 never_so does result never cause new h = absurd (never cause new h)
 
-pub no_decision : (result : Result (List Entry) ApplyFault) → IfOk result (λ lines. Unit {0})
-no_decision (Ok lines) = tt
-no_decision (Err fault) = tt
-
 -- one event more, and what it leaves
 module _ {Q : Type 0} (queue_of : Q → RecordQueue) (c : Config) (s : State Q) (kept : IsKept queue_of c s) (job_of : Denoting) (e : meant.Event) where
   abbrev pub first : World
@@ -264,12 +230,12 @@ module _ {Q : Type 0} (queue_of : Q → RecordQueue) (c : Config) (s : State Q) 
     abbrev pub then : World
     then = world_in queue_of c after
 
-    pub kept_done : (lines : List Entry) → LeadsTo (Does job_of (counted first) e lines) then → IsKept queue_of c after
-    kept_done lines l = record { sound = law job_of first then e lines kept.sound (done job_of e first then few lines l); fit = fit }
+    pub kept_done : (lines : List Entry) → LeadsTo (DoesSo s.parts.store job_of (counted first) e lines) then → IsKept queue_of c after
+    kept_done lines l = record { sound = law job_of first then e lines kept.sound (done s.parts.store job_of e first then few lines l).0; fit = fit }
 
-    pub kept_refused : (cause : Cause) → Does job_of (counted first) e (entry.Refused cause ∷ []) (counted first) × (then ≡ counted first) → IsKept queue_of c after
+    pub kept_refused : (cause : Cause) → DoesSo s.parts.store job_of (counted first) e (entry.Refused cause ∷ []) (counted first) × (then ≡ counted first) → IsKept queue_of c after
     kept_refused cause h = record {
-      sound = law job_of first then e (entry.Refused cause ∷ []) kept.sound (refuses job_of e first then few cause h).0;
+      sound = law job_of first then e (entry.Refused cause ∷ []) kept.sound (refuses s.parts.store job_of e first then few cause h).0.0;
       fit = fit;
     }
 
@@ -286,5 +252,5 @@ module _ {Q : Type 0} (queue_of : Q → RecordQueue) (c : Config) (s : State Q) 
     pub events_back : then ≡ counted first → after.events ≡ s.events + 1
     events_back is = ap (λ (w : World). w.events) is
 
-  pub past_so : MOST_EVENTS ≤ s.events → Transition job_of first e (entry.Refused (A PastLimit) ∷ []) first
-  past_so many = past many refl refl
+  pub past_so : MOST_EVENTS ≤ s.events → FollowsSo s.parts.store job_of first e (entry.Refused (A PastLimit) ∷ []) first
+  past_so many = (past many refl refl, tt)

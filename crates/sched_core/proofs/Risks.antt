@@ -19,15 +19,17 @@ use Rattle.world_meaning.specs.Worlds as world
 use Rattle.world_meaning.specs.Worlds.{Config, Shared}
 use Rattle.admission_core.specs.Admitted.{answer_for}
 use Rattle.machine_core.specs.declared.parts.Parts.{Parts}
-use Rattle.init_core.specs.Deciding.{DecidesAt, IsAdmittedAtOnce}
+use Rattle.init_core.specs.Choosing.{IsChosenByVolumes, IsPlacedByVolumes}
 use Rattle.init_core.specs.Going.{Went}
-use Rattle.init_core.specs.Running.{lines_told, shown_stage}
+use Rattle.init_core.specs.Running.{lines_told, runs_after, shown_running}
 use Rattle.init_core.specs.declared.running.Progress.{Progress}
 use Rattle.init_core.specs.declared.running.Running.{Running}
-use Rattle.init_core.specs.declared.running.Stage.{Stage}
-use Rattle.init_core.specs.declared.running.Stage.TheVariants.{Admitted, Named, Selected, Wanting}
 use Rattle.sched_core.specs.Copies.{unless_risk}
 use Rattle.sched_core.proofs.Copying.{copied_lines}
+use Rattle.world_meaning.specs.Choices.{choice_of_going}
+use Rattle.jcl_meaning.specs.declared.state.Place.{Place}
+use Rattle.machine_core.specs.Shown.{shown}
+use Rattle.std.specs.Option.{option_map}
 
 in_holds : (s : Shared) (r : world.Running) (plan : JobPlan) (lines : List JobLine) (new : Shared) (runs : Option world.Running) → Holds s r plan lines new runs →
     list_any is_risk lines ≡ false
@@ -56,21 +58,21 @@ answer_plain : (b : Bool) (plan : JobPlan) (programs : List SoloProgram) → is_
 answer_plain true plan programs = refl
 answer_plain false plan programs = refl
 
-in_admission : (c : Config) (store : SharedStore) (job : ℕ) (plan : JobPlan) (holder : ℕ) (came : Progress) → IsAdmittedAtOnce c store job plan holder came →
-    list_any is_risk (lines_told came) ≡ false
-in_admission c store job plan holder came h =
-    ap (list_any is_risk) (h.told ∙ ap (λ (l : JobLine). l ∷ []) h.answer)
-    ∙ (λ i. answer_plain (names_a_set plan) plan c.programs i || false)
+in_admission : (c : Config) (store : SharedStore) (job : ℕ) (plan : JobPlan) (places : List Place) (lines : List JobLine) →
+    IsPlacedByVolumes c store job plan places lines → list_any is_risk lines ≡ false
+in_admission c store job plan places lines h =
+    ap (list_any is_risk) h.answered ∙ (λ i. answer_plain (names_a_set plan) plan c.programs i || false)
 
-by_stage : (c : Config) (store : SharedStore) (s : Shared) (r : world.Running) (job : ℕ) (walk : Walk) (stage : Stage) (came : Progress) (new : Shared)
-    (runs : Option world.Running) → DecidesAt c store s job walk stage came → GoesOn c s r (shown_stage c walk stage) (lines_told came) new runs →
-    list_any is_risk (lines_told came) ≡ false
-by_stage c store s r job walk (Selected first) came new runs d g = in_reading c s r first (lines_told came) new runs g
-by_stage c store s r job walk (Wanting plan wants) came new runs d g = in_holds s r plan (lines_told came) new runs g
-by_stage c store s r job walk (Named plan holder) came new runs d g = in_admission c store job plan holder came d
-by_stage c store s r job walk (Admitted plan holder a) came new runs d g = in_advance c s r plan _ _ _ (lines_told came) new runs g
+by_stage : (c : Config) (store : SharedStore) (s : Shared) (r : world.Running) (stage : world.Stage) (lines : List JobLine) (new : Shared)
+    (runs : Option world.Running) (g : GoesOn c s r stage lines new runs) → IsChosenByVolumes c store (choice_of_going c s r stage lines new runs g) →
+    list_any is_risk lines ≡ false
+by_stage c store s r (world.Selected first) lines new runs g h = in_reading c s r first lines new runs g
+by_stage c store s r (world.Wanting plan) lines new runs g h = in_holds s r plan lines new runs g
+by_stage c store s r (world.Named plan) lines new runs g h = in_admission c store r.job plan g.places lines h
+by_stage c store s r (world.Admitted plan a count own) lines new runs g h = in_advance c s r plan a count own lines new runs g
 
 pub no_risk : {Q : Type 0} (queue_of : Q → RecordQueue) (c : Config) (old : Parts Q) (r : Running) (new : Parts Q) (came : Progress) → Went queue_of c old r new came →
     All (λ l. unless_risk l ≡ Some l) (lines_told came)
 no_risk queue_of c old r new came w =
-    copied_lines (lines_told came) (by_stage c old.store _ _ r.job r.walk r.stage came w.middle _ w.decides w.goes)
+    copied_lines (lines_told came) (by_stage c old.store (shown queue_of old) (shown_running c r) (shown_running c r).stage (lines_told came) w.middle
+    (option_map (shown_running c) (runs_after came)) w.goes w.chosen)

@@ -12,7 +12,6 @@ use Rattle.queue_core.specs.declared.queue.Queued.{Queued}
 use Rattle.machine_meaning.specs.declared.machine.TheConstants.{MOST_EVENTS, MOST_JOBS}
 use Rattle.run_laws.specs.Soundness.{IsThereAlone}
 use Rattle.world_laws.proofs.Beside.{one_there, set_elsewhere, set_here}
-use Rattle.world_meaning.specs.Transitions.{Acts, Goes}
 use Rattle.world_meaning.specs.Worlds as world
 use Rattle.world_meaning.specs.Worlds.{Config, IsAt, Shared, World, with_running}
 use Rattle.admit_core.specs.Listed.{AreListed, waiting_in}
@@ -26,9 +25,9 @@ use Rattle.init_core.specs.declared.running.Running.{Running}
 use Rattle.init_core.specs.declared.running.Stage.{Stage}
 use Rattle.init_core.specs.declared.running.Stage.TheVariants.{Admitted, Named, Selected, Wanting}
 use Rattle.turn_core.specs.declared.walk.Walk.{Walk}
-use Rattle.sched_core.specs.Events.{ActsAt, LeadsTo}
+use Rattle.sched_core.specs.Events.{ActsAt, ActsSo, LeadsTo}
 use Rattle.sched_core.specs.Fits.{IsAtNone, IsFit, IsKept}
-use Rattle.sched_core.specs.Going.{IsDecidedAt, TurnsAt}
+use Rattle.sched_core.specs.Going.{TurnsAt}
 use Rattle.sched_core.specs.Machines.{RunsIn, shown_initiator, world_in}
 use Rattle.sched_core.specs.declared.state.Initiator.{Initiator}
 use Rattle.sched_core.specs.declared.state.State.{State}
@@ -69,28 +68,31 @@ module _ {Q : Type 0} (queue_of : Q → RecordQueue) (c : Config) (s : State Q) 
   after : new.initiators.items ≡ slice_set s.initiators.items place (record t.it { running = runs })
   after = t.leaves ∙ ap (λ (y : Initiator). slice_set s.initiators.items place y) t.turns.leaves
 
-  goes : Goes w place (shown_initiator c t.it) (shown_running c r) lines middle
-  goes = record {
-    job_lines = lines_told t.turns.came;
-    shared = t.turns.went.middle;
-    runs = option_map (shown_running c) runs;
-    goes = t.turns.went.goes;
-    told = t.turns.told;
-    leaves = refl;
-  }
+  goes : ActsSo s.parts.store w place (shown_initiator c t.it) (Some (shown_running c r)) lines middle
+  goes = (
+    record {
+      job_lines = lines_told t.turns.came;
+      shared = t.turns.went.middle;
+      runs = option_map (shown_running c) runs;
+      goes = t.turns.went.goes;
+      told = t.turns.told;
+      leaves = refl;
+    },
+    t.turns.went.chosen,
+  )
 
-  acts : ActsAt w place lines middle
+  acts : ActsAt s.parts.store w place lines middle
   acts x at =
-      subst (λ (y : world.Initiator). Acts w place y y.running lines middle)
+      subst (λ (y : world.Initiator). ActsSo s.parts.store w place y y.running lines middle)
       (one_there w.initiators place place (shown_initiator c t.it) x refl (shown_at c s.initiators.items place t.it t.at) at)
-      (subst (λ o. Acts w place (shown_initiator c t.it) o lines middle) (sym (ap (option_map (shown_running c)) t.turns.runs)) goes)
+      (subst (λ o. ActsSo s.parts.store w place (shown_initiator c t.it) o lines middle) (sym (ap (option_map (shown_running c)) t.turns.runs)) goes)
 
   shown_after : map (shown_initiator c) new.initiators.items ≡ middle.initiators
   shown_after =
       ap (map (shown_initiator c)) after
       ∙ map-set (shown_initiator c) s.initiators.items place (record t.it { running = runs })
 
-  pub leads : LeadsTo (ActsAt w place lines) (world_in queue_of c new)
+  pub leads : LeadsTo (ActsAt s.parts.store w place lines) (world_in queue_of c new)
   leads = record {
     middle = middle;
     does_so = acts;
@@ -158,9 +160,6 @@ module _ {Q : Type 0} (queue_of : Q → RecordQueue) (c : Config) (s : State Q) 
     few_jobs = subst (λ n. n ≤ MOST_JOBS) (sym jobs) kept.fit.few_jobs;
     few_events = subst (λ n. n ≤ MOST_EVENTS) (sym events) kept.fit.few_events;
   }
-
-  pub decided : IsDecidedAt queue_of c s place lines
-  decided = record { running = r; runs = its; came = t.turns.came; told = t.turns.told; decides = t.turns.went.decides }
 
 -- where memory was wanting what is shown is as it was
 module _ {Q : Type 0} (queue_of : Q → RecordQueue) (c : Config) (s : State Q) (kept : IsKept queue_of c s) (p : Parts Q) (b : IsAsBefore queue_of c s.parts p)

@@ -3,16 +3,12 @@ use Rattle.std.specs.Prelude.{◌≡◌, ℕ, List, Some, slice_get, slice_set}
 use Rattle.cb_queue.specs.RecordQueues.{RecordQueue}
 use Rattle.jcl_plan.specs.declared.entry.Entry.{Entry}
 use Rattle.world_meaning.specs.Worlds.{Config, of_job}
-use Rattle.machine_core.specs.Shown.{shown}
 use Rattle.machine_core.specs.declared.parts.Parts.{Parts}
-use Rattle.init_core.specs.Deciding.{Decides}
 use Rattle.init_core.specs.Going.{Went}
 use Rattle.init_core.specs.Running.{lines_told, runs_after}
 use Rattle.init_core.specs.declared.running.Progress.{Progress}
 use Rattle.init_core.specs.declared.running.Running.{Running}
-use Rattle.sched_core.specs.Machines.{RunsIn}
 use Rattle.sched_core.specs.declared.state.Initiator.{Initiator}
-use Rattle.sched_core.specs.declared.state.State.{State}
 
 -- the job of an initiator went on, with these lines in the listing
 pub record TurnsJob {Q : Type 0} (queue_of : Q → RecordQueue) (c : Config) (old : Parts Q) (x : Initiator) (new : Parts Q) (y : Initiator)
@@ -32,11 +28,3 @@ pub record TurnsAt {Q : Type 0} (queue_of : Q → RecordQueue) (c : Config) (pla
   pub then : Initiator
   pub turns : TurnsJob queue_of c old it new then lines
   pub leaves : after ≡ slice_set initiators place then
-
--- what the table leaves to the volumes is as they decide it
-pub record IsDecidedAt {Q : Type 0} (queue_of : Q → RecordQueue) (c : Config) (old : State Q) (place : ℕ) (lines : List Entry) : Type 0 where
-  pub running : Running
-  pub runs : RunsIn old.initiators.items place running
-  pub came : Progress
-  pub told : lines ≡ of_job running.job (lines_told came)
-  pub decides : Decides c old.parts.store (shown queue_of old.parts) running came

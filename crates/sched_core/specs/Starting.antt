@@ -5,7 +5,7 @@ use Rattle.cb_meaning.specs.declared.layout.Layout.{Layout}
 use Rattle.config_core.specs.Configs.{Configuration, unit_names}
 use Rattle.config_core.specs.Starts.{start_of}
 use Rattle.jcl_refs.specs.Plans.{most_steps}
-use Rattle.world_meaning.specs.Records.{HasOwnLink}
+use Rattle.world_meaning.specs.Records.{IsQueueLayout}
 use Rattle.world_meaning.specs.Starts.{IsStart}
 use Rattle.sched_core.specs.Systems.{Machine, world_of}
 use Rattle.sched_core.specs.declared.start.TheConstants.{FIRST_DAY}
@@ -13,7 +13,7 @@ use Rattle.sched_core.specs.declared.start.TheConstants.{FIRST_DAY}
 -- the jobs of decks can be written and read in records of this layout, and its links lie apart from all else
 pub record IsForMachine (l : Layout) : Type 0 where
   pub holds : HoldsJobs l
-  pub link : HasOwnLink l
+  pub link : IsQueueLayout l
   pub steps : l.most_steps ≡ most_steps
 
 -- It is a start of the machine's definitions, on the first day; decks are read with the units and the procedures of the configuration.

@@ -11,22 +11,19 @@ use Rattle.world_meaning.specs.declared.event.Event as meant
 use Rattle.world_meaning.specs.declared.event.Event.TheVariants as event
 use Rattle.world_meaning.specs.Readings.{Denoting}
 use Rattle.world_meaning.specs.Transitions.{Runs}
-use Rattle.world_meaning.specs.Worlds.{Config, World, of_job}
+use Rattle.world_meaning.specs.Worlds.{Config, World}
 use Rattle.admit_core.specs.Listed.{waiting_in}
 use Rattle.admit_core.specs.declared.backlog.Listing.{Listing}
 use Rattle.machine_core.specs.Shown.{shown}
 use Rattle.machine_core.specs.declared.parts.Parts.{Parts}
-use Rattle.init_core.specs.Deciding.{Decides}
-use Rattle.init_core.specs.Running.{lines_told}
 use Rattle.init_core.specs.declared.running.Profile.{Profile}
-use Rattle.init_core.specs.declared.running.Progress.{Progress}
-use Rattle.init_core.specs.declared.running.Running.{Running}
 use Rattle.sched_core.specs.Fits.{IsKept}
-use Rattle.sched_core.specs.Machines.{RunsIn, config_in, shown_initiator}
+use Rattle.sched_core.specs.Machines.{config_in, shown_initiator}
 use Rattle.sched_core.specs.declared.fault.ApplyFault.{ApplyFault}
 use Rattle.sched_core.specs.declared.fault.ApplyFault.TheVariants.{Memory, Refused}
 use Rattle.sched_core.specs.declared.state.Initiator.{Initiator}
 use Rattle.sched_core.specs.declared.state.State.{State}
+use Rattle.sched_core.specs.Events.{FollowsSo}
 
 -- what is fixed (the configuration, the names of units, the library), what jobs change, the initiators with their jobs, the listings of the jobs that
 -- wait, how many job numbers were given and how many events came
@@ -108,22 +105,26 @@ pub record IsSameFixed (old new : Machine) : Type 0 where
   pub unit_names : new.unit_names ≡ old.unit_names
   pub library : new.library ≡ old.library
 
--- the events that were done, each with its lines
+-- A step of the machine: a case of the table, of which what it leaves open is as the volumes, as they were, decide it.
+abbrev pub Steps : Machine → Event → List Entry → World → Type 0
+Steps old e lines new = FollowsSo old.parts.store (denoting old) (world_of old) (meant_by e) lines new
+
+-- steps of machine after machine, with what is fixed
+abbrev pub Drives : Machine → List Event → List (List Entry) → Machine → Type 0
+Drives old [] [] new = new ≡ old
+Drives old (e ∷ es) (lines ∷ more) new = (mid : Machine) × Steps old e lines (world_of mid) × IsSameFixed old mid × Drives mid es more new
+Drives old [] (lines ∷ more) new = ⊥
+Drives old (e ∷ es) [] new = ⊥
+
+-- The events that were done, each with its lines, lead to a machine that shows what the machine shows now: by the table, and as the volumes of the
+-- machine before each decide it.
 pub record IsDriven (old : Machine) (events : List Event) (entries : List (List Entry)) (done : ℕ) (new : Machine) : Type 0 where
   pub within : done ≤ length events
+  pub reached : Machine
+  pub drives : Drives old (take done events) entries reached
+  pub shown : world_of new ≡ world_of reached
   pub runs : Runs (denoting old) (world_of old) (map meant_by (take done events)) entries (world_of new)
   pub fixed : IsSameFixed old new
-
--- what the table leaves open in a turn of the job at this place is as the volumes decide it
-pub record TurnIsDecided (old : Machine) (r : Running) (lines : List Entry) : Type 0 where
-  pub came : Progress
-  pub told : lines ≡ of_job r.job (lines_told came)
-  pub decides : Decides old.config old.parts.store (shown itself old.parts) r came
-
-abbrev pub IsDecided : Machine → Event → List Entry → Type 0
-IsDecided old (input.Turn number) lines =
-    (place : ℕ) (r : Running) (h : RunsIn old.initiators place r) → h.it.number ≡ number → TurnIsDecided old r lines
-IsDecided old other lines = Unit {0}
 
 -- what holds of a machine between two events
 pub record IsSystem {Q : Type 0} (queue_of : Q → RecordQueue) (p : Profile) (names : List (List ℕ)) (s : State Q) : Type 0 where

@@ -9,7 +9,7 @@ ghost use Rattle.init_core.specs.declared.running.Running.{Running};
 ghost use Rattle.sched_core.specs.Copies.{unless_risk};
 ghost use Rattle.sched_core.specs.Events.{ActsAt, Answers};
 ghost use Rattle.sched_core.specs.Fits.{IsFit, IsKept};
-ghost use Rattle.sched_core.specs.Going.{IsDecidedAt, TurnsAt, TurnsJob};
+ghost use Rattle.sched_core.specs.Going.{TurnsAt, TurnsJob};
 ghost use Rattle.sched_core.specs.Machines.{RunsIn, config_in, world_in};
 ghost use Rattle.sched_core.specs.declared.fault.ApplyFault.TheVariants.{Refused};
 
@@ -125,8 +125,7 @@ pub(crate) fn go_on_at<Q: RecordStore>(
     requires kept { IsKept Q.queue (config_in Q.queue profile.now state.old) state.old }
     requires runs { (r : Running) × RunsIn state.old.initiators.items place r }
     ensures answer { Answers result (world_in Q.queue (config_in Q.queue profile.now state.old) state.old)
-        (world_in Q.queue (config_in Q.queue profile.now state.old) state.new) (ActsAt (world_in Q.queue (config_in Q.queue profile.now state.old) state.old) place) }
-    ensures decided { IfOk result (IsDecidedAt Q.queue (config_in Q.queue profile.now state.old) state.old place) }
+        (world_in Q.queue (config_in Q.queue profile.now state.old) state.new) (ActsAt state.old.parts.store (world_in Q.queue (config_in Q.queue profile.now state.old) state.old) place) }
     ensures never_refused { (cause : Cause) → result ≢ Err (Refused cause) }
     ensures fit { IsFit Q.queue (config_in Q.queue profile.now state.old) state.new }
 {

@@ -3,9 +3,9 @@ ghost use Rattle.std.specs.Prelude.{◌≡◌, ◌≢◌, ◌+◌, ◌<◌, ◌�
 ghost use Rattle.jcl_job.specs.Jobs.{job_of};
 ghost use Rattle.machine_meaning.specs.declared.machine.TheConstants.{MOST_EVENTS};
 ghost use Rattle.world_meaning.specs.Transitions.{Does, Transition, Turns};
-ghost use Rattle.sched_core.specs.Events.{Answers, RefusesFirst};
+ghost use Rattle.sched_core.specs.Events.{Answers, DoesSo, FollowsSo, RefusesFirst, TurnsSo};
 ghost use Rattle.sched_core.specs.Fits.{IsFit, IsKept};
-ghost use Rattle.sched_core.specs.Happening.{HasDecided, HasDecidedAt, IsSeat};
+ghost use Rattle.sched_core.specs.Happening.{IsSeat};
 ghost use Rattle.sched_core.specs.Machines.{config_in, world_in};
 ghost use Rattle.sched_core.specs.Systems.{Applies, KeepsIfRefused, meant_by};
 
@@ -51,9 +51,8 @@ fn turn<Q: RecordStore>(
     requires { IsKept Q.queue (config_in Q.queue profile.now state.old) state.old }
     ensures answer { Answers result (world_in Q.queue (config_in Q.queue profile.now state.old) state.old)
         (world_in Q.queue (config_in Q.queue profile.now state.old) state.new)
-        (Turns (world_in Q.queue (config_in Q.queue profile.now state.old) state.old) number) }
+        (TurnsSo state.old.parts.store (world_in Q.queue (config_in Q.queue profile.now state.old) state.old) number) }
     ensures refusal { RefusesFirst result (Turns (world_in Q.queue (config_in Q.queue profile.now state.old) state.old) number) }
-    ensures decided { IfOk result (HasDecided Q.queue (config_in Q.queue profile.now state.old) state.old number) }
     ensures fit { IsFit Q.queue (config_in Q.queue profile.now state.old) state.new }
 {
     let Some(place) = place_of(state.initiators.as_slice(), number) else {
@@ -79,10 +78,10 @@ fn happen<Q: RecordStore>(
     requires named { length units.now ≡ length profile.now.units.now }
     ensures answer { Answers result (world_in Q.queue (config_in Q.queue profile.now state.old) state.old)
         (world_in Q.queue (config_in Q.queue profile.now state.old) state.new)
-        (Does (job_of units.now library.now) (world_in Q.queue (config_in Q.queue profile.now state.old) state.old) (meant_by event.now)) }
+        (DoesSo state.old.parts.store (job_of units.now library.now) (world_in Q.queue (config_in Q.queue profile.now state.old) state.old)
+        (meant_by event.now)) }
     ensures refusal { RefusesFirst result
         (Does (job_of units.now library.now) (world_in Q.queue (config_in Q.queue profile.now state.old) state.old) (meant_by event.now)) }
-    ensures decided { IfOk result (HasDecidedAt Q.queue (config_in Q.queue profile.now state.old) state.old event.now) }
     ensures fit { IsFit Q.queue (config_in Q.queue profile.now state.old) state.new }
 {
     match event {
@@ -108,12 +107,12 @@ pub(crate) fn apply_in<Q: RecordStore>(
     requires named { length units.now ≡ length profile.now.units.now }
     ensures answer { Applies result (world_in Q.queue (config_in Q.queue profile.now state.old) state.old)
         (world_in Q.queue (config_in Q.queue profile.now state.old) state.new)
-        (Transition (job_of units.now library.now) (world_in Q.queue (config_in Q.queue profile.now state.old) state.old) (meant_by event.now)) }
+        (FollowsSo state.old.parts.store (job_of units.now library.now) (world_in Q.queue (config_in Q.queue profile.now state.old) state.old)
+        (meant_by event.now)) }
     ensures refusal { RefusesFirst result
         (Transition (job_of units.now library.now) (world_in Q.queue (config_in Q.queue profile.now state.old) state.old) (meant_by event.now)) }
     ensures unless_refused { KeepsIfRefused result (world_in Q.queue (config_in Q.queue profile.now state.old) state.old)
         (world_in Q.queue (config_in Q.queue profile.now state.old) state.new) }
-    ensures decided { IfOk result (HasDecidedAt Q.queue (config_in Q.queue profile.now state.old) state.old event.now) }
     ensures kept { IsKept Q.queue (config_in Q.queue profile.now state.old) state.new }
 {
     soundness_is_kept();

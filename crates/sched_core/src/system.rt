@@ -1,13 +1,15 @@
 //! The machine.
-ghost use Rattle.std.specs.Prelude.{◌≡◌, IfOk, OnErr};
+ghost use Rattle.std.specs.Prelude.{◌≡◌, IfOk, OnErr, map, take};
 ghost use Rattle.cb_queue.specs.RecordQueues.{empty_queue};
 ghost use Rattle.config_core.specs.Configs.{Configuration};
 ghost use Rattle.config_core.specs.Configured.{IsConfigured};
 ghost use Rattle.config_core.specs.Starts.{IsTakenApart};
+ghost use Rattle.run_laws.specs.Promises.{ArePromises};
+ghost use Rattle.world_meaning.specs.Starts.{IsStart};
 ghost use Rattle.world_meaning.specs.Transitions.{Transition};
 ghost use Rattle.sched_core.specs.Events.{RefusesFirst};
 ghost use Rattle.sched_core.specs.Starting.{IsForMachine, IsStarted};
-ghost use Rattle.sched_core.specs.Systems.{Applies, IsDecided, IsDriven, IsSameFixed, KeepsIfRefused, denoting, meant_by, world_of};
+ghost use Rattle.sched_core.specs.Systems.{Applies, IsDriven, IsSameFixed, KeepsIfRefused, Steps, denoting, meant_by, world_of};
 
 use crate::ending::end;
 use crate::fault::ApplyFault;
@@ -24,7 +26,7 @@ use jcl_plan::entry::Entry;
 use jcl_refs::units::UnitNames;
 use plain::listed::Listed;
 use proc_library::library::ProcLibrary;
-use run_laws::starts_sound;
+use run_laws::{promises_are_kept, starts_sound};
 use shared_core::store::SharedStore;
 use std::alloc::{AllocError, Global};
 use std::marker::Model;
@@ -98,12 +100,12 @@ impl<'c, Q: RecordStore> System<'c, Q> {
         })
     }
 
-    /// One event. A refusal changes the count of events alone and takes no memory; want of memory changes nothing that is shown.
+    /// One event: a case of the table, decided by the volumes as they were. A refusal changes the count of events alone and takes no memory; want of
+    /// memory changes nothing that is shown.
     pub fn apply(&mut self, event: &Event<'_>) -> Result<Listed<Entry>, ApplyFault>
-        ensures answer { Applies result (world_of self.old) (world_of self.new) (Transition (denoting self.old) (world_of self.old) (meant_by event.now)) }
+        ensures answer { Applies result (world_of self.old) (world_of self.new) (Steps self.old event.now) }
         ensures refusal { RefusesFirst result (Transition (denoting self.old) (world_of self.old) (meant_by event.now)) }
         ensures unless_refused { KeepsIfRefused result (world_of self.old) (world_of self.new) }
-        ensures decided { IfOk result (IsDecided self.old event.now) }
         ensures fixed { IsSameFixed self.old self.new }
     {
         apply_in(
@@ -118,7 +120,7 @@ impl<'c, Q: RecordStore> System<'c, Q> {
 
     /// One event, and a refusal as its line. Want of memory changes nothing that is shown.
     fn apply_shown(&mut self, event: &Event<'_>) -> Result<Listed<Entry>, AllocError>
-        ensures step { IfOk result (λ lines. Transition (denoting self.old) (world_of self.old) (meant_by event.now) lines (world_of self.new)) }
+        ensures step { IfOk result (λ lines. Steps self.old event.now lines (world_of self.new)) }
         ensures err { OnErr result (world_of self.new ≡ world_of self.old) }
         ensures fixed { IsSameFixed self.old self.new }
     {
@@ -133,10 +135,14 @@ impl<'c, Q: RecordStore> System<'c, Q> {
         }
     }
 
-    /// Events one after another, up to the first that wants memory. A refusal is shown as its line.
+    /// Events one after another, up to the first that wants memory. A refusal is shown as its line. From a machine with no event yet, what is promised
+    /// of each job that is answered ASSURED is kept.
     pub fn drive(&mut self, events: &[Event<'_>]) -> Driven
-        ensures { IsDriven self.old events.now result.entries.items result.done self.new }
+        ensures done { IsDriven self.old events.now result.entries.items result.done self.new }
+        ensures promised { IsStart (world_of self.old) → ArePromises (denoting self.old) (world_of self.old) (world_of self.new)
+            (map meant_by (take result.done events.now)) result.entries.items }
     {
+        promises_are_kept();
         let mut entries = Vec::new(self.alloc);
         let mut done = 0;
         for event in events {

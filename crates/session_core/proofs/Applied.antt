@@ -6,10 +6,10 @@ use Rattle.std.proofs.lemmas.Grind.{replicate_next}
 use Rattle.jcl_plan.specs.declared.entry.Entry.{Entry}
 use Rattle.jcl_plan.specs.Lines.{text_of}
 use Rattle.input_core.specs.declared.event.Event.{Event}
-use Rattle.sched_core.specs.Systems.{meant_by}
+use Rattle.sched_core.specs.Systems.{Machine, denoting, meant_by, world_of}
 use Rattle.world_meaning.specs.declared.event.Event as meant
 use Rattle.world_meaning.specs.Readings.{Denoting}
-use Rattle.world_meaning.specs.Transitions.{Runs}
+use Rattle.world_meaning.specs.Transitions.{Runs, Transition}
 use Rattle.world_meaning.specs.Worlds.{World}
 use Rattle.session_core.specs.Listings.{text_of_all}
 use Rattle.session_core.specs.Running.{AreApplied, IsApplied}
@@ -46,18 +46,18 @@ AreApplied-behind job world after events out old new a = record {
   text = ap (λ x. out ++ x) a.text ∙ sym (append_assoc out old (text_of_all a.entries));
 }
 
-AreApplied-one : (job : Denoting) (world after : World) (event : Event) (old new : List ℕ) → IsApplied job world event after old new
-    → AreApplied job world (event ∷ []) after old new
-AreApplied-one job world after event old new one = record {
+AreApplied-one : (job : Denoting) (machine : Machine) (after : World) (event : Event) (old new : List ℕ) → denoting machine ≡ job →
+    IsApplied machine event after old new → AreApplied job (world_of machine) (event ∷ []) after old new
+AreApplied-one job machine after event old new same one = record {
   entries = one.lines ∷ [];
-  run = (after, one.step, refl);
+  run = (after, subst (λ j. Transition j (world_of machine) (meant_by event) one.lines after) same one.step.0, refl);
   text = one.text ∙ ap (λ x. old ++ x) (sym (append-nil (flat_map text_of one.lines)));
 }
 
 -- once more
-pub AreApplied-more : (job : Denoting) (world mid after : World) (event : Event) (done : ℕ) (start old new : List ℕ)
-    → AreApplied job world (replicate done event) mid start old → IsApplied job mid event after old new
+pub AreApplied-more : (job : Denoting) (world : World) (mid : Machine) (after : World) (event : Event) (done : ℕ) (start old new : List ℕ)
+    → denoting mid ≡ job → AreApplied job world (replicate done event) (world_of mid) start old → IsApplied mid event after old new
     → AreApplied job world (replicate (done + 1) event) after start new
-AreApplied-more job world mid after event done start old new first one =
-    rw (replicate_next done event) (AreApplied-append job world mid after (replicate done event) (event ∷ []) start old new first
-    (AreApplied-one job mid after event old new one))
+AreApplied-more job world mid after event done start old new same first one =
+    rw (replicate_next done event) (AreApplied-append job world (world_of mid) after (replicate done event) (event ∷ []) start old new first
+    (AreApplied-one job mid after event old new same one))

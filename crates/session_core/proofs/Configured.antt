@@ -11,33 +11,33 @@ use Rattle.session_core.specs.declared.SessionEnd.{SessionEnd}
 use Rattle.session_core.specs.declared.SessionFault.TheVariants.{Stopped}
 use Rattle.session_core.specs.Listings.{Lists}
 use Rattle.session_core.specs.Outcomes.{IsOutcome}
-use Rattle.session_core.specs.Sessions.{config_of, configured_by, events_of, fault_behind, has_begun, has_events, session_behind, told, unless_late, world_of}
+use Rattle.session_core.specs.Sessions.{configuration_of, configured_by, events_of, fault_behind, has_begun, has_events, session_behind, told, unless_late, world_at_start}
 use Rattle.session_core.proofs.Standing.{config_of-more, goes_on, has_begun-more, no_events, stops_at}
 
 -- these statements are configuration, and all of them stand
 pub record Configured (all before rest : List Statement) (c : Configuration) : Type 0 where
   pub session : session_behind [] all ≡ session_behind before rest
-  pub configured : c ≡ config_of before
+  pub configured : c ≡ configuration_of before
   pub not_begun : has_begun before ≡ false
 
-pub Configured-none : (all : List Statement) (c : Configuration) → c ≡ config_of [] → Configured all [] all c
+pub Configured-none : (all : List Statement) (c : Configuration) → c ≡ configuration_of [] → Configured all [] all c
 Configured-none all c is = record { session = refl; configured = is; not_begun = refl }
 
 pub Configured-more : (all before rest : List Statement) (s : Statement) (statement : ConfigStatement) (c new : Configuration) → Configured all before (s ∷ rest) c
     → s.says ≡ Config statement true → config_fault c statement ≡ None → new ≡ configured c statement → Configured all (before ++ s ∷ []) rest new
 Configured-more all before rest s statement c new p says none is =
-    let own : config_fault (config_of before) statement ≡ None = ap (λ x. config_fault x statement) (sym p.configured) ∙ none in
+    let own : config_fault (configuration_of before) statement ≡ None = ap (λ x. config_fault x statement) (sym p.configured) ∙ none in
     let good : fault_behind before s.says ≡ None
     = ap (fault_behind before) says ∙ ap (λ o. unless_late o true (has_begun before)) own ∙ ap (unless_late None true) p.not_begun in
     record {
       session = p.session ∙ goes_on before rest s good;
-      configured = is ∙ ap (λ x. configured x statement) p.configured ∙ sym (ap (configured_by (config_of before)) says) ∙ sym (config_of-more before s);
+      configured = is ∙ ap (λ x. configured x statement) p.configured ∙ sym (ap (configured_by (configuration_of before)) says) ∙ sym (config_of-more before s);
       not_begun = has_begun-more before s ∙ ap (λ b. b || has_events s.says) p.not_begun ∙ ap has_events says;
     }
 
 -- nothing is listed
 pub lists_nothing : (before : List Statement) → has_begun before ≡ false → Lists before (events_of before) []
-lists_nothing before none = record { entries = []; world = world_of before; run = rw (no_events before none) refl; text = refl }
+lists_nothing before none = record { entries = []; world = world_at_start before; run = rw (no_events before none) refl; text = refl }
 
 pub Configured-stops : (all before rest : List Statement) (s : Statement) (c : Configuration) (f : Fault) → Configured all before (s ∷ rest) c → fault_behind before s.says ≡ Some f
     → IsOutcome {T = SessionEnd} (session_behind [] all) (Err (Stopped f s.line)) []

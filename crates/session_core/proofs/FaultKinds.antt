@@ -30,7 +30,7 @@ use Rattle.session_text.specs.Statements.{event_by, group_of, group_with, initia
 use Rattle.session_text.specs.Statements.{says_of, set_of, set_with, statements_from, statements_of, turns_of, turns_with, unit_of, volume_of, volume_with, writes_of}
 use Rattle.session_text.specs.Statements.{writes_with}
 use Rattle.session_text.specs.Volumes.{used_of}
-use Rattle.session_core.specs.Sessions.{Session, config_of, fault_behind, has_begun, session_behind, session_by, session_of, unless_late}
+use Rattle.session_core.specs.Sessions.{Session, configuration_of, fault_behind, has_begun, session_behind, session_by, session_of, unless_late}
 
 abbrev option_kind : (Fault → Bool) → Option Fault → Bool
 option_kind kind None = false
@@ -290,7 +290,7 @@ module _ (kind : Fault → Bool) (bad : kind fault.BadValue ≡ false) (unknown 
       unless_free None true false = refl
 
       fault_free : (before : List Statement) (s : Says) → says_kind kind s ≡ false → option_kind kind (fault_behind before s) ≡ false
-      fault_free before (Config c has_end) free = unless_free (config_fault (config_of before) c) has_end (has_begun before)
+      fault_free before (Config c has_end) free = unless_free (config_fault (configuration_of before) c) has_end (has_begun before)
       fault_free before (Events e times) free = refl
       fault_free before (Refused f) free = free
 

@@ -16,12 +16,12 @@ use Rattle.session_core.specs.declared.SessionEnd.{SessionEnd}
 use Rattle.session_core.specs.declared.SessionFault.{SessionFault}
 use Rattle.session_core.specs.declared.SessionFault.TheVariants.{Stopped, WriteFailed, Memory}
 use Rattle.session_core.specs.declared.listing.Mark.{Mark}
-use Rattle.session_core.specs.Configuring.{IsConfigured, begins_with_event, late_by, late_in}
+use Rattle.session_core.specs.Configuring.{IsConfiguredBy, begins_with_event, late_by, late_in}
 use Rattle.session_core.specs.Listings.{Lists, text_of_all}
 use Rattle.session_core.specs.Marks.{AreMarks, IsListedLast}
 use Rattle.session_core.specs.Outcomes.{IsOutcome, WritesOutcome}
 use Rattle.session_core.specs.Running.{AreApplied, AreAppliedInPart, StatementRuns, mark_at}
-use Rattle.session_core.specs.Sessions.{Session, config_of, configured_by, denoting_in, denoting_of, events_in, events_of, fault_behind, has_begun, has_events, session_behind, start_in, unless_late, world_of}
+use Rattle.session_core.specs.Sessions.{Session, configuration_of, configured_by, denoting_in, denoting_of, events_in, events_of, fault_behind, has_begun, has_events, session_behind, start_in, unless_late, world_at_start}
 use Rattle.session_core.specs.Streams.{SinkState}
 use Rattle.session_core.proofs.Applied.{AreApplied-append, AreApplied-behind, AreApplied-none}
 use Rattle.session_core.proofs.Marked.{AreMarks-more}
@@ -43,10 +43,10 @@ HasBegun before rest = LastIsEvent before ⊎ (begins_with_event rest ≡ true)
 pub record Progress (all before rest : List Statement) (late : Option Fault) (job : Denoting) (world : World) (out : List ℕ) (marks : List Mark)
     (text : List ℕ) : Type 0 where
   pub session : session_behind [] all ≡ session_behind before rest
-  pub found : late ≡ late_in (config_of before) rest
+  pub found : late ≡ late_in (configuration_of before) rest
   pub denotes : job ≡ denoting_of before
   pub begun : HasBegun before rest
-  pub applied : AreApplied job (world_of before) (events_of before) world [] (out ++ text)
+  pub applied : AreApplied job (world_at_start before) (events_of before) world [] (out ++ text)
   pub marked : AreMarks (session_behind [] all).stands (length out) out marks text
 
 -- what a session comes to, with the lines that are written out and those that are held
@@ -64,20 +64,20 @@ written_behind s a b c result out first more = record {
 }
 
 Lists-applied : (before : List Statement) (events : List Event) (job : Denoting) (world : World) (text : List ℕ) → job ≡ denoting_of before
-    → AreApplied job (world_of before) events world [] text → Lists before events text
+    → AreApplied job (world_at_start before) events world [] text → Lists before events text
 Lists-applied before events job world text denotes a = record { entries = a.entries; world = world; run = rw denotes at a.run; text = a.text }
 
 pub Progress-start : (all : List Statement) (from : ℕ) (c : Configuration) (late : Option Fault) (job : Denoting) (world : World) (marks : List Mark)
-    (text : List ℕ) → IsConfigured all from c → late ≡ late_in c (drop from all) → world ≡ start_in c → job ≡ denoting_in c → marks ≡ [] → text ≡ []
+    (text : List ℕ) → IsConfiguredBy all from c → late ≡ late_in c (drop from all) → world ≡ start_in c → job ≡ denoting_in c → marks ≡ [] → text ≡ []
     → Progress all (take from all) (drop from all) late job world [] marks text
 Progress-start all from c late job world marks text p found is denotes no_marks no_text =
-    let start : world ≡ world_of (take from all) = is ∙ ap start_in p.configured in
+    let start : world ≡ world_at_start (take from all) = is ∙ ap start_in p.configured in
     record {
       session = p.session;
       found = found ∙ ap (λ x. late_in x (drop from all)) p.configured;
       denotes = denotes ∙ ap denoting_in p.configured;
       begun = inr p.next;
-      applied = rw (no_events (take from all) p.not_begun, start, no_text) (AreApplied-none job (world_of (take from all)) []);
+      applied = rw (no_events (take from all) p.not_begun, start, no_text) (AreApplied-none job (world_at_start (take from all)) []);
       marked = rw no_marks no_text;
     }
 
@@ -114,10 +114,10 @@ same_config c (Events e times) is = refl
 same_config c (Config s has_end) is = absurd cc
 same_config c (Refused f) is = absurd cc
 
-config_stays : (before : List Statement) (s : Statement) → has_events s.says ≡ true → config_of (before ++ s ∷ []) ≡ config_of before
-config_stays before s is = config_of-more before s ∙ same_config (config_of before) s.says is
+config_stays : (before : List Statement) (s : Statement) → has_events s.says ≡ true → configuration_of (before ++ s ∷ []) ≡ configuration_of before
+config_stays before s is = config_of-more before s ∙ same_config (configuration_of before) s.says is
 
-same_world : (before : List Statement) (s : Statement) → has_events s.says ≡ true → world_of (before ++ s ∷ []) ≡ world_of before
+same_world : (before : List Statement) (s : Statement) → has_events s.says ≡ true → world_at_start (before ++ s ∷ []) ≡ world_at_start before
 same_world before s is = ap start_in (config_stays before s is)
 
 same_denoting : (before : List Statement) (s : Statement) → has_events s.says ≡ true → denoting_of (before ++ s ∷ []) ≡ denoting_of before
@@ -166,7 +166,7 @@ module _ (all before rest : List Statement) (s : Statement) (late : Option Fault
           done = a.done;
           in_statement = rw is (omega (arith, length-replicate times e, a.within));
           lists = rw some (Lists-applied before (events_of before ++ replicate a.done e) job a.after (out ++ new) p.denotes
-              (AreApplied-append job (world_of before) world a.after (events_of before) (replicate a.done e) [] (out ++ text) (out ++ new) p.applied
+              (AreApplied-append job (world_at_start before) world a.after (events_of before) (replicate a.done e) [] (out ++ text) (out ++ new) p.applied
               (AreApplied-behind job world a.after (replicate a.done e) out text new a.applied)));
         };
         lists_earlier = Lists-applied before (events_of before) job world (out ++ text) p.denotes p.applied;
@@ -192,11 +192,11 @@ module _ (all before rest : List Statement) (s : Statement) (late : Option Fault
       ∙ ap (λ x. events_of before ++ events_in x) is in
       record {
         session = p.session ∙ goes_on before rest s (ap (fault_behind before) is);
-        found = p.found ∙ late_behind (config_of before) s.says (late_in (config_of before) rest) event ∙
+        found = p.found ∙ late_behind (configuration_of before) s.says (late_in (configuration_of before) rest) event ∙
             ap (λ x. late_in x rest) (sym (config_stays before s event));
         denotes = p.denotes ∙ sym (same_denoting before s event);
         begun = inl (record { earlier = before; last = s; is = refl; event = event });
-        applied = rw (same_world before s event, events) (AreApplied-append job (world_of before) world after (events_of before) (replicate times e) []
+        applied = rw (same_world before s event, events) (AreApplied-append job (world_at_start before) world after (events_of before) (replicate times e) []
             (out ++ text) (out ++ new) p.applied
             (AreApplied-behind job world after (replicate times e) out text new a));
         marked = marked_more e times new new_marks is (record { done = times; within = omega arith; after = after; applied = a }) more;
@@ -230,19 +230,19 @@ module _ (all before rest : List Statement) (s : Statement) (late : Option Fault
   has_begun_here says is none = ⊎_elim (λ l. l) (λ next. absurd (let e : true ≡ false = sym next ∙ ap has_events is ∙ none in cc)) p.begun
 
   found_here : (statement : ConfigStatement) (has_end : Bool) → s.says ≡ Config statement has_end
-      → late ≡ unless_late (config_fault (config_of before) statement) has_end true
-  found_here statement has_end is = p.found ∙ ap (λ x. late_by (config_of before) x (late_in (config_of before) rest)) is
+      → late ≡ unless_late (config_fault (configuration_of before) statement) has_end true
+  found_here statement has_end is = p.found ∙ ap (λ x. late_by (configuration_of before) x (late_in (configuration_of before) rest)) is
 
   found_some : (statement : ConfigStatement) (has_end : Bool) → s.says ≡ Config statement has_end → is_some late ≡ true
   found_some statement has_end is =
-      ap is_some (found_here statement has_end is) ∙ late_some (config_fault (config_of before) statement) has_end
+      ap is_some (found_here statement has_end is) ∙ late_some (config_fault (configuration_of before) statement) has_end
 
   stops_late : (statement : ConfigStatement) (has_end : Bool) (f : Fault) → s.says ≡ Config statement has_end → late ≡ Some f
       → ComesTo all (Err (Stopped f s.line)) out marks text
   stops_late statement has_end f is told =
       let l = has_begun_here (Config statement has_end) is refl in
       let some : fault_behind before s.says ≡ Some f
-      = ap (fault_behind before) is ∙ ap (unless_late (config_fault (config_of before) statement) has_end) (begun_last before l)
+      = ap (fault_behind before) is ∙ ap (unless_late (config_fault (configuration_of before) statement) has_end) (begun_last before l)
       ∙ sym (found_here statement has_end is) ∙ told in
       stops f some
 

@@ -10,7 +10,7 @@ use Rattle.session_text.specs.declared.fault.Fault.{Fault}
 use Rattle.session_text.specs.declared.statement.Says.{Says}
 use Rattle.session_text.specs.declared.statement.Says.TheVariants.{Config, Events, Refused}
 use Rattle.session_text.specs.declared.statement.Statement.{Statement}
-use Rattle.session_core.specs.Sessions.{config_of, configured_by, events_in, events_of, fault_behind, has_begun, has_events, session_behind, session_by}
+use Rattle.session_core.specs.Sessions.{configuration_of, configured_by, events_in, events_of, fault_behind, has_begun, has_events, session_behind, session_by}
 
 -- what stands begins with what stood already
 front_by : (f : Option Fault) (before statements : List Statement) (s : Statement) → (after : List Statement) × ((session_behind (before ++ s ∷ []) statements).stands ≡ (before ++ s ∷ []) ++ after)
@@ -33,7 +33,7 @@ stops_at before statements s f some = ap (λ o. session_by o before s (session_b
 pub events_of-more : (before : List Statement) (s : Statement) → events_of (before ++ s ∷ []) ≡ events_of before ++ events_in s.says
 events_of-more before s = flat_map-append (λ x. events_in x.says) before (s ∷ []) ∙ ap (λ x. events_of before ++ x) (append-nil (events_in s.says))
 
-pub config_of-more : (before : List Statement) (s : Statement) → config_of (before ++ s ∷ []) ≡ configured_by (config_of before) s.says
+pub config_of-more : (before : List Statement) (s : Statement) → configuration_of (before ++ s ∷ []) ≡ configured_by (configuration_of before) s.says
 config_of-more before s = fold_push (λ c x. configured_by c x.says) nothing_configured before s
 
 or_none : (b : Bool) → (b || false) ≡ b

@@ -5,7 +5,7 @@ use Rattle.session_text.specs.declared.fault.Fault.{Fault}
 use Rattle.session_text.specs.declared.statement.Says.{Says}
 use Rattle.session_text.specs.declared.statement.Says.TheVariants.{Config, Events, Refused}
 use Rattle.session_text.specs.declared.statement.Statement.{Statement}
-use Rattle.session_core.specs.Sessions.{config_of, has_begun, has_events, session_behind, unless_late}
+use Rattle.session_core.specs.Sessions.{configuration_of, has_begun, has_events, session_behind, unless_late}
 
 -- what is told of the first of these statements that is configuration, where they stand behind the first event
 abbrev pub late_by : Configuration → Says → Option Fault → Option Fault
@@ -22,9 +22,9 @@ begins_with_event [] = true
 begins_with_event (s ∷ statements) = has_events s.says
 
 -- the statements before this place are the configuration, all of which stands, and an event stands there
-pub record IsConfigured (all : List Statement) (at : ℕ) (c : Configuration) : Type 0 where
+pub record IsConfiguredBy (all : List Statement) (at : ℕ) (c : Configuration) : Type 0 where
   pub within : at ≤ length all
   pub session : session_behind [] all ≡ session_behind (take at all) (drop at all)
-  pub configured : c ≡ config_of (take at all)
+  pub configured : c ≡ configuration_of (take at all)
   pub not_begun : has_begun (take at all) ≡ false
   pub next : begins_with_event (drop at all) ≡ true

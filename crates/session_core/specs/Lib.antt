@@ -2,7 +2,7 @@ pub mod Sessions
 pub mod Listings
 pub mod Streams
 pub mod Outcomes
-pub mod Numbers
+pub mod FaultNumbers
 pub mod Marks
 pub mod Configuring
 pub mod Running

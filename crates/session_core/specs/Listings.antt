@@ -8,7 +8,7 @@ use Rattle.sched_core.specs.Systems.{meant_by}
 use Rattle.world_meaning.specs.Transitions.{Runs}
 use Rattle.world_meaning.specs.Worlds.{World}
 use Rattle.session_text.specs.declared.statement.Statement.{Statement}
-use Rattle.session_core.specs.Sessions.{denoting_of, events_in, events_of, world_of}
+use Rattle.session_core.specs.Sessions.{denoting_of, events_in, events_of, world_at_start}
 
 -- the lines of events as text
 abbrev pub text_of_all : List (List Entry) → List ℕ
@@ -18,7 +18,7 @@ text_of_all entries = flat_map (λ lines. flat_map text_of lines) entries
 pub record Lists (config : List Statement) (events : List Event) (listing : List ℕ) : Type 0 where
   pub entries : List (List Entry)
   pub world : World
-  pub run : Runs (denoting_of config) (world_of config) (map meant_by events) entries world
+  pub run : Runs (denoting_of config) (world_at_start config) (map meant_by events) entries world
   pub text : listing ≡ text_of_all entries
 
 -- the events of these statements, and of one more as many as were done

@@ -4,9 +4,9 @@ use Rattle.std.specs.List.{flat_map}
 use Rattle.jcl_plan.specs.declared.entry.Entry.{Entry}
 use Rattle.jcl_plan.specs.Lines.{text_of}
 use Rattle.input_core.specs.declared.event.Event.{Event}
-use Rattle.sched_core.specs.Systems.{meant_by}
+use Rattle.sched_core.specs.Systems.{Machine, Steps, meant_by}
 use Rattle.world_meaning.specs.Readings.{Denoting}
-use Rattle.world_meaning.specs.Transitions.{Runs, Transition}
+use Rattle.world_meaning.specs.Transitions.{Runs}
 use Rattle.world_meaning.specs.Worlds.{World}
 use Rattle.session_text.specs.declared.fault.Fault.{Fault}
 use Rattle.session_text.specs.declared.statement.Says.{Says}
@@ -16,10 +16,10 @@ use Rattle.session_core.specs.declared.SessionFault.TheVariants.{Stopped, WriteF
 use Rattle.session_core.specs.declared.listing.Mark.{Mark}
 use Rattle.session_core.specs.Listings.{text_of_all}
 
--- an event, and the text before and after it
-pub record IsApplied (job_of : Denoting) (world : World) (event : Event) (after : World) (old new : List ℕ) : Type 0 where
+-- an event, which is a step of the machine, and the text before and after it
+pub record IsApplied (machine : Machine) (event : Event) (after : World) (old new : List ℕ) : Type 0 where
   pub lines : List Entry
-  pub step : Transition job_of world (meant_by event) lines after
+  pub step : Steps machine event lines after
   pub text : new ≡ old ++ flat_map text_of lines
 
 pub record AreApplied (job_of : Denoting) (world : World) (events : List Event) (after : World) (old new : List ℕ) : Type 0 where

@@ -35,21 +35,21 @@ configured_by c (Config s has_end) = configured c s
 configured_by c (Events e times) = c
 configured_by c (Refused f) = c
 
-abbrev pub config_of : List Statement → Configuration
-config_of statements = fold (λ c s. configured_by c s.says) nothing_configured statements
+abbrev pub configuration_of : List Statement → Configuration
+configuration_of statements = fold (λ c s. configured_by c s.says) nothing_configured statements
 
 -- the machine that they configure, before its first event, and the job that a deck denotes in it; nothing analyses jobs yet
 abbrev pub start_in : Configuration → World
 start_in c = start_of c false MOST_VIEWS LAYOUT_1 FIRST_DAY
 
-abbrev pub world_of : List Statement → World
-world_of statements = start_in (config_of statements)
+abbrev pub world_at_start : List Statement → World
+world_at_start statements = start_in (configuration_of statements)
 
 abbrev pub denoting_in : Configuration → Denoting
 denoting_in c = job_of (unit_names c.units) c.library
 
 abbrev pub denoting_of : List Statement → Denoting
-denoting_of statements = denoting_in (config_of statements)
+denoting_of statements = denoting_in (configuration_of statements)
 
 abbrev pub has_events : Says → Bool
 has_events (Events e times) = true
@@ -72,7 +72,7 @@ unless_late None true false = None
 
 -- what refuses a statement that stands behind these
 abbrev pub fault_behind : List Statement → Says → Option Fault
-fault_behind before (Config s has_end) = unless_late (config_fault (config_of before) s) has_end (has_begun before)
+fault_behind before (Config s has_end) = unless_late (config_fault (configuration_of before) s) has_end (has_begun before)
 fault_behind before (Events e times) = None
 fault_behind before (Refused f) = Some f
 

@@ -1,7 +1,7 @@
 //! The statements of the configuration.
 ghost use Rattle.std.specs.Prelude.{◌≡◌, [], Err, IfErr, IfOk, Some, false, true};
 ghost use Rattle.config_core.specs.Configs.{config_fault, nothing_configured};
-ghost use Rattle.session_core.specs.Configuring.{IsConfigured, late_in};
+ghost use Rattle.session_core.specs.Configuring.{IsConfiguredBy, late_in};
 ghost use Rattle.session_core.specs.Outcomes.{IsOutcome, is_write_fault};
 ghost use Rattle.session_core.specs.Sessions.{session_behind, told, unless_late};
 ghost use Rattle.session_core.specs.declared.SessionEnd.{SessionEnd};
@@ -57,7 +57,7 @@ pub(crate) fn configure(
     statements: &[Statement<'_>],
 ) -> Result<usize, SessionFault>
     requires { config.old ≡ nothing_configured }
-    ensures ok { IfOk result (λ at. IsConfigured statements.now at config.new) }
+    ensures ok { IfOk result (λ at. IsConfiguredBy statements.now at config.new) }
     ensures err { IfErr result (λ fault. IsOutcome {T = SessionEnd} (session_behind [] statements.now) (Err fault) []) }
     ensures writes_none { is_write_fault result ≡ false }
 {

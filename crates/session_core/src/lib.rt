@@ -9,7 +9,7 @@ mod transfer;
 
 ghost use Rattle.std.specs.Prelude.{◌≡◌, ℕ, List, false};
 ghost use Rattle.session_core.specs.Failures.{AreTold, TellsCut};
-ghost use Rattle.session_core.specs.Numbers.{number_and_line};
+ghost use Rattle.session_core.specs.FaultNumbers.{number_and_line};
 ghost use Rattle.session_core.specs.Outcomes.{IsRun, IsSession};
 ghost use Rattle.session_core.specs.Sessions.{session_of};
 ghost use Rattle.session_core.specs.Streams.{sink_state, source_state};

@@ -4,7 +4,7 @@ ghost use Rattle.cb_meaning.specs.declared.layout.TheConstants.{LAYOUT_1};
 ghost use Rattle.cb_queue.specs.RecordQueues.{empty_queue};
 ghost use Rattle.input_core.specs.declared.statement.ConfigStatement.{ConfigStatement};
 ghost use Rattle.config_core.specs.Configs.{Configuration};
-ghost use Rattle.session_core.specs.Configuring.{IsConfigured, late_in};
+ghost use Rattle.session_core.specs.Configuring.{IsConfiguredBy, late_in};
 ghost use Rattle.session_core.specs.Outcomes.{WritesOutcome, is_write_fault};
 ghost use Rattle.session_core.specs.Running.{AreApplied, AreAppliedInPart, IsApplied, StatementRuns};
 ghost use Rattle.session_core.specs.Sessions.{denoting_in, session_behind, start_in};
@@ -39,7 +39,7 @@ fn run_event(
     event: &Event<'_>,
     listing: &mut Listing,
 ) -> Result<(), AllocError>
-    ensures ok { OnOk result (IsApplied (denoting system.old) (world_of system.old) event.now (world_of system.new) listing.old.text.kept listing.new.text.kept) }
+    ensures ok { OnOk result (IsApplied system.old event.now (world_of system.new) listing.old.text.kept listing.new.text.kept) }
     ensures err { OnErr result (listing.new.text.kept ≡ listing.old.text.kept) }
     ensures fixed { IsSameFixed system.old system.new }
     ensures marks { listing.new.marks.items ≡ listing.old.marks.items }
@@ -113,7 +113,7 @@ fn run_from<W: Write>(
     system: &mut System<'_, ListStore>,
     sink: &mut Sink<'_, W>,
 ) -> Result<SessionEnd, SessionFault>
-    requires configured { (c : Configuration) × IsConfigured statements.now from c × (late ≡ late_in c (drop from statements.now))
+    requires configured { (c : Configuration) × IsConfiguredBy statements.now from c × (late ≡ late_in c (drop from statements.now))
         × (world_of system.old ≡ start_in c) × (denoting system.old ≡ denoting_in c) }
     requires unfailed { sink.old.failed ≡ false }
     ensures outcome { WritesOutcome (sink_state W.contents sink.old) (sink_state W.contents sink.new) [] (session_behind [] statements.now) result }

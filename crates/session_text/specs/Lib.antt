@@ -1,4 +1,4 @@
-pub mod Numbers
+pub mod FaultNumbers
 pub mod Lines
 pub mod Fields
 pub mod Rows

@@ -1,6 +1,6 @@
 //! Why a session ends before its text does.
 ghost use Rattle.std.specs.Prelude.{◌≡◌};
-ghost use Rattle.session_text.specs.Numbers.{number_of};
+ghost use Rattle.session_text.specs.FaultNumbers.{number_of};
 
 use thiserror::Error;
 

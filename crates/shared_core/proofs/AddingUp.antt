@@ -6,7 +6,7 @@ use Rattle.std.proofs.lemmas.Option.{same_Some}
 use Rattle.vtoc_core.specs.declared.volume.Track.{Track}
 use Rattle.vtoc_core.specs.declared.volume.Track.TheVariants.{Free, InSet, Unusable}
 use Rattle.vtoc_core.specs.Extents.{tracks_in}
-use Rattle.vtoc_core.specs.Volumes.{IsSound, VolumeState, count_of, extents_of_all, is_kind, marked, times_in}
+use Rattle.vtoc_core.specs.Volumes.{IsSoundVolume, VolumeState, count_of, extents_of_all, is_kind, marked, times_in}
 use Rattle.vtoc_core.proofs.CountLemmas.{count-cons, counts_sum, kind_other, moves}
 use Rattle.vtoc_core.proofs.KindLemmas.{free≢in_set, marked_in, marked_not_in}
 use Rattle.mount_core.specs.Kept.{extents_kept}
@@ -20,7 +20,7 @@ none_in_sets (t ∷ ts) h =
     let z : ◌≡◌ {A = ℕ} (cond (is_kind InSet t) 1 0) 0 = ap (λ b. cond b 1 0) (kind_other InSet t (λ q. h 0 (ap Some (sym q)))) in
     count-cons InSet t ts ∙ omega (arith, i, z)
 
-module _ (v : VolumeState) (s : IsSound v) where
+module _ (v : VolumeState) (s : IsSoundVolume v) where
   freed : (k : ℕ) → slice_get (marked Free (extents_of_all v.sets) v.tracks) k ≢ Some InSet
   freed k h =
       ⊎_elim
@@ -37,7 +37,7 @@ module _ (v : VolumeState) (s : IsSound v) where
       let z : count_of InSet (marked Free (extents_of_all v.sets) v.tracks) ≡ 0 = none_in_sets (marked Free (extents_of_all v.sets) v.tracks) freed in
       omega (arith, m, z)
 
-pub adds_up_by : (m : MountedState) → IsSound m.volume →
+pub adds_up_by : (m : MountedState) → IsSoundVolume m.volume →
     count_of Free m.volume.tracks + tracks_in (extents_kept m.kept) + tracks_in (extents_of_all m.volume.sets) + count_of Unusable m.volume.tracks
     ≡ length m.volume.tracks →
     AddsUp m

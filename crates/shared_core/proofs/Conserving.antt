@@ -18,7 +18,7 @@ use Rattle.mount_core.specs.Mounts.{MountedState}
 use Rattle.shared_core.specs.declared.store.SharedStore.{SharedStore}
 use Rattle.shared_core.specs.Laws.{TracksAreConserved}
 use Rattle.shared_core.specs.Rooms.{Room, all_tracks, room_of}
-use Rattle.shared_core.specs.Shown.{data_of, kept_on as kept_at, mounted_in, set_on}
+use Rattle.shared_core.specs.Shown.{data_of, kept_extents as kept_at, mounted_in, set_on}
 use Rattle.shared_core.specs.Tracks.{AddsUp, IsShown, NothingKept, VolumesAddUp, free_tracks}
 use Rattle.shared_core.proofs.SetTracks.{not_among, not_among_both, once, once-are_different, once-touches, sum_of_all}
 use Rattle.shared_core.proofs.Unkept.{no_tracks_kept}

@@ -18,7 +18,7 @@ use Rattle.jcl_meaning.specs.Programs.{or_nothing}
 use Rattle.jcl_meaning.specs.Stores.{Store, cut, cut_at, uncatalogued_by, with_entry, with_set, with_set_there}
 use Rattle.jname_core.specs.Generations.{base_of}
 use Rattle.store_core.specs.Actions.{changed_at}
-use Rattle.store_core.specs.Numbers.{with_number_by}
+use Rattle.store_core.specs.EnteredNumbers.{with_number_by}
 use Rattle.vtoc_core.specs.declared.entry.SetKey.{SetKey}
 use Rattle.vtoc_core.specs.declared.entry.SetKey.TheVariants as world
 use Rattle.vtoc_core.specs.Entries.{same_key as same_world_key}
@@ -26,7 +26,7 @@ use Rattle.world_meaning.specs.Lenses.{WorldStore, seen, seen_set, world_key}
 use Rattle.mount_core.specs.Mounts.{MountedState}
 use Rattle.shared_core.specs.declared.store.SharedStore.{SharedStore}
 use Rattle.shared_core.specs.Rooms.{kept_place, others_of, set_of_others, spent}
-use Rattle.shared_core.specs.Shown.{set_on, mounted_in, world_of}
+use Rattle.shared_core.specs.Shown.{set_on, mounted_in, world_store_of}
 use Rattle.shared_core.specs.Writes.{Changes, Keeps, KeepsOthers, Writes}
 use Rattle.shared_core.proofs.WorldKeys.{name_put, name_taken}
 use Rattle.shared_core.proofs.Written.{at_its_place}
@@ -131,15 +131,15 @@ with_volumes s volumes = record { alloc = s.alloc; catalog = s.catalog; volumes 
 
 module _ (job : ℕ) (s : SharedStore) (volumes : List MountedState) (key : Key) (k : SetKey) (serial : List ℕ) (own : Some k ≡ world_key job key) where
   pub seen_written : (there : Option DataSet) → Writes s.volumes volumes k serial there →
-      seen job (world_of (with_volumes s volumes)) ≡ with_set (seen job (world_of s)) key serial there
+      seen job (world_store_of (with_volumes s volumes)) ≡ with_set (seen job (world_store_of s)) key serial there
   seen_written there w = λ i. record {
-    set = λ q v. seen_step job (world_of s) (world_of (with_volumes s volumes)) serial there q key k v w.set own i;
+    set = λ q v. seen_step job (world_store_of s) (world_store_of (with_volumes s volumes)) serial there q key k v w.set own i;
     catalog = λ n. get s.catalog n;
   }
 
   pub others_written : (there : Option DataSet) → Writes s.volumes volumes k serial there → Keeps s.volumes volumes → others_of job (with_volumes s volumes) ≡ others_of job s
   others_written there w kept = λ i. record {
-    set = λ q v. others_step job (world_of s) (world_of (with_volumes s volumes)) serial there q key k v w.set own i;
+    set = λ q v. others_step job (world_store_of s) (world_store_of (with_volumes s volumes)) serial there q key k v w.set own i;
     rooms = w.rooms i;
     kept = λ v at. kept v at i;
   }
@@ -147,7 +147,7 @@ module _ (job : ℕ) (s : SharedStore) (volumes : List MountedState) (key : Key)
   pub others_made : (place : Place) (there : Option DataSet) → Writes s.volumes volumes k serial there → KeepsOthers s.volumes volumes place.serial (kept_place job place) →
       others_of job (with_volumes s volumes) ≡ spent job (place ∷ []) (others_of job s)
   others_made place there w kept = λ i. record {
-    set = λ q v. others_step job (world_of s) (world_of (with_volumes s volumes)) serial there q key k v w.set own i;
+    set = λ q v. others_step job (world_store_of s) (world_store_of (with_volumes s volumes)) serial there q key k v w.set own i;
     rooms = w.rooms i;
     kept = λ v at. kept v at i;
   }
@@ -158,7 +158,7 @@ module _ (job : ℕ) (s : SharedStore) (volumes : List MountedState) (key : Key)
   none_there false x h = refl
 
   not_written : set_on (mounted_in s.volumes serial) k ≡ None → Writes s.volumes volumes k serial None →
-      seen job (world_of (with_volumes s volumes)) ≡ seen job (world_of s)
+      seen job (world_store_of (with_volumes s volumes)) ≡ seen job (world_store_of s)
   not_written n w = λ i. seen job (record {
     set = λ q v.
         (w.set q v ∙ none_there (same_world_key q k && bytes_eq v serial) (set_on (mounted_in s.volumes v) q) (λ e. at_its_place s.volumes q k v serial e ∙ n)) i;
@@ -166,15 +166,15 @@ module _ (job : ℕ) (s : SharedStore) (volumes : List MountedState) (key : Key)
   })
 
   by_what_is_there : (f : DataSet → DataSet) (o : Option DataSet) → set_on (mounted_in s.volumes serial) k ≡ o → Writes s.volumes volumes k serial (option_map f o) →
-      seen job (world_of (with_volumes s volumes)) ≡ with_set_there o (f (or_nothing o)) (seen job (world_of s)) key serial
+      seen job (world_store_of (with_volumes s volumes)) ≡ with_set_there o (f (or_nothing o)) (seen job (world_store_of s)) key serial
   by_what_is_there f None e w = not_written e w
   by_what_is_there f (Some set) e w = seen_written (Some (f set)) w
 
   pub seen_changed : (f : DataSet → DataSet) → Changes f s.volumes volumes k serial →
-      seen job (world_of (with_volumes s volumes)) ≡ changed_at f (seen job (world_of s)) key serial
+      seen job (world_store_of (with_volumes s volumes)) ≡ changed_at f (seen job (world_store_of s)) key serial
   seen_changed f w =
       by_what_is_there f (set_on (mounted_in s.volumes serial) k) refl w.0
-      ∙ ap (λ o. with_set_there o (f (or_nothing o)) (seen job (world_of s)) key serial) (sym (seen_at job (world_of s) key k serial own))
+      ∙ ap (λ o. with_set_there o (f (or_nothing o)) (seen job (world_store_of s)) key serial) (sym (seen_at job (world_store_of s) key k serial own))
 
   pub others_changed : (f : DataSet → DataSet) → Changes f s.volumes volumes k serial → others_of job (with_volumes s volumes) ≡ others_of job s
   others_changed f w = others_written (option_map f (set_on (mounted_in s.volumes serial) k)) w.0 w.1
@@ -184,39 +184,39 @@ module _ (job : ℕ) (s : SharedStore) (volumes : List MountedState) (key : Key)
   cut_there (Some set) t = refl
 
   pub seen_cut : Changes cut s.volumes volumes k serial →
-      seen job (world_of (with_volumes s volumes)) ≡ cut_at (seen_set job (world_of s) key serial) (seen job (world_of s)) key serial
-  seen_cut w = seen_changed cut w ∙ cut_there (seen_set job (world_of s) key serial) (seen job (world_of s))
+      seen job (world_store_of (with_volumes s volumes)) ≡ cut_at (seen_set job (world_store_of s) key serial) (seen job (world_store_of s)) key serial
+  seen_cut w = seen_changed cut w ∙ cut_there (seen_set job (world_store_of s) key serial) (seen job (world_store_of s))
 
 -- the catalog with one entry put, or taken out
 module _ (job : ℕ) (s : SharedStore) (catalog : Contents) where
   abbrev pub with_catalog : SharedStore
   with_catalog = record { alloc = s.alloc; catalog = catalog; volumes = s.volumes }
 
-  seen_set_same : (q : Key) (v : List ℕ) → seen_set job (world_of with_catalog) q v ≡ seen_set job (world_of s) q v
+  seen_set_same : (q : Key) (v : List ℕ) → seen_set job (world_store_of with_catalog) q v ≡ seen_set job (world_store_of s) q v
   seen_set_same (Named a) v = refl
   seen_set_same (Relative b t n) v = refl
   seen_set_same (Temporary a) v = refl
   seen_set_same (Unnamed t d) v = refl
 
   pub seen_entered : (name : List ℕ) (e : CatEntry) → catalog ≡ insert s.catalog name e →
-      seen job (world_of with_catalog) ≡ with_entry (seen job (world_of s)) name (Some e)
+      seen job (world_store_of with_catalog) ≡ with_entry (seen job (world_store_of s)) name (Some e)
   seen_entered name e p = λ i. record {
     set = λ q v. seen_set_same q v i;
     catalog = λ n. (ap (λ (m : Contents). get m n) p ∙ name_put s.catalog name e n) i;
   }
 
-  pub seen_left : (name : List ℕ) → catalog ≡ remove s.catalog name → seen job (world_of with_catalog) ≡ with_entry (seen job (world_of s)) name None
+  pub seen_left : (name : List ℕ) → catalog ≡ remove s.catalog name → seen job (world_store_of with_catalog) ≡ with_entry (seen job (world_store_of s)) name None
   seen_left name p = λ i. record {
     set = λ q v. seen_set_same q v i;
     catalog = λ n. (ap (λ (m : Contents). get m n) p ∙ name_taken s.catalog name n) i;
   }
 
   pub seen_uncatalogued : (m : Option Member) (name : List ℕ) → catalog ≡ without_name_by m s.catalog name →
-      seen job (world_of with_catalog) ≡ uncatalogued_by m (seen job (world_of s)) name
+      seen job (world_store_of with_catalog) ≡ uncatalogued_by m (seen job (world_store_of s)) name
   seen_uncatalogued None name p = seen_left name p
   seen_uncatalogued (Some m) name p = seen_entered (base_of name) (Group (record m.1 { generations = without m.1.generations m.0 })) p
 
   pub seen_numbered : (g : Option GroupState) (base : List ℕ) (number : ℕ) (serial : List ℕ) → catalog ≡ with_generation_by g s.catalog base number serial →
-      seen job (world_of with_catalog) ≡ with_number_by g (seen job (world_of s)) base number serial
+      seen job (world_store_of with_catalog) ≡ with_number_by g (seen job (world_store_of s)) base number serial
   seen_numbered None base number serial p = λ i. record { set = λ q v. seen_set_same q v i; catalog = λ n. get (p i) n }
   seen_numbered (Some g) base number serial p = seen_entered base (Group (with_entered g number serial)) p

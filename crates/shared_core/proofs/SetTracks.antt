@@ -16,11 +16,12 @@ use Rattle.vtoc_core.specs.Extents.{tracks_in}
 use Rattle.vtoc_core.specs.Volumes.{extents_of_all}
 use Rattle.vtoc_core.proofs.MapLemmas.{get_removed, insert-remove, insert_same}
 use Rattle.vtoc_core.proofs.PlaceLemmas.{key_same_itself, key_total, keys_same, keys_tie}
-use Rattle.world_meaning.specs.Tracks.{are_different, is_touched, tracks_of}
+use Rattle.world_meaning.specs.Tracks.{is_touched, tracks_of}
 use Rattle.mount_core.proofs.Keeping.{tracks_in-append}
 use Rattle.shared_core.specs.Shown.{data_of}
 use Rattle.shared_core.proofs.NoEntries.{no_entries}
 use Rattle.shared_core.proofs.WorldKeys.{keys_tied, set_taken}
+use Rattle.plain.specs.Lists.{all_different}
 
 abbrev extents_in : List (SetKey × SetEntry) → List Extent
 extents_in es = flat_map (λ s. s.1.extents.items) es
@@ -92,12 +93,12 @@ not_true : (b : Bool) → not b ≡ true → b ≡ false
 not_true true h = absurd cc
 not_true false h = refl
 
-pub sum_of_all : (keys : List SetKey) (m : Sets) → are_different keys ≡ true → ((q : SetKey) → is_touched keys q ≡ false → get m q ≡ None) →
+pub sum_of_all : (keys : List SetKey) (m : Sets) → all_different same_key keys ≡ true → ((q : SetKey) → is_touched keys q ≡ false → get m q ≡ None) →
     sum_by (tracks_at m) keys ≡ tracks_in (extents_of_all m)
 sum_of_all [] m d h =
     sym (ap (λ (es : List (SetKey × SetEntry)). tracks_in (extents_in es)) (no_entries key_total keys_tie m (λ q. h q refl)))
 sum_of_all (k ∷ keys) m d h =
-    let p = and_parts (not (is_touched keys k)) (are_different keys) d in
+    let p = and_parts (not (is_touched keys k)) (all_different same_key keys) d in
     let same : sum_by (tracks_at m) keys ≡ sum_by (tracks_at (remove m k)) keys = others_same m k keys (not_true (is_touched keys k) p.0) in
     let rest : sum_by (tracks_at (remove m k)) keys ≡ tracks_in (extents_of_all (remove m k)) =
     sum_of_all keys (remove m k) p.1 (λ q t. gone m k q (same_key q k) refl (λ e. h q (joined (same_key q k) (is_touched keys q) e t))) in
@@ -108,11 +109,11 @@ abbrev pub once : List SetKey → List SetKey
 once [] = []
 once (k ∷ keys) = cond (is_touched (once keys) k) (once keys) (k ∷ once keys)
 
-different_step : (k : SetKey) (keys : List SetKey) (b : Bool) → is_touched keys k ≡ b → are_different keys ≡ true → are_different (cond b keys (k ∷ keys)) ≡ true
+different_step : (k : SetKey) (keys : List SetKey) (b : Bool) → is_touched keys k ≡ b → all_different same_key keys ≡ true → all_different same_key (cond b keys (k ∷ keys)) ≡ true
 different_step k keys true e h = h
-different_step k keys false e h = ap (λ b. not b && are_different keys) e ∙ h
+different_step k keys false e h = ap (λ b. not b && all_different same_key keys) e ∙ h
 
-pub once-are_different : (keys : List SetKey) → are_different (once keys) ≡ true
+pub once-are_different : (keys : List SetKey) → all_different same_key (once keys) ≡ true
 once-are_different [] = refl
 once-are_different (k ∷ keys) = different_step k (once keys) (is_touched (once keys) k) refl (once-are_different keys)
 

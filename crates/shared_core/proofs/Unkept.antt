@@ -12,7 +12,7 @@ use Rattle.mount_core.specs.Kept.{Kept, extents_kept, place_cmp}
 use Rattle.mount_core.specs.Mounts.{MountedState}
 use Rattle.mount_core.proofs.Places.{place_total, places_tie}
 use Rattle.shared_core.specs.Rooms.{is_same_place, kept_place, without_kept}
-use Rattle.shared_core.specs.Shown.{kept_on, mounted_in}
+use Rattle.shared_core.specs.Shown.{kept_extents, mounted_in}
 use Rattle.shared_core.proofs.NoEntries.{no_entries}
 
 none_out : (b : Bool) (x : Option (List Extent)) → x ≡ None → cond b None x ≡ None
@@ -31,12 +31,12 @@ pub no_tracks_kept : (kept : Kept) → ((at : KeptPlace) → get kept at ≡ Non
 no_tracks_kept kept h = ap (λ (es : List (KeptPlace × List Extent)). tracks_in (flat_map (λ e. e.1) es)) (no_entries place_total places_tie kept h)
 
 -- on volumes that are new nothing is kept
-first_or : (at : KeptPlace) (b : Bool) (m : MountedState) (o : Option MountedState) → get m.kept at ≡ None → kept_on o at ≡ None → kept_on (cond b (Some m) o) at ≡ None
+first_or : (at : KeptPlace) (b : Bool) (m : MountedState) (o : Option MountedState) → get m.kept at ≡ None → kept_extents o at ≡ None → kept_extents (cond b (Some m) o) at ≡ None
 first_or at true m o h k = h
 first_or at false m o h k = k
 
 pub new_keep_nothing : (volumes : List MountedState) → All (λ (m : MountedState). m.kept ≡ empty) volumes → (serial : List ℕ) (at : KeptPlace) →
-    kept_on (mounted_in volumes serial) at ≡ None
+    kept_extents (mounted_in volumes serial) at ≡ None
 new_keep_nothing [] a serial at = refl
 new_keep_nothing (m ∷ ms) a serial at =
     first_or at (bytes_eq m.serial serial) m (mounted_in ms serial)

@@ -15,7 +15,7 @@ use Rattle.mount_core.specs.declared.place.KeptPlace.{KeptPlace}
 use Rattle.mount_core.specs.Kept.{Kept}
 use Rattle.mount_core.specs.Mounts.{MountedState}
 use Rattle.shared_core.specs.Rooms.{all_tracks, is_same_place}
-use Rattle.shared_core.specs.Shown.{data_of, kept_on, mounted_in, set_on}
+use Rattle.shared_core.specs.Shown.{data_of, kept_extents, mounted_in, set_on}
 use Rattle.shared_core.specs.Writes.{Changes, ChangesOn, IsFirstMounted, Keeps, KeepsOn, KeepsOthers, KeepsOthersOn, Writes, WritesOn}
 use Rattle.shared_core.proofs.WorldKeys.{names_same, set_put, set_taken}
 use Rattle.vtoc_core.proofs.PlaceLemmas.{keys_same}
@@ -129,14 +129,14 @@ written_step q true false new its o there h w = refl
 written_step q false false new its o there h w = refl
 
 kept_step : (at : KeptPlace) (c : Bool) (new its : MountedState) (o : Option MountedState) → (c ≡ true → o ≡ Some its) → get new.kept at ≡ get its.kept at →
-    kept_on (cond c (Some new) o) at ≡ kept_on o at
-kept_step at true new its o h w = w ∙ ap (λ o. kept_on o at) (sym (h refl))
+    kept_extents (cond c (Some new) o) at ≡ kept_extents o at
+kept_step at true new its o h w = w ∙ ap (λ o. kept_extents o at) (sym (h refl))
 kept_step at false new its o h w = refl
 
 used_step : (at : KeptPlace) (b c : Bool) (new its : MountedState) (o : Option MountedState) → (c ≡ true → o ≡ Some its) →
-    get new.kept at ≡ cond b None (get its.kept at) → kept_on (cond c (Some new) o) at ≡ cond (b && c) None (kept_on o at)
+    get new.kept at ≡ cond b None (get its.kept at) → kept_extents (cond c (Some new) o) at ≡ cond (b && c) None (kept_extents o at)
 used_step at true true new its o h w = w
-used_step at false true new its o h w = w ∙ ap (λ o. kept_on o at) (sym (h refl))
+used_step at false true new its o h w = w ∙ ap (λ o. kept_extents o at) (sym (h refl))
 used_step at true false new its o h w = refl
 used_step at false false new its o h w = refl
 
@@ -154,12 +154,12 @@ module _ (volumes : List MountedState) (serial : List ℕ) (place : ℕ) (f : Is
 
   pub keeps_at : new.serial ≡ f.its_volume.serial → KeepsOn f.its_volume new → Keeps volumes (slice_set volumes place new)
   keeps_at s w v at =
-      ap (λ o. kept_on o at) (f.changed new v s)
+      ap (λ o. kept_extents o at) (f.changed new v s)
       ∙ kept_step at (bytes_eq v serial) new f.its_volume (mounted_in volumes v) (found_at v) (ap (λ (m : Kept). get m at) w)
 
   pub keeps_others_at : (its : KeptPlace) → new.serial ≡ f.its_volume.serial → KeepsOthersOn f.its_volume new its → KeepsOthers volumes (slice_set volumes place new) serial its
   keeps_others_at its s w v at =
-      ap (λ o. kept_on o at) (f.changed new v s)
+      ap (λ o. kept_extents o at) (f.changed new v s)
       ∙ used_step at (is_same_place at its) (bytes_eq v serial) new f.its_volume (mounted_in volumes v) (found_at v) (w at)
 
 -- as the code has it: the list, the volume that it read there, and the list with that volume written

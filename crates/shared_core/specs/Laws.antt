@@ -6,13 +6,13 @@ use Rattle.world_meaning.specs.Tracks.{Conserves}
 use Rattle.world_meaning.specs.Worlds.{Shared}
 use Rattle.shared_core.specs.declared.store.SharedStore.{SharedStore}
 use Rattle.shared_core.specs.Rooms.{others_of, room_of, spent}
-use Rattle.shared_core.specs.Shown.{world_of}
+use Rattle.shared_core.specs.Shown.{world_store_of}
 use Rattle.shared_core.specs.Tracks.{IsShown, NothingKept, VolumesAddUp}
 
 -- where the sets that others alone see are as before, a job wrote what it sees
 abbrev pub SetsOfOthersStay : Type 0
 SetsOfOthersStay = (job : ℕ) (old new : SharedStore) → (others_of job new).set ≡ (others_of job old).set →
-    world_of new ≡ put_back job (world_of old) (seen job (world_of new))
+    world_store_of new ≡ put_back job (world_store_of old) (seen job (world_store_of new))
 
 -- a job that makes sets keeps nothing where nothing was kept
 abbrev pub NothingKeptStays : Type 0

@@ -17,7 +17,7 @@ use Rattle.world_meaning.specs.Lenses.{WorldStore, world_key}
 use Rattle.mount_core.specs.declared.place.KeptPlace.{KeptPlace}
 use Rattle.mount_core.specs.Mounts.{MountedState, holds}
 use Rattle.shared_core.specs.declared.store.SharedStore.{SharedStore}
-use Rattle.shared_core.specs.Shown.{kept_on, mounted_in, world_of}
+use Rattle.shared_core.specs.Shown.{kept_extents, mounted_in, world_store_of}
 
 -- the sets that others than a job alone see
 abbrev pub set_of_others : ℕ → WorldStore → SetKey → List ℕ → Option DataSet
@@ -44,9 +44,9 @@ pub record Others : Type 0 where
 
 abbrev pub others_of : ℕ → SharedStore → Others
 others_of job s = record {
-  set = λ k serial. set_of_others job (world_of s) k serial;
+  set = λ k serial. set_of_others job (world_store_of s) k serial;
   rooms = map room_of s.volumes;
-  kept = λ serial at. kept_on (mounted_in s.volumes serial) at;
+  kept = λ serial at. kept_extents (mounted_in s.volumes serial) at;
 }
 
 -- a set that is made uses up the tracks that are kept for it on its volume

@@ -27,9 +27,9 @@ set_on None k = None
 set_on (Some m) k = option_map data_of (get m.volume.sets k)
 
 -- the tracks that are kept on a volume for the set of a DD
-abbrev pub kept_on : Option MountedState → KeptPlace → Option (List Extent)
-kept_on None place = None
-kept_on (Some m) place = get m.kept place
+abbrev pub kept_extents : Option MountedState → KeptPlace → Option (List Extent)
+kept_extents None place = None
+kept_extents (Some m) place = get m.kept place
 
-abbrev pub world_of : SharedStore → WorldStore
-world_of s = record { set = λ k serial. set_on (mounted_in s.volumes serial) k; catalog = λ name. get s.catalog name }
+abbrev pub world_store_of : SharedStore → WorldStore
+world_store_of s = record { set = λ k serial. set_on (mounted_in s.volumes serial) k; catalog = λ name. get s.catalog name }

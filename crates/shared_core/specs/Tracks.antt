@@ -10,7 +10,7 @@ use Rattle.mount_core.specs.Kept.{extents_kept}
 use Rattle.mount_core.specs.Mounts.{MountedState}
 use Rattle.shared_core.specs.declared.store.SharedStore.{SharedStore}
 use Rattle.shared_core.specs.Rooms.{Others}
-use Rattle.shared_core.specs.Shown.{kept_on, mounted_in, world_of}
+use Rattle.shared_core.specs.Shown.{kept_extents, mounted_in, world_store_of}
 
 -- the free tracks of the volume of a serial; none where there is no volume
 abbrev pub free_tracks : Option MountedState → ℕ
@@ -33,10 +33,10 @@ abbrev pub KeepsNothing : Others → Type 0
 KeepsNothing rest = (serial : List ℕ) (at : KeptPlace) → rest.kept serial at ≡ None
 
 abbrev pub NothingKept : SharedStore → Type 0
-NothingKept s = (serial : List ℕ) (at : KeptPlace) → kept_on (mounted_in s.volumes serial) at ≡ None
+NothingKept s = (serial : List ℕ) (at : KeptPlace) → kept_extents (mounted_in s.volumes serial) at ≡ None
 
 -- What the machine's definitions have for a store that keeps nothing: its sets and catalog, and its free tracks.
 pub record IsShown (s : SharedStore) (shared : Shared) : Type 0 where
-  pub store : shared.store ≡ world_of s
+  pub store : shared.store ≡ world_store_of s
   pub free : (serial : List ℕ) → shared.free serial ≡ free_on s.volumes serial
   pub kept : shared.kept ≡ []

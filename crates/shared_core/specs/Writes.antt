@@ -9,7 +9,7 @@ use Rattle.jcl_meaning.specs.declared.store.DataSet.{DataSet}
 use Rattle.mount_core.specs.declared.place.KeptPlace.{KeptPlace}
 use Rattle.mount_core.specs.Mounts.{MountedState}
 use Rattle.shared_core.specs.Rooms.{all_tracks, is_same_place, room_of}
-use Rattle.shared_core.specs.Shown.{kept_on, mounted_in, set_on}
+use Rattle.shared_core.specs.Shown.{kept_extents, mounted_in, set_on}
 
 -- a volume is mounted under a serial
 abbrev pub is_mounted : List ℕ → MountedState → Bool
@@ -49,11 +49,11 @@ pub record Writes (old new : List MountedState) (k : SetKey) (serial : List ℕ)
   pub rooms : map room_of new ≡ map room_of old
 
 abbrev pub Keeps : List MountedState → List MountedState → Type 0
-Keeps old new = (v : List ℕ) (at : KeptPlace) → kept_on (mounted_in new v) at ≡ kept_on (mounted_in old v) at
+Keeps old new = (v : List ℕ) (at : KeptPlace) → kept_extents (mounted_in new v) at ≡ kept_extents (mounted_in old v) at
 
 abbrev pub KeepsOthers : List MountedState → List MountedState → List ℕ → KeptPlace → Type 0
 KeepsOthers old new serial place = (v : List ℕ) (at : KeptPlace) →
-    kept_on (mounted_in new v) at ≡ if is_same_place at place && bytes_eq v serial then None else kept_on (mounted_in old v) at
+    kept_extents (mounted_in new v) at ≡ if is_same_place at place && bytes_eq v serial then None else kept_extents (mounted_in old v) at
 
 abbrev pub Changes : (DataSet → DataSet) → List MountedState → List MountedState → SetKey → List ℕ → Type 0
 Changes f old new k serial = Writes old new k serial (option_map f (set_on (mounted_in old serial) k)) × Keeps old new

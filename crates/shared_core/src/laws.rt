@@ -5,13 +5,13 @@ ghost use Rattle.std.specs.List.{All};
 ghost use Rattle.world_meaning.specs.Lenses.{put_back, seen};
 ghost use Rattle.shared_core.specs.Laws.{NothingKeptStays, SetsOfOthersStay, TracksAreConserved};
 ghost use Rattle.shared_core.specs.Rooms.{others_of};
-ghost use Rattle.shared_core.specs.Shown.{world_of};
+ghost use Rattle.shared_core.specs.Shown.{world_store_of};
 ghost use Rattle.shared_core.specs.Tracks.{NothingKept};
 ghost use Rattle.shared_core.specs.declared.store.SharedStore.{SharedStore};
 
 /// Where nothing changed that a job does not see, the store of all jobs is as before but for what the job sees now.
 pub fn a_job_writes_what_it_sees()
-    ensures { (job : ℕ) (old new : SharedStore) → others_of job new ≡ others_of job old → world_of new ≡ put_back job (world_of old) (seen job (world_of new)) }
+    ensures { (job : ℕ) (old new : SharedStore) → others_of job new ≡ others_of job old → world_store_of new ≡ put_back job (world_store_of old) (seen job (world_store_of new)) }
 {}
 
 /// The same where the sets that others alone see are as before, whatever is kept.

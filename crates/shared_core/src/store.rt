@@ -4,7 +4,7 @@ ghost use Rattle.std.specs.Option.{option_copied, option_map};
 ghost use Rattle.store_core.specs.Actions.{facts_of};
 ghost use Rattle.world_meaning.specs.Lenses.{seen, seen_set};
 ghost use Rattle.shared_core.specs.Rooms.{Others, grants_growth, grants_new, kept_place, others_of, spent};
-ghost use Rattle.shared_core.specs.Shown.{data_of, world_of};
+ghost use Rattle.shared_core.specs.Shown.{data_of, world_store_of};
 
 use crate::key::world_key;
 use crate::volumes::{append_to, empty_set, grow_set, make_set, place_of, scratch_set, trim_set};
@@ -55,7 +55,7 @@ fn facts_of(entry: &SetEntry) -> SetFacts
 impl SharedStore {
     /// The set that a job sees under a key on the volume of a serial.
     fn entry_of(&self, job: u16, key: &Key, serial: Serial) -> Option<&SetEntry>
-        ensures { option_map data_of (option_copied result) ≡ seen_set job (world_of self.now) key.now serial }
+        ensures { option_map data_of (option_copied result) ≡ seen_set job (world_store_of self.now) key.now serial }
     {
         let Some(key) = world_key(job, key) else {
             return None;
@@ -68,7 +68,7 @@ impl SharedStore {
 }
 
 impl JobStore for SharedStore {
-    ghost seen = { λ job s. seen job (world_of s) };
+    ghost seen = { λ job s. seen job (world_store_of s) };
 
     ghost Rest = { Others };
 

@@ -6,7 +6,8 @@ mod steps;
 
 ghost use Rattle.std.specs.Prelude.{IfOk, true};
 ghost use Rattle.jcl_meaning.specs.Agendas.{agenda};
-ghost use Rattle.jcl_meaning.specs.Solo.{IsRun, fixed_of, fresh, run, solo_of, solo_path_of};
+ghost use Rattle.jcl_meaning.specs.Solo.{IsSoloRun, at_start, fixed_alone, run, solo_of, solo_path_of};
+ghost use Rattle.jcl_meaning.specs.Stores.{store_of};
 
 use crate::runner::Runner;
 use disp_core::course::{Course, Given};
@@ -34,8 +35,8 @@ fn run<'a>(
     grants: &'a [bool],
     date: Day,
 ) -> Result<SoloRun, AllocError>
-    ensures { IfOk result (λ r. IsRun r store.now (run (fixed_of plan.now store.now places.now date) (agenda plan.now programs.now)
-        (fresh store.now (record { outcomes = outcomes.now; cancels = cancels.now; grants = grants.now; primary = true })))) }
+    ensures { IfOk result (λ r. IsSoloRun r store.now (run (fixed_alone store.now plan.now places.now date) (agenda plan.now programs.now)
+        (at_start (store_of store.now) (record { outcomes = outcomes.now; cancels = cancels.now; grants = grants.now; primary = true })))) }
 {
     let meanings = meanings_of(alloc, plan, store)?;
     let mut runner = Runner {
@@ -83,7 +84,8 @@ pub fn solo(
     answers: &SoloAnswers,
     date: Day,
 ) -> Result<SoloRun, AllocError>
-    ensures { IfOk result (λ r. IsRun r store.now (solo_of plan.now store.now places.now programs.now answers.now date)) }
+    ensures { IfOk result (λ r. IsSoloRun r store.now
+        (solo_of (fixed_alone store.now plan.now places.now date) plan.now (store_of store.now) programs.now answers.now)) }
 {
     let outcomes = endings(alloc, plan.steps.as_slice(), programs)?;
     run(
@@ -109,7 +111,8 @@ pub fn solo_path(
     outcomes: &[Outcome],
     date: Day,
 ) -> Result<SoloRun, AllocError>
-    ensures { IfOk result (λ r. IsRun r store.now (solo_path_of plan.now store.now places.now outcomes.now date)) }
+    ensures { IfOk result (λ r. IsSoloRun r store.now
+        (solo_path_of (fixed_alone store.now plan.now places.now date) plan.now (store_of store.now) outcomes.now)) }
 {
     run(alloc, plan, store, places, &[], outcomes, &[], &[], date)
 }

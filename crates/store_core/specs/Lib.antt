@@ -1,4 +1,4 @@
 pub mod Actions
 pub mod Entered
-pub mod Numbers
+pub mod EnteredNumbers
 pub mod Places

@@ -9,7 +9,7 @@ ghost use Rattle.jcl_meaning.specs.Programs.{appended, emptied, grown_by};
 ghost use Rattle.jcl_meaning.specs.Stores.{cut_at, entry_in, group_of, member_of, set_in, store_of, uncatalogued_by, with_entry, with_set};
 ghost use Rattle.store_core.specs.Actions.{changed_at, facts_of};
 ghost use Rattle.store_core.specs.Entered.{entry_with, entry_without};
-ghost use Rattle.store_core.specs.Numbers.{EntersNumber, TakesNumber, with_number};
+ghost use Rattle.store_core.specs.EnteredNumbers.{EntersNumber, TakesNumber, with_number};
 ghost use Rattle.store_core.specs.Places.{IsFirstAt, IsFirstOf};
 
 use crate::job_store::{JobStore, RoomFault, SetFacts};

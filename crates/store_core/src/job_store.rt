@@ -8,7 +8,7 @@ ghost use Rattle.jcl_meaning.specs.declared.state.Place.{Place};
 ghost use Rattle.jcl_meaning.specs.Programs.{appended, emptied, grown_by, records_of};
 ghost use Rattle.jcl_meaning.specs.Stores.{Store, cut_at, group_of, member_of, uncatalogued_by, volume_of, with_entry, with_set};
 ghost use Rattle.store_core.specs.Actions.{changed_at, facts_of, new_set_of};
-ghost use Rattle.store_core.specs.Numbers.{EntersNumber, TakesNumber, with_number};
+ghost use Rattle.store_core.specs.EnteredNumbers.{EntersNumber, TakesNumber, with_number};
 
 use group_core::group::{Group, Rolled};
 use jcl_meaning::state::Place;

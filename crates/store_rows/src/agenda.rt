@@ -5,7 +5,7 @@ use jcl_plan::plan::{DdPlan, JobPlan, StepPlan};
 use std::alloc::{AllocError, Global};
 
 /// An action of a job. Steps and DDs count from 1.
-#[derive(Clone, Copy, Debug)]
+#[derive(Clone, Copy)]
 pub enum Action {
     Start(usize),
     Take(usize, usize),

@@ -1,15 +1,17 @@
 //! A job and what it finds, read from a text of one item a line. Records, members, used tracks, requests and lines of a procedure come
 //! before the line that takes them.
 use crate::words::{
-    code_in, columns, day_in, name_in, place_in, serial_in, set_name_in, short_in, some_day_in,
-    unit_in, wanted,
+    code_in, columns, day_in, name_in, path_in, place_in, serial_in, set_name_in, short_in,
+    some_count_in, some_day_in, unit_in, wanted,
 };
 use group_core::entry::CatEntry;
 use group_core::group::Group;
 use jcl_meaning::program::{Request, SoloProgram};
+use jcl_meaning::solo::SoloAnswers;
 use jcl_meaning::state::Place;
-use jcl_meaning::store::{DataSet, SoloEntry, SoloSet};
+use jcl_meaning::store::{DataSet, SoloEntry, SoloSet, SoloStore};
 use jcl_plan::day::Day;
+use jcl_plan::outcome::Outcome;
 use jcl_plan::plan::Record;
 use jcl_refs::units::UnitNames;
 use jname_core::key::Key;
@@ -20,14 +22,12 @@ use plain::text::Text;
 use proc_library::library::{LibraryProcedure, ProcLibrary};
 use std::alloc::{AllocError, Global};
 use std::mem;
-use thiserror::Error;
 
 /// Why a line is not read.
-#[derive(Clone, Copy, Debug, PartialEq, Eq, Error)]
+#[derive(Clone, Copy)]
 pub enum Unread {
-    #[error("it is unknown, or a value of it is wrong")]
+    /// It is unknown, or a value of it is wrong.
     Wrong,
-    #[error("there is not enough memory")]
     Memory,
 }
 
@@ -38,38 +38,49 @@ impl From<AllocError> for Unread {
 }
 
 /// Tracks of a volume that are in use by others, the first and the last.
-#[derive(Clone, Copy, Debug)]
+#[derive(Clone, Copy)]
 pub struct Used {
     pub first: u16,
     pub last: u16,
 }
 
 /// A volume, its tracks, and those that no set of the job may have.
-#[derive(Debug, Drop)]
+#[derive(Drop)]
 pub struct CaseVolume {
     pub serial: Serial,
     pub tracks: u16,
     pub used: Listed<Used>,
 }
 
+/// For how many days the set of a DD is to be kept.
+#[derive(Clone, Copy)]
+pub struct Period {
+    pub step: usize,
+    pub dd: usize,
+    pub days: u16,
+}
+
 /// A job's deck, and what the job finds and is given.
 #[derive(Drop)]
 pub struct Case<'a> {
     pub volumes: Listed<CaseVolume>,
+    /// The serials of the volumes, their sets, and the catalog.
+    pub store: SoloStore,
     pub units: UnitNames,
     pub library: ProcLibrary,
     pub programs: Listed<SoloProgram>,
-    pub sets: Listed<SoloSet>,
-    pub entries: Listed<SoloEntry>,
     pub places: Listed<Place>,
-    pub grants: Listed<bool>,
+    pub answers: SoloAnswers,
+    /// How the steps end, where that is given.
+    pub path: Option<Listed<Outcome>>,
+    pub periods: Listed<Period>,
     pub date: Day,
     pub deck: Listed<Lent<'a>>,
 }
 
 /// What was read so far, and what no line took yet.
 #[derive(Drop)]
-struct Reader<'a> {
+pub struct Reader<'a> {
     alloc: Global,
     case: Case<'a>,
     records: Listed<Record>,
@@ -82,13 +93,21 @@ struct Reader<'a> {
 fn empty_case<'a>(alloc: Global, date: Day) -> Case<'a> {
     Case {
         volumes: Listed::empty(alloc),
+        store: SoloStore {
+            volumes: Listed::empty(alloc),
+            sets: Listed::empty(alloc),
+            catalog: Listed::empty(alloc),
+        },
         units: UnitNames::new(alloc),
         library: ProcLibrary::new(alloc),
         programs: Listed::empty(alloc),
-        sets: Listed::empty(alloc),
-        entries: Listed::empty(alloc),
         places: Listed::empty(alloc),
-        grants: Listed::empty(alloc),
+        answers: SoloAnswers {
+            grants: Listed::empty(alloc),
+            cancels: Listed::empty(alloc),
+        },
+        path: None,
+        periods: Listed::empty(alloc),
         date,
         deck: Listed::empty(alloc),
     }
@@ -108,7 +127,7 @@ fn enter_members(group: &mut Group, members: &[(u16, Serial)]) -> Result<(), Unr
 }
 
 impl<'a> Reader<'a> {
-    fn new(alloc: Global, date: Day) -> Reader<'a> {
+    pub fn new(alloc: Global, date: Day) -> Reader<'a> {
         Reader {
             alloc,
             case: empty_case(alloc, date),
@@ -157,13 +176,10 @@ impl<'a> Reader<'a> {
                 first: short_in(first)?,
                 last: short_in(last)?,
             })?,
-            ["VOLUME", serial, tracks] => self.case.volumes.push(CaseVolume {
-                serial: serial_in(serial)?,
-                tracks: short_in(tracks)?,
-                used: mem::replace(&mut self.used, Listed::empty(self.alloc)),
-            })?,
+            ["VOLUME", serial, tracks] => self.add_volume(serial, tracks)?,
+            ["RECORDS", count, text] => self.add_records(count, text)?,
             ["SET", serial, name, tracks, day] => self.add_set(serial, name, tracks, day)?,
-            ["ENTRY", name, serial] => self.case.entries.push(SoloEntry {
+            ["ENTRY", name, serial] => self.case.store.catalog.push(SoloEntry {
                 name: set_name_in(name)?,
                 entry: CatEntry::Volume(serial_in(serial)?),
             })?,
@@ -177,8 +193,26 @@ impl<'a> Reader<'a> {
         Ok(true)
     }
 
+    fn add_volume(&mut self, serial: &str, tracks: &str) -> Result<(), Unread> {
+        let serial = serial_in(serial)?;
+        self.case.store.volumes.push(serial)?;
+        self.case.volumes.push(CaseVolume {
+            serial,
+            tracks: short_in(tracks)?,
+            used: mem::replace(&mut self.used, Listed::empty(self.alloc)),
+        })?;
+        Ok(())
+    }
+
+    fn add_records(&mut self, count: &str, text: &str) -> Result<(), Unread> {
+        for _ in 0..short_in(count)? {
+            self.records.push(columns(text))?;
+        }
+        Ok(())
+    }
+
     fn add_set(&mut self, serial: &str, name: &str, tracks: &str, day: &str) -> Result<(), Unread> {
-        self.case.sets.push(SoloSet {
+        self.case.store.sets.push(SoloSet {
             serial: serial_in(serial)?,
             key: Key::Named(set_name_in(name)?),
             set: DataSet {
@@ -195,7 +229,7 @@ impl<'a> Reader<'a> {
         let mut group = Group::new(self.alloc, limit, rolled == "SCRATCH")?;
         enter_members(&mut group, self.members.as_slice())?;
         self.members.clear();
-        self.case.entries.push(SoloEntry {
+        self.case.store.catalog.push(SoloEntry {
             name: set_name_in(base)?,
             entry: CatEntry::Group(group),
         })?;
@@ -246,14 +280,22 @@ impl<'a> Reader<'a> {
                 dd: place_in(dd)?,
                 serial: serial_in(serial)?,
             })?,
-            ["GRANT", granted] => self.case.grants.push(granted == "YES")?,
+            ["GRANT", granted] => self.case.answers.grants.push(granted == "YES")?,
+            ["CANCEL", lines] => self.case.answers.cancels.push(some_count_in(lines)?)?,
             ["DATE", number] => self.case.date = day_in(number)?,
+            ["RETPD", step, dd, days] => self.case.periods.push(Period {
+                step: place_in(step)?,
+                dd: place_in(dd)?,
+                days: short_in(days)?,
+            })?,
+            ["PATH", ..] => self.case.path = Some(path_in(self.alloc, words)?),
             _ => return Ok(false),
         }
         Ok(true)
     }
 
-    fn read_line(&mut self, line: &'a str) -> Result<(), Unread> {
+    /// Takes a line.
+    pub fn take_line(&mut self, line: &'a str) -> Result<(), Unread> {
         if self.read_text(line)? {
             return Ok(());
         }
@@ -268,29 +310,9 @@ impl<'a> Reader<'a> {
         }
         Err(Unread::Wrong)
     }
-}
 
-/// A text that is not read: the line at fault, from 1, and why.
-#[derive(Clone, Copy, Debug, PartialEq, Eq, Error)]
-#[error("line {line}: {why}")]
-pub struct BadLine {
-    pub line: usize,
-    pub why: Unread,
-}
-
-/// Reads a job and what it finds. A job without a date runs on the first day of 1970.
-pub fn read_case<'a>(alloc: Global, text: &'a str) -> Result<Case<'a>, BadLine> {
-    let Some(date) = Day::new(25_567) else {
-        return Err(BadLine {
-            line: 0,
-            why: Unread::Wrong,
-        });
-    };
-    let mut reader = Reader::new(alloc, date);
-    for (i, line) in text.split('\n').enumerate() {
-        if let Err(why) = reader.read_line(line) {
-            return Err(BadLine { line: i + 1, why });
-        }
+    /// The job and what it finds.
+    pub fn into_case(self) -> Case<'a> {
+        self.case
     }
-    Ok(reader.case)
 }

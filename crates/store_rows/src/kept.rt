@@ -1,7 +1,7 @@
 //! The keys and the names under which a job may find or leave something.
-use crate::case::Case;
 use jcl_meaning::names::same_key;
 use jcl_meaning::state::{KeyMeaning, Resolution};
+use jcl_meaning::store::{SoloEntry, SoloSet, SoloStore};
 use jname_core::ds_name::DsName;
 use jname_core::key::Key;
 use plain::listed::Listed;
@@ -45,18 +45,23 @@ impl Known {
         }
     }
 
-    fn add_sets(&mut self, case: &Case<'_>) -> Result<(), AllocError> {
-        for set in case.sets.as_slice() {
+    fn add_sets(&mut self, sets: &[SoloSet]) -> Result<(), AllocError> {
+        for set in sets {
             self.add_key(&set.key)?;
         }
         Ok(())
     }
 
-    fn add_entries(&mut self, case: &Case<'_>) -> Result<(), AllocError> {
-        for entry in case.entries.as_slice() {
+    fn add_entries(&mut self, entries: &[SoloEntry]) -> Result<(), AllocError> {
+        for entry in entries {
             self.add_name(&entry.name)?;
         }
         Ok(())
+    }
+
+    fn add_store(&mut self, store: &SoloStore) -> Result<(), AllocError> {
+        self.add_sets(store.sets.as_slice())?;
+        self.add_entries(store.catalog.as_slice())
     }
 
     fn add_meanings(&mut self, meanings: &[KeyMeaning]) -> Result<(), AllocError> {
@@ -70,18 +75,19 @@ impl Known {
     }
 }
 
-/// The keys and names of a case, and those that its job means.
+/// The keys and names of the store that a job finds, those that it means, and those of the store that it leaves alone.
 pub fn known_in(
     alloc: Global,
-    case: &Case<'_>,
+    found: &SoloStore,
     meanings: &[KeyMeaning],
+    left: &SoloStore,
 ) -> Result<Known, AllocError> {
     let mut known = Known {
         keys: Listed::empty(alloc),
         names: Listed::empty(alloc),
     };
-    known.add_sets(case)?;
-    known.add_entries(case)?;
+    known.add_store(found)?;
     known.add_meanings(meanings)?;
+    known.add_store(left)?;
     Ok(known)
 }

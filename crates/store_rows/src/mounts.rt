@@ -12,16 +12,14 @@ use plain::listed::Listed;
 use shared_core::key::world_key;
 use shared_core::store::SharedStore;
 use std::alloc::{AllocError, Global};
-use thiserror::Error;
 use vtoc_core::entry::{Extent, SetKey};
 use vtoc_core::fault::VolumeFault;
 
 /// Why a case has no store of volumes.
-#[derive(Clone, Copy, Debug, PartialEq, Eq, Error)]
+#[derive(Clone, Copy)]
 pub enum Unmounted {
-    #[error("a volume, a set or an entry of it cannot be")]
+    /// A volume, a set or an entry of it cannot be.
     Wrong,
-    #[error("there is not enough memory")]
     Memory,
 }
 
@@ -160,7 +158,7 @@ fn put_entry(alloc: Global, catalog: &mut Catalog, entry: &SoloEntry) -> Result<
 
 fn catalog_of(alloc: Global, case: &Case<'_>) -> Result<Catalog, Unmounted> {
     let mut catalog = Catalog::new(alloc);
-    for entry in case.entries.as_slice() {
+    for entry in case.store.catalog.as_slice() {
         put_entry(alloc, &mut catalog, entry)?;
     }
     Ok(catalog)
@@ -169,7 +167,7 @@ fn catalog_of(alloc: Global, case: &Case<'_>) -> Result<Catalog, Unmounted> {
 /// The store of volumes that the job of a case, of this number, finds.
 pub fn shared_of(alloc: Global, case: &Case<'_>, job: u16) -> Result<SharedStore, Unmounted> {
     let mut volumes = mounted_all(alloc, case)?.into_vec();
-    for set in case.sets.as_slice() {
+    for set in case.store.sets.as_slice() {
         put_set(alloc, &mut volumes, job, set)?;
     }
     Ok(SharedStore {

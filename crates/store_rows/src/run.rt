@@ -1,26 +1,72 @@
-//! A job carried out over a store, action by action.
-use crate::agenda::{Action, agenda_of};
-use crate::growths::Growths;
+//! A job carried out over a store, action by action. Where memory is wanting for an action, nothing that the job sees has changed, and the
+//! action is carried out again.
+use crate::agenda::{Action, Agenda};
+use crate::kept::Known;
+use crate::shown::{push_lines, push_outputs, push_seen};
 use disp_core::ask::ask;
 use disp_core::course::{Course, Given};
 use disp_core::dispose::{dispose, leave};
 use disp_core::request::receive;
 use disp_core::step::{begin, end, finish};
 use disp_core::take::take;
-use jcl_meaning::program::{Move, SoloProgram, ending_of};
+use jcl_meaning::program::Move;
 use jcl_meaning::state::nothing_own;
+use jcl_plan::outcome::{Code, Outcome};
 use jcl_plan::plan::{DdPlan, JobPlan, StepPlan};
+use jname_core::serial::Serial;
+use plain::draft::Draft;
 use plain::listed::Listed;
+use shared_core::store::SharedStore;
 use std::alloc::{AllocError, Global};
+use store_core::alone::Alone;
 use store_core::job_store::JobStore;
 
-/// A job that runs: its number, what is fixed for it, its plan and the programs.
+/// The number of the job.
+pub const JOB: u16 = 1;
+
+/// Room for what is seen of a store before an action, and after it, so that writing it down takes no memory.
+const ROOM: usize = 65_536;
+
+/// A store that may be told whether it is to grant the next growth.
+pub trait Growths: JobStore {
+    /// Before each request: whether the next growth is granted. A store that has its own answer passes over it.
+    fn next_growth(&mut self, granted: bool);
+}
+
+impl Growths for Alone {
+    fn next_growth(&mut self, granted: bool) {
+        self.growth = granted;
+    }
+}
+
+impl Growths for SharedStore {
+    fn next_growth(&mut self, _granted: bool) {}
+}
+
+/// What a job is given while it runs: how its steps end, whether a cancel stands in the place of a program line, and whether growths are granted.
 #[derive(Clone, Copy)]
-pub struct Running<'a> {
-    pub number: u16,
-    pub given: Given<'a>,
+pub struct Answers<'a> {
+    pub outcomes: &'a [Outcome],
+    pub cancels: &'a [Option<u32>],
+    pub grants: &'a [bool],
+}
+
+/// A job on its way.
+#[derive(Drop)]
+pub struct Way<'a> {
+    pub alloc: Global,
     pub plan: &'a JobPlan,
-    pub programs: &'a [SoloProgram],
+    pub given: Given<'a>,
+    pub answers: Answers<'a>,
+    pub course: Course,
+}
+
+/// A job before its first action.
+pub fn fresh(alloc: Global) -> Course {
+    Course {
+        own: nothing_own(alloc),
+        lines: Listed::empty(alloc),
+    }
 }
 
 /// The step of a number, from 1.
@@ -33,151 +79,201 @@ fn dd_at(plan: &JobPlan, n: usize, dd: usize) -> Option<&DdPlan> {
     step_at(plan, n)?.dds.as_slice().get(dd.checked_sub(1)?)
 }
 
-/// A job before its first action.
-pub fn fresh(alloc: Global) -> Course {
-    Course {
-        own: nothing_own(alloc),
-        lines: Listed::empty(alloc),
+/// All behind the first.
+fn others<T>(answers: &[T]) -> &[T] {
+    match answers.split_first() {
+        None => answers,
+        Some((_, others)) => others,
     }
 }
 
-/// The start of a step.
-fn start_step(job: &Running<'_>, course: &mut Course, n: usize) -> Result<(), AllocError> {
-    match step_at(job.plan, n) {
-        None => Ok(()),
-        Some(step) => begin(&job.given, course, n, step),
+impl Answers<'_> {
+    /// Whether a cancel stands in the place of the next program line, behind so many.
+    fn is_cancelled(&self, lines: usize) -> bool {
+        match self.cancels.first() {
+            Some(Some(after)) => *after as usize == lines,
+            Some(None) => false,
+            None => false,
+        }
+    }
+
+    /// How the step ends that runs now.
+    fn outcome(&self) -> Outcome {
+        match self.outcomes.first() {
+            None => Outcome::Code(Code::zero()),
+            Some(outcome) => *outcome,
+        }
+    }
+
+    /// The end of a step, which uses its answers up.
+    fn finish(&mut self, alloc: Global, course: &mut Course, n: usize) -> Result<(), AllocError> {
+        let cancelled = self.is_cancelled(course.own.lines);
+        let outcome = self.outcome();
+        finish(alloc, course, n, &outcome, cancelled)?;
+        self.outcomes = others(self.outcomes);
+        self.cancels = others(self.cancels);
+        Ok(())
     }
 }
 
-/// The taking of a DD.
-fn take_dd<S: JobStore>(
-    alloc: Global,
-    store: &mut S,
-    job: &Running<'_>,
-    course: &mut Course,
-    n: usize,
-    dd: usize,
-) -> Result<(), AllocError> {
-    let Some(d) = dd_at(job.plan, n, dd) else {
-        return Ok(());
-    };
-    take(alloc, store, job.number, &job.given, course, n, dd, d)?;
-    Ok(())
-}
+impl<'a> Way<'a> {
+    fn begin(&mut self, n: usize) -> Result<(), AllocError> {
+        match step_at(self.plan, n) {
+            None => Ok(()),
+            Some(step) => begin(&self.given, &mut self.course, n, step),
+        }
+    }
 
-/// A request; it tells whether it asked for tracks.
-fn request<S: JobStore>(
-    alloc: Global,
-    store: &mut S,
-    job: &Running<'_>,
-    course: &mut Course,
-    n: usize,
-    wants: Option<&Move>,
-) -> Result<bool, AllocError> {
-    let Some(step) = step_at(job.plan, n) else {
-        return Ok(false);
-    };
-    match wants {
-        None => Ok(false),
-        Some(wants) => ask(alloc, store, job.number, course, step, wants, false),
+    fn take<S: JobStore>(&mut self, store: &mut S, n: usize, dd: usize) -> Result<(), AllocError> {
+        let Some(d) = dd_at(self.plan, n, dd) else {
+            return Ok(());
+        };
+        let course = &mut self.course;
+        take(self.alloc, store, JOB, &self.given, course, n, dd, d)?;
+        Ok(())
+    }
+
+    /// A request; where it asks for tracks, an answer is used up.
+    fn ask<S: Growths>(
+        &mut self,
+        store: &mut S,
+        n: usize,
+        wants: Option<&Move>,
+    ) -> Result<(), AllocError> {
+        let (Some(step), Some(wants)) = (step_at(self.plan, n), wants) else {
+            return Ok(());
+        };
+        let cancelled = self.answers.is_cancelled(self.course.own.lines);
+        let granted = match self.answers.grants.first() {
+            None => true,
+            Some(granted) => *granted,
+        };
+        store.next_growth(granted);
+        let course = &mut self.course;
+        if ask(self.alloc, store, JOB, course, step, wants, cancelled)? {
+            self.answers.grants = others(self.answers.grants);
+        }
+        Ok(())
+    }
+
+    fn dispose<S: JobStore>(
+        &mut self,
+        store: &mut S,
+        n: usize,
+        dd: usize,
+    ) -> Result<(), AllocError> {
+        if dd == 0 {
+            return Ok(());
+        }
+        let Some(d) = dd_at(self.plan, n, dd) else {
+            return Ok(());
+        };
+        dispose(store, JOB, &self.given, &mut self.course, n, dd, d)?;
+        Ok(())
+    }
+
+    fn leave<S: JobStore>(&mut self, store: &mut S, n: usize, dd: usize) -> Result<(), AllocError> {
+        let Some(d) = dd_at(self.plan, n, dd) else {
+            return Ok(());
+        };
+        leave(store, JOB, &self.given, &mut self.course, n, dd, d)?;
+        Ok(())
+    }
+
+    /// An action. An `Err` changes nothing.
+    fn act<S: Growths>(
+        &mut self,
+        store: &mut S,
+        moves: &[Move],
+        action: &Action,
+    ) -> Result<(), AllocError> {
+        match action {
+            Action::Start(n) => self.begin(*n),
+            Action::Take(n, dd) => self.take(store, *n, *dd),
+            Action::Ask(n, place) => self.ask(store, *n, moves.get(*place)),
+            Action::Receive => {
+                let cancelled = self.answers.is_cancelled(self.course.own.lines);
+                receive(store, JOB, &mut self.course, cancelled)
+            }
+            Action::Finish(n) => self.answers.finish(self.alloc, &mut self.course, *n),
+            Action::Dispose(n, dd) => self.dispose(store, *n, *dd),
+            Action::Left(n, dd) => self.leave(store, *n, *dd),
+            Action::Over => end(&mut self.course),
+        }
     }
 }
 
-/// The end of a step, by its program's own end.
-fn finish_step(
-    alloc: Global,
-    job: &Running<'_>,
-    course: &mut Course,
-    n: usize,
-) -> Result<(), AllocError> {
-    let Some(step) = step_at(job.plan, n) else {
-        return Ok(());
-    };
-    let outcome = ending_of(job.programs, &step.program);
-    finish(alloc, course, n, &outcome, false)
+/// What is looked at in a store.
+#[derive(Clone, Copy)]
+pub struct Looked<'a> {
+    pub known: &'a Known,
+    pub serials: &'a [Serial],
 }
 
-/// The disposition of a DD.
-fn dispose_dd<S: JobStore>(
-    store: &mut S,
-    job: &Running<'_>,
-    course: &mut Course,
-    n: usize,
-    dd: usize,
-) -> Result<(), AllocError> {
-    if dd == 0 {
-        return Ok(());
-    }
-    let Some(d) = dd_at(job.plan, n, dd) else {
-        return Ok(());
-    };
-    dispose(store, job.number, &job.given, course, n, dd, d)?;
-    Ok(())
+/// What a job has written, and what it sees of a store. It tells how much of it a job alone has too.
+fn push_all<S: JobStore>(
+    out: &mut Draft,
+    looked: &Looked<'_>,
+    store: &S,
+    course: &Course,
+) -> Result<usize, AllocError> {
+    out.clear();
+    push_lines(out, course.lines.as_slice())?;
+    push_seen(out, store, JOB, looked.known, looked.serials)?;
+    out.keep();
+    let alone = out.len();
+    push_outputs(out, course.own.outputs.as_slice())?;
+    out.keep();
+    Ok(alone)
 }
 
-/// The job's end for what a DD passed.
-fn leave_dd<S: JobStore>(
-    store: &mut S,
-    job: &Running<'_>,
-    course: &mut Course,
-    n: usize,
-    dd: usize,
-) -> Result<(), AllocError> {
-    let Some(d) = dd_at(job.plan, n, dd) else {
-        return Ok(());
-    };
-    leave(store, job.number, &job.given, course, n, dd, d)?;
-    Ok(())
+/// What a job did over a store: its lines, what it leaves, and what its SYSOUT DDs were put.
+#[derive(Drop)]
+pub struct Run {
+    pub shown: Draft,
+    /// How much of it are the lines, and what is left.
+    pub alone: usize,
+    /// Whether a call that wanted memory changed something.
+    pub changed: bool,
 }
 
-/// An action of a job, whose requests are these; it tells whether it asked for tracks for a set that is there. An `Err` changes nothing.
-pub fn act<S: JobStore>(
-    alloc: Global,
+/// Carries an action out, a second time where memory is wanting, and tells whether it changed something at first.
+fn act_twice<S: Growths>(
+    way: &mut Way<'_>,
     store: &mut S,
-    job: &Running<'_>,
-    course: &mut Course,
     moves: &[Move],
     action: &Action,
+    looked: &Looked<'_>,
+    before: &mut Draft,
+    after: &mut Draft,
 ) -> Result<bool, AllocError> {
-    match action {
-        Action::Start(n) => start_step(job, course, *n)?,
-        Action::Take(n, dd) => take_dd(alloc, store, job, course, *n, *dd)?,
-        Action::Ask(n, place) => {
-            return request(alloc, store, job, course, *n, moves.get(*place));
-        }
-        Action::Receive => receive(store, job.number, course, false)?,
-        Action::Finish(n) => finish_step(alloc, job, course, *n)?,
-        Action::Dispose(n, dd) => dispose_dd(store, job, course, *n, *dd)?,
-        Action::Left(n, dd) => leave_dd(store, job, course, *n, *dd)?,
-        Action::Over => end(course)?,
+    push_all(before, looked, &*store, &way.course)?;
+    if way.act(store, moves, action).is_ok() {
+        return Ok(false);
     }
-    Ok(false)
+    push_all(after, looked, &*store, &way.course)?;
+    way.act(store, moves, action)?;
+    Ok(before.kept() != after.kept())
 }
 
-/// The answer to the next growth: one that is not given grants it.
-pub fn grant_at(grants: &[bool], used: usize) -> bool {
-    match grants.get(used) {
-        None => true,
-        Some(granted) => *granted,
-    }
-}
-
-/// A job from its first step to its end, with these answers to the growths that it asks for.
-pub fn run_job<S: JobStore + Growths>(
-    alloc: Global,
+/// A job from its first action to its end.
+pub fn run_job<S: Growths>(
+    way: &mut Way<'_>,
     store: &mut S,
-    job: &Running<'_>,
-    grants: &[bool],
-) -> Result<Course, AllocError> {
-    let agenda = agenda_of(alloc, job.plan, job.programs)?;
-    let mut course = fresh(alloc);
-    let mut used = 0usize;
+    agenda: &Agenda,
+    looked: &Looked<'_>,
+) -> Result<Run, AllocError> {
+    let mut before = Draft::with_room(way.alloc, ROOM)?;
+    let mut shown = Draft::with_room(way.alloc, ROOM)?;
+    let mut changed = false;
     let moves = agenda.moves.as_slice();
     for action in agenda.actions.as_slice() {
-        store.next_growth(grant_at(grants, used));
-        if act(alloc, store, job, &mut course, moves, action)? {
-            used = used.saturating_add(1);
-        }
+        changed |= act_twice(way, store, moves, action, looked, &mut before, &mut shown)?;
     }
-    Ok(course)
+    let alone = push_all(&mut shown, looked, &*store, &way.course)?;
+    Ok(Run {
+        shown,
+        alone,
+        changed,
+    })
 }

@@ -2,6 +2,7 @@
 use crate::kept::Known;
 use crate::words::{push_key, push_number, push_two};
 use group_core::group::Group;
+use jcl_meaning::names::HeldName;
 use jcl_meaning::state::Output;
 use jcl_plan::entry::JobLine;
 use jcl_plan::plan::Record;
@@ -187,6 +188,19 @@ pub fn push_free(out: &mut Draft, volumes: &[Mounted]) -> Result<(), AllocError>
         push_two(out, b"FREE", mounted.serial().as_slice())?;
         push_number(out, b"", mounted.volume().free_tracks() as u64)?;
         out.push(b"\n")?;
+    }
+    Ok(())
+}
+
+/// The names that a job holds.
+pub fn push_names(out: &mut Draft, names: &[HeldName]) -> Result<(), AllocError> {
+    for held in names {
+        push_two(out, b"NAME", held.name.as_slice())?;
+        out.push(if held.exclusive {
+            b" EXCLUSIVE\n"
+        } else {
+            b" SHARED\n"
+        })?;
     }
     Ok(())
 }

@@ -1,14 +1,15 @@
 //! Words of a text, read and written.
 use crate::case::Unread;
 use jcl_plan::day::Day;
-use jcl_plan::outcome::Code;
+use jcl_plan::outcome::{Abend, Code, Outcome};
 use jcl_plan::plan::Record;
 use jname_core::ds_name::{DsName, read_ds_name};
 use jname_core::key::Key;
 use jname_core::name8::{Name8, UnitName};
 use jname_core::serial::Serial;
 use plain::draft::Draft;
-use std::alloc::AllocError;
+use plain::listed::Listed;
+use std::alloc::{AllocError, Global};
 
 /// What was read, or a fault of the line.
 pub(crate) fn wanted<T>(value: Option<T>) -> Result<T, Unread> {
@@ -56,6 +57,39 @@ pub(crate) fn some_day_in(text: &str) -> Result<Option<u32>, Unread> {
         return Ok(None);
     }
     Ok(Some(day_in(text)?.number()))
+}
+
+/// A number of lines, or `-` for none.
+pub(crate) fn some_count_in(text: &str) -> Result<Option<u32>, Unread> {
+    if text == "-" {
+        return Ok(None);
+    }
+    Ok(Some(wanted(text.parse::<u32>().ok())?))
+}
+
+/// How a step ends by itself: as `C0004` or `U0000`.
+fn ending_in(text: &str) -> Result<Outcome, Unread> {
+    if let Some(number) = text.strip_prefix('C') {
+        return Ok(Outcome::Code(code_in(number)?));
+    }
+    match text.strip_prefix('U') {
+        None => Err(Unread::Wrong),
+        Some(number) => Ok(Outcome::Abend(Abend::User(code_in(number)?))),
+    }
+}
+
+/// The outcomes behind a word: `S222` is a step that is cancelled, `B` one that is bypassed, and `F` one that is flushed.
+pub(crate) fn path_in(alloc: Global, words: &[&str]) -> Result<Listed<Outcome>, Unread> {
+    let mut path = Listed::empty(alloc);
+    for word in words.iter().skip(1) {
+        path.push(match *word {
+            "S222" => Outcome::Abend(Abend::S222),
+            "B" => Outcome::Bypassed,
+            "F" => Outcome::Flushed,
+            text => ending_in(text)?,
+        })?;
+    }
+    Ok(path)
 }
 
 /// 80 columns that begin with the text.

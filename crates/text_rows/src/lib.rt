@@ -1,5 +1,9 @@
-//! Worked texts: lists and texts, names, lines of the listing, cards and operands. All of it is tests.
+//! Worked texts: lists and texts, names, lines of the listing, cards and operands. All of it is laws that are computed.
 #![tactic(auto)]
 
-#[cfg(test)]
-mod tests;
+pub mod cards;
+pub mod limits;
+pub mod lines;
+pub mod lists;
+pub mod names;
+pub mod operands;

@@ -12,7 +12,7 @@ use Rattle.turn_core.specs.Standing.{count_at, undone}
 use Rattle.turn_core.specs.Turning.{Acts, Ends}
 
 pub waits_advances : WaitsAdvance
-waits_advances c s r plan a grants walk h = machine_waits h.its_turn true true h.advances h.waits refl refl refl
+waits_advances c s r plan a grants walk h = (machine_waits h.its_turn true true h.advances h.waits refl refl refl, refl)
 
 pub acts_advances : ActsAdvance
 acts_advances c s r plan a grants before after new told free listing h assured conserved =
@@ -30,7 +30,7 @@ acts_advances c s r plan a grants before after new told free listing h assured c
       listing = (q.lines ∙ ap (λ (l : List JobLine). l ++ lines) (sym listing)) i;
       stage = Admitted plan a (sym h.counted i) (sym q.own i);
     }) in
-    machine_acts q.its_turn q.growth q.primary free q.advances assured q.goes h.goes_on refl left conserved on
+    (machine_acts q.its_turn q.growth q.primary free q.advances assured q.goes h.goes_on refl left conserved on, refl)
 
 -- where nothing is made all that is kept stays
 all_kept : (job : ℕ) (kept : List Kept) → kept ≡ kept_unless_made kept job []
@@ -49,4 +49,4 @@ ends_advances c s r plan a grants walk free listing h conserved =
       cancels = cancels_after s.cancels r.job (sym q.lines i);
       spool = with_sets s.spool (sets_of r.job plan.message_class (sym listing i ++ sym q.lines i) (sym q.outputs i));
     }) r.job free in
-    machine_ends q.its_turn true true free q.advances (λ e. refl) q.goes h.is_over (sym q.lines) left conserved refl
+    (machine_ends q.its_turn true true free q.advances (λ e. refl) q.goes h.is_over (sym q.lines) left conserved refl, refl)

@@ -16,7 +16,7 @@ use Rattle.operand_core.proofs.Told.{earlier_assoc, told_append}
 use Rattle.value_core.specs.declared.set.VolumeName.{VolumeName}
 use Rattle.value_core.specs.declared.set.VolumeName.TheVariants as volume
 use Rattle.value_core.specs.Reads.{Read}
-use Rattle.value_core.specs.VolumeNames.{first_named, or_later, place_of, with_later}
+use Rattle.value_core.specs.VolumeNames.{first_named, or_later, volume_place, with_later}
 
 -- a value has a place
 onto_some : (c : ℕ) (parts : List (List ℕ)) → onto_first c parts ≡ [] → ⊥
@@ -100,11 +100,11 @@ later_told (Some f) (Some g) v w = refl
 
 -- of one more place
 pub named_more : (place : List ℕ) (places : List (List ℕ)) →
-    with_later (answer (place_of place (keyword_of place))) (answer (first_named places)) ≡ answer (first_named (place ∷ places))
+    with_later (answer (volume_place place (keyword_of place))) (answer (first_named places)) ≡ answer (first_named (place ∷ places))
 named_more place places =
-    later_told (told (place_of place (keyword_of place)).faults) (told (first_named places).faults) (place_of place (keyword_of place)).value (first_named places).value
+    later_told (told (volume_place place (keyword_of place)).faults) (told (first_named places).faults) (volume_place place (keyword_of place)).value (first_named places).value
     ∙ ap (λ f. let r : Result VolumeName Cause = or_fault f (first_named (place ∷ places)).value in r)
-    (sym (told_append (place_of place (keyword_of place)).faults (first_named places).faults))
+    (sym (told_append (volume_place place (keyword_of place)).faults (first_named places).faults))
 
 not_serial : (text : List ℕ) (bad : Bool) → is_no_serial text ≡ bad → (IsSerial text → ⊥) → true ≡ bad
 not_serial text true is h = refl

@@ -45,9 +45,9 @@ abbrev pub by_key : List ℕ → List ℕ → Read VolumeName
 by_key key text =
     if bytes_eq key (codes "SER") then serial text else (if bytes_eq key (codes "REF") then reference text else bad volume.Any (P BadValue))
 
-abbrev pub place_of : List ℕ → Option (List ℕ × List ℕ) → Read VolumeName
-place_of text None = if is_dropped text then good volume.Any else bad volume.Any (P BadValue)
-place_of text (Some found) = by_key found.0 found.1
+abbrev pub volume_place : List ℕ → Option (List ℕ × List ℕ) → Read VolumeName
+volume_place text None = if is_dropped text then good volume.Any else bad volume.Any (P BadValue)
+volume_place text (Some found) = by_key found.0 found.1
 
 -- the volume that the first place which names one names
 abbrev pub or_later : VolumeName → VolumeName → VolumeName
@@ -66,10 +66,10 @@ with_later volume later = either (both volume later)
 
 abbrev pub named_in : List (List ℕ) → VolumeName
 named_in [] = volume.Any
-named_in (text ∷ places) = or_later (place_of text (keyword_of text)).value (named_in places)
+named_in (text ∷ places) = or_later (volume_place text (keyword_of text)).value (named_in places)
 
 abbrev pub first_named : List (List ℕ) → Read VolumeName
-first_named places = record { value = named_in places; faults = flat_map (λ text. (place_of text (keyword_of text)).faults) places }
+first_named places = record { value = named_in places; faults = flat_map (λ text. (volume_place text (keyword_of text)).faults) places }
 
 abbrev pub volume_of_places : List (List ℕ) → Read VolumeName
 volume_of_places places = and_faults (first_named places) (together_faults (codes "SER") (codes "REF") places)

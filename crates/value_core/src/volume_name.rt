@@ -5,7 +5,7 @@ ghost use Rattle.jname_core.specs.Faults.{is_no_serial};
 ghost use Rattle.operand_core.specs.Operands.{keyword_of};
 ghost use Rattle.operand_core.specs.Subparameters.{subparameters_of};
 ghost use Rattle.value_core.specs.Reads.{IsRead, with_fault};
-ghost use Rattle.value_core.specs.VolumeNames.{by_key, first_named, is_dropped, is_other_name, of_dd, of_name, or_later, place_of, reference, serial, volume_name, with_later};
+ghost use Rattle.value_core.specs.VolumeNames.{by_key, first_named, is_dropped, is_other_name, of_dd, of_name, or_later, volume_place, reference, serial, volume_name, with_later};
 
 use crate::decimal::are_digits;
 use crate::places::together_fault;
@@ -121,7 +121,7 @@ fn by_key(key: &[u8], text: &[u8]) -> Result<VolumeName, Cause>
 
 /// What a place without a keyword names, which is none.
 fn without_key(place: &[u8]) -> Result<VolumeName, Cause>
-    ensures { IsRead result (place_of place.now None) }
+    ensures { IsRead result (volume_place place.now None) }
 {
     if is_dropped(place) {
         Ok(VolumeName::Any)
@@ -131,8 +131,8 @@ fn without_key(place: &[u8]) -> Result<VolumeName, Cause>
 }
 
 /// What a place of VOLUME names.
-fn place_of(place: &[u8]) -> Result<VolumeName, Cause>
-    ensures { IsRead result (place_of place.now (keyword_of place.now)) }
+fn volume_place(place: &[u8]) -> Result<VolumeName, Cause>
+    ensures { IsRead result (volume_place place.now (keyword_of place.now)) }
 {
     match keyword_of(place) {
         Some((key, text)) => by_key(key, text),
@@ -168,7 +168,7 @@ fn named_in(text: &[u8]) -> Result<VolumeName, Cause>
     let mut volume = Ok(VolumeName::Any);
     let mut places = Places::of_value(text);
     while let Some(place) = places.next() {
-        volume = with_later(volume, place_of(place));
+        volume = with_later(volume, volume_place(place));
     }
     volume
 }

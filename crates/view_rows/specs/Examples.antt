@@ -26,7 +26,7 @@ use Rattle.jcl_meaning.specs.declared.state.Place.{Place}
 use Rattle.jcl_meaning.specs.declared.store.DataSet.{DataSet}
 use Rattle.jcl_meaning.specs.declared.store.SoloStore.{SoloStore}
 use Rattle.jcl_meaning.specs.Names.{names_of}
-use Rattle.jcl_meaning.specs.Solo.{is_clean}
+use Rattle.jcl_meaning.specs.Solo.{Ran, fixed_alone, is_clean}
 use Rattle.jcl_meaning.specs.Stores.{store_of}
 use Rattle.jcl_meaning.specs.Parts.{part_of, some_group}
 use Rattle.jcl_meaning.specs.Views.{IsViewAfter, View, ran_to, view_of}
@@ -90,8 +90,15 @@ no_sets = record { volumes = serial ∷ []; sets = []; catalog = [] }
 abbrev pub places : List Place
 places = record { step = 1; dd = 1; serial = serial } ∷ []
 
+-- a run of a job in a store of lists, and what it sees
+abbrev pub ran_alone : SoloStore → List Place → ℕ → JobPlan → ℕ → List Outcome → Ran
+ran_alone store places date plan k outcomes = ran_to (fixed_alone store plan places date) plan (store_of store) k outcomes
+
+abbrev pub view_alone : SoloStore → List Place → ℕ → JobPlan → ℕ → List Outcome → View
+view_alone store places date plan k outcomes = view_of (fixed_alone store plan places date) plan (store_of store) k outcomes
+
 abbrev pub seen : ℕ → List Outcome → View
-seen k outcomes = view_of passing_job no_sets places 25567 k outcomes
+seen k outcomes = view_alone no_sets places 25567 passing_job k outcomes
 
 abbrev pub t_passed : Passed
 t_passed = record { key = Temporary (codes "T"); serial = serial; made = true; by_catalog = false; step = 1; dd = 1; abend_later = false }
@@ -104,7 +111,7 @@ pub record BehindTheFirstStep : Type 0 where
   pub met : (seen 1 (Code 5 ∷ [])).step_tests ≡ (true ∷ []) ∷ [] ∷ []
   pub passed_so : (seen 1 (Code 5 ∷ [])).passed ≡ t_passed ∷ []
   pub by_abend : (seen 1 (Abend abend.S806 ∷ [])).abended ≡ true
-  pub is_view : IsViewAfter passing_job no_sets places 25567 1 (seen 1 (Code 5 ∷ []))
+  pub is_view : IsViewAfter (fixed_alone no_sets passing_job places 25567) passing_job (store_of no_sets) 1 (seen 1 (Code 5 ∷ []))
 
 pub record BehindTheSecondStep : Type 0 where
   pub deleted : (seen 2 (Code 0 ∷ Code 0 ∷ [])).sets (Temporary (codes "T")) serial ≡ None
@@ -115,9 +122,9 @@ pub record BehindTheSecondStep : Type 0 where
 
 -- four actions a step: its start, its take, its end and its disposition; the take of the third is the tenth
 pub record WithoutAWayOn : Type 0 where
-  pub missed : is_clean (ran_to passing_job no_sets places 25567 3 (Code 0 ∷ Code 0 ∷ Code 0 ∷ [])) ≡ false
-  pub place : (ran_to passing_job no_sets places 25567 3 (Code 0 ∷ Code 0 ∷ Code 0 ∷ [])).faults ≡ record { place = 9; fault = F1 } ∷ []
-  pub found : is_clean (ran_to passing_job no_sets places 25567 3 (Code 5 ∷ Code 0 ∷ Code 0 ∷ [])) ≡ true
+  pub missed : is_clean (ran_alone no_sets places 25567 passing_job 3 (Code 0 ∷ Code 0 ∷ Code 0 ∷ [])) ≡ false
+  pub place : (ran_alone no_sets places 25567 passing_job 3 (Code 0 ∷ Code 0 ∷ Code 0 ∷ [])).faults ≡ record { place = 9; fault = F1 } ∷ []
+  pub found : is_clean (ran_alone no_sets places 25567 passing_job 3 (Code 5 ∷ Code 0 ∷ Code 0 ∷ [])) ≡ true
 
 -- the second step makes a set on the volume of the first one's
 abbrev pub referring_job : JobPlan
@@ -131,7 +138,7 @@ referring_job = job_of (passes_t
     ∷ [])
 
 abbrev pub volumes_seen : ℕ → List Outcome → ℕ → ℕ → Option (List ℕ)
-volumes_seen k outcomes = (view_of referring_job no_sets places 25567 k outcomes).volumes
+volumes_seen k outcomes = (view_alone no_sets places 25567 referring_job k outcomes).volumes
 
 pub record Refers : Type 0 where
   pub before : volumes_seen 0 [] 1 1 ≡ None
@@ -153,7 +160,7 @@ two_sets = record {
 }
 
 abbrev pub its_view : ℕ → View
-its_view date = view_of naming_job two_sets [] date 0 []
+its_view date = view_alone two_sets [] date naming_job 0 []
 
 pub record SeesItsPart : Type 0 where
   pub own : (its_view 25567).sets (Named (codes "A.B")) serial ≡ Some true

@@ -10,7 +10,8 @@ use Rattle.jcl_plan.specs.declared.plan.SetPlan.{SetPlan}
 use Rattle.jcl_plan.specs.declared.plan.VolumePlan.TheVariants as volume
 use Rattle.jcl_plan.specs.declared.plan.Word.TheVariants as word
 use Rattle.jcl_meaning.specs.declared.store.SoloStore.{SoloStore}
-use Rattle.jcl_meaning.specs.Solo.{Met, solo_path_of}
+use Rattle.jcl_meaning.specs.Solo.{Met, fixed_alone, solo_path_of}
+use Rattle.jcl_meaning.specs.Stores.{store_of}
 use Rattle.view_rows.specs.Examples.{dd_of, job_of, kept_set, serial, set_of_t, step_of}
 
 -- R.SET, catalogued
@@ -26,7 +27,7 @@ abbrev pub r_set : SetPlan
 r_set = record set_of_t { key = Named (codes "R.SET") }
 
 abbrev pub faults_of : JobPlan → List Outcome → List Met
-faults_of job outcomes = (solo_path_of job one_set [] outcomes 25567).faults
+faults_of job outcomes = (solo_path_of (fixed_alone one_set job [] 25567) job (store_of one_set) outcomes).faults
 
 -- one step deletes it by two DDs: its start, two takes, its end, and two dispositions, of which the second is the sixth action
 abbrev pub deletes_twice : JobPlan

@@ -10,11 +10,11 @@ use Rattle.jcl_plan.specs.declared.plan.JobPlan.{JobPlan}
 use Rattle.jcl_plan.specs.declared.plan.Status.TheVariants as status
 use Rattle.jcl_plan.specs.declared.plan.Word.TheVariants as word
 use Rattle.jcl_meaning.specs.Solo.{Ran}
-use Rattle.jcl_meaning.specs.Views.{View, ran_to, view_of}
-use Rattle.view_rows.specs.Examples.{dd_of, job_of, no_sets, passes_t, passing_job, places, referring_job, serial, set_of_t, step_of, t_passed}
+use Rattle.jcl_meaning.specs.Views.{View}
+use Rattle.view_rows.specs.Examples.{dd_of, job_of, no_sets, passes_t, passing_job, places, ran_alone, referring_job, serial, set_of_t, step_of, t_passed, view_alone}
 
 abbrev pub ran : JobPlan → List Outcome → Ran
-ran job outcomes = ran_to job no_sets places 25567 2 outcomes
+ran job outcomes = ran_alone no_sets places 25567 job 2 outcomes
 
 -- T is passed, and then a step without DDs
 abbrev pub passing_on : JobPlan
@@ -30,7 +30,7 @@ passes_or_deletes = job_of (step_of [] (dd_of (record set_of_t {
 }) ∷ []) ∷ step_of [] [] ∷ [])
 
 abbrev pub behind : JobPlan → List Outcome → View
-behind job outcomes = view_of job no_sets places 25567 2 outcomes
+behind job outcomes = view_alone no_sets places 25567 job 2 outcomes
 
 -- an ABEND counts for what earlier steps passed, and not for what its own step passes
 pub record ComesLater : Type 0 where

@@ -1,4 +1,6 @@
+pub mod CodeClasses
 pub mod Examples
 pub mod FaultPlaces
 pub mod LaterAbends
 pub mod RolledOff
+pub mod StepFates

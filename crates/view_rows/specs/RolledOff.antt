@@ -14,8 +14,8 @@ use Rattle.jcl_meaning.specs.declared.store.DataSet.{DataSet}
 use Rattle.jcl_meaning.specs.declared.store.SoloStore.{SoloStore}
 use Rattle.jcl_meaning.specs.Resolutions.{meaning_at, meanings_of}
 use Rattle.jcl_meaning.specs.Stores.{store_of}
-use Rattle.jcl_meaning.specs.Views.{View, view_of}
-use Rattle.view_rows.specs.Examples.{dd_of, job_of, places, serial, set_of_t, step_of}
+use Rattle.jcl_meaning.specs.Views.{View}
+use Rattle.view_rows.specs.Examples.{dd_of, job_of, places, serial, set_of_t, step_of, view_alone}
 use Rattle.jcl_plan.specs.declared.fault.Fault.TheVariants.{F5}
 
 abbrev pub base : List ℕ
@@ -48,7 +48,7 @@ two_generations scratch = record {
 }
 
 abbrev pub behind : Bool → View
-behind scratch = view_of enters_the_next (two_generations scratch) places 25567 1 (Code 0 ∷ [])
+behind scratch = view_alone (two_generations scratch) places 25567 enters_the_next 1 (Code 0 ∷ [])
 
 pub record RollsOff : Type 0 where
   pub numbers : (behind true).catalog base ≡ Some (group_with true (generation 3 ∷ generation 2 ∷ []))

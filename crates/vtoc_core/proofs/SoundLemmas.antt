@@ -12,7 +12,7 @@ use Rattle.vtoc_core.specs.declared.volume.Track.{Track}
 use Rattle.vtoc_core.specs.declared.volume.Track.TheVariants.{Free, InSet, Unusable}
 use Rattle.vtoc_core.specs.Entries.{Sets, changed, key_cmp, with_records}
 use Rattle.vtoc_core.specs.Extents.{kept_front, past_front}
-use Rattle.vtoc_core.specs.Volumes.{VolumeState, is_in_some, times_in, marked, AreOf, IsSound, extents_of_all, first_tracks}
+use Rattle.vtoc_core.specs.Volumes.{VolumeState, is_in_some, times_in, marked, AreOf, IsSoundVolume, extents_of_all, first_tracks}
 use Rattle.vtoc_core.proofs.CutLemmas.{times_in_parts}
 use Rattle.vtoc_core.proofs.FreeLemmas.{times_in-append}
 use Rattle.vtoc_core.proofs.KindLemmas.{apart, are_of_stay, free≢in_set, marked_in, marked_not_in, unusable≢in_set}
@@ -21,8 +21,8 @@ use Rattle.vtoc_core.proofs.MapLemmas.{changed_is, not_changed, times_in_fewer, 
 use Rattle.vtoc_core.proofs.MarkLemmas.{length-marked, get_or-marked}
 
 -- tracks of no set become tracks of no set
-pub sound_aside : (from kind : Track) (v : VolumeState) (es : List Extent) → from ≢ InSet → kind ≢ InSet → AreOf from v.tracks es → IsSound v →
-    IsSound (record { tracks = marked kind es v.tracks; sets = v.sets })
+pub sound_aside : (from kind : Track) (v : VolumeState) (es : List Extent) → from ≢ InSet → kind ≢ InSet → AreOf from v.tracks es → IsSoundVolume v →
+    IsSoundVolume (record { tracks = marked kind es v.tracks; sets = v.sets })
 sound_aside from kind v es n m a s = record {
   in_sets = are_of_stay from kind InSet es (extents_of_all v.sets) v.tracks n a s.in_sets;
   no_others = λ k h.
@@ -35,8 +35,8 @@ sound_aside from kind v es n m a s = record {
 
 -- tracks of no set become those of a set
 pub sound_more : (from : Track) (v : VolumeState) (es : List Extent) (sets : Sets) → from ≢ InSet → AreOf from v.tracks es →
-    ((k : ℕ) → times_in k (extents_of_all sets) ≡ times_in k (extents_of_all v.sets) + times_in k es) → IsSound v →
-    IsSound (record { tracks = marked InSet es v.tracks; sets = sets })
+    ((k : ℕ) → times_in k (extents_of_all sets) ≡ times_in k (extents_of_all v.sets) + times_in k es) → IsSoundVolume v →
+    IsSoundVolume (record { tracks = marked InSet es v.tracks; sets = sets })
 sound_more from v es sets n a t s = record {
   in_sets = record {
     kinds = λ k l.
@@ -66,8 +66,8 @@ sound_more from v es sets n a t s = record {
 
 -- tracks of sets become free
 pub sound_fewer : (v : VolumeState) (es : List Extent) (sets : Sets) →
-    ((k : ℕ) → times_in k (extents_of_all v.sets) ≡ times_in k (extents_of_all sets) + times_in k es) → IsSound v →
-    IsSound (record { tracks = marked Free es v.tracks; sets = sets })
+    ((k : ℕ) → times_in k (extents_of_all v.sets) ≡ times_in k (extents_of_all sets) + times_in k es) → IsSoundVolume v →
+    IsSoundVolume (record { tracks = marked Free es v.tracks; sets = sets })
 sound_fewer v es sets t s = record {
   in_sets = record {
     kinds = λ k l.
@@ -109,7 +109,7 @@ none_of_empty : (k : ℕ) → times_in k (extents_of_all empty) ≡ 0
 none_of_empty k = ap (λ es. times_in k (flat_map (λ (s : SetKey × SetEntry). s.1.extents.items) es))
     (nothing (entries (empty {R = key_cmp})) (sym (len-entries empty) ∙ len-empty key_cmp SetEntry))
 
-pub sound_first : (n : ℕ) (es : List Extent) → n ≤ 4000 → IsSound (record { tracks = first_tracks n es; sets = empty })
+pub sound_first : (n : ℕ) (es : List Extent) → n ≤ 4000 → IsSoundVolume (record { tracks = first_tracks n es; sets = empty })
 sound_first n es l = record {
   in_sets = record { kinds = λ k m. absurd (omega (arith, none_of_empty k)); once = λ k. omega (arith, none_of_empty k) };
   no_others = λ k h. absurd (first_kind n es k h);
@@ -118,17 +118,17 @@ sound_first n es l = record {
 
 -- what the calls leave sound: a set made, scratched, grown, cut, or with other records
 pub sound_made : (from : Track) (v : VolumeState) (es : List Extent) (key : SetKey) (e : SetEntry) → from ≢ InSet → AreOf from v.tracks es →
-    e.extents.items ≡ es → get v.sets key ≡ None → IsSound v → IsSound (record { tracks = marked InSet es v.tracks; sets = insert v.sets key e })
+    e.extents.items ≡ es → get v.sets key ≡ None → IsSoundVolume v → IsSoundVolume (record { tracks = marked InSet es v.tracks; sets = insert v.sets key e })
 sound_made from v es key e n a t h s =
     sound_more from v es (insert v.sets key e) n a
     (λ k. times_in_more k v.sets key e h ∙ ap (λ fs. times_in k (extents_of_all v.sets) + times_in k fs) t) s
 
-pub sound_scratched : (v : VolumeState) (key : SetKey) (e : SetEntry) → get v.sets key ≡ Some e → IsSound v →
-    IsSound (record { tracks = marked Free e.extents.items v.tracks; sets = remove v.sets key })
+pub sound_scratched : (v : VolumeState) (key : SetKey) (e : SetEntry) → get v.sets key ≡ Some e → IsSoundVolume v →
+    IsSoundVolume (record { tracks = marked Free e.extents.items v.tracks; sets = remove v.sets key })
 sound_scratched v key e h s = sound_fewer v e.extents.items (remove v.sets key) (λ k. times_in_fewer k v.sets key e h) s
 
 pub sound_grown : (v : VolumeState) (es : List Extent) (key : SetKey) (e f : SetEntry) → AreOf Free v.tracks es → get v.sets key ≡ Some e →
-    f.extents.items ≡ e.extents.items ++ es → IsSound v → IsSound (record { tracks = marked InSet es v.tracks; sets = insert v.sets key f })
+    f.extents.items ≡ e.extents.items ++ es → IsSoundVolume v → IsSoundVolume (record { tracks = marked InSet es v.tracks; sets = insert v.sets key f })
 sound_grown v es key e f a h t s =
     sound_more Free v es (insert v.sets key f) free≢in_set a
     (λ k.
@@ -136,15 +136,15 @@ sound_grown v es key e f a h t s =
     omega (arith, times_in_fewer k v.sets key e h, times_in_other k v.sets key f)) s
 
 pub sound_cut : (v : VolumeState) (n : ℕ) (key : SetKey) (e f : SetEntry) → get v.sets key ≡ Some e → f.extents.items ≡ kept_front n e.extents.items →
-    IsSound v → IsSound (record { tracks = marked Free (past_front n e.extents.items) v.tracks; sets = insert v.sets key f })
+    IsSoundVolume v → IsSoundVolume (record { tracks = marked Free (past_front n e.extents.items) v.tracks; sets = insert v.sets key f })
 sound_cut v n key e f h t s =
     sound_fewer v (past_front n e.extents.items) (insert v.sets key f)
     (λ k.
     let r : times_in k f.extents.items ≡ times_in k (kept_front n e.extents.items) = ap (times_in k) t in
     omega (arith, times_in_parts k n e.extents.items, times_in_fewer k v.sets key e h, times_in_other k v.sets key f)) s
 
-pub sound_same : (v : VolumeState) (key : SetKey) (e f : SetEntry) → get v.sets key ≡ Some e → f.extents.items ≡ e.extents.items → IsSound v →
-    IsSound (record { tracks = v.tracks; sets = insert v.sets key f })
+pub sound_same : (v : VolumeState) (key : SetKey) (e f : SetEntry) → get v.sets key ≡ Some e → f.extents.items ≡ e.extents.items → IsSoundVolume v →
+    IsSoundVolume (record { tracks = v.tracks; sets = insert v.sets key f })
 sound_same v key e f h t s =
     let same : (k : ℕ) → times_in k (extents_of_all (insert v.sets key f)) ≡ times_in k (extents_of_all v.sets) =
     λ k. let r : times_in k f.extents.items ≡ times_in k e.extents.items = ap (times_in k) t in
@@ -160,13 +160,13 @@ sound_same v key e f h t s =
     }
 
 -- the tracks of a set are marked as those of sets, each once
-pub set_tracks : (v : VolumeState) (key : SetKey) (e : SetEntry) → get v.sets key ≡ Some e → IsSound v → AreOf InSet v.tracks e.extents.items
+pub set_tracks : (v : VolumeState) (key : SetKey) (e : SetEntry) → get v.sets key ≡ Some e → IsSoundVolume v → AreOf InSet v.tracks e.extents.items
 set_tracks v key e h s = record {
   kinds = λ k l. s.in_sets.kinds k (omega (arith, times_in_fewer k v.sets key e h));
   once = λ k. let o = s.in_sets.once k in omega (arith, times_in_fewer k v.sets key e h);
 }
 
-pub past_tracks : (v : VolumeState) (n : ℕ) (key : SetKey) (e : SetEntry) → get v.sets key ≡ Some e → IsSound v →
+pub past_tracks : (v : VolumeState) (n : ℕ) (key : SetKey) (e : SetEntry) → get v.sets key ≡ Some e → IsSoundVolume v →
     AreOf InSet v.tracks (past_front n e.extents.items)
 past_tracks v n key e h s =
     let a : AreOf InSet v.tracks e.extents.items = set_tracks v key e h s in
@@ -176,21 +176,21 @@ past_tracks v n key e h s =
     }
 
 -- and lie on the volume
-pub set_below : (v : VolumeState) (key : SetKey) (e : SetEntry) (k : ℕ) → get v.sets key ≡ Some e → 0 < times_in k e.extents.items → IsSound v → k < 4000
+pub set_below : (v : VolumeState) (key : SetKey) (e : SetEntry) (k : ℕ) → get v.sets key ≡ Some e → 0 < times_in k e.extents.items → IsSoundVolume v → k < 4000
 set_below v key e k h l s =
     let a : AreOf InSet v.tracks e.extents.items = set_tracks v key e h s in
     omega (arith, slice_get_within v.tracks k InSet (a.kinds k l), s.size)
 
 -- a volume with these tracks and these sets
-pub sound_as : (ts us : List Track) (ss rs : Sets) → us ≡ ts → rs ≡ ss → IsSound (record { tracks = ts; sets = ss }) →
-    IsSound (record { tracks = us; sets = rs })
+pub sound_as : (ts us : List Track) (ss rs : Sets) → us ≡ ts → rs ≡ ss → IsSoundVolume (record { tracks = ts; sets = ss }) →
+    IsSoundVolume (record { tracks = us; sets = rs })
 sound_as ts us ss rs p q s =
-    subst (λ (xs : List Track). IsSound (record { tracks = xs; sets = rs })) (sym p)
-    (subst (λ (xs : Sets). IsSound (record { tracks = ts; sets = xs })) (sym q) s)
+    subst (λ (xs : List Track). IsSoundVolume (record { tracks = xs; sets = rs })) (sym p)
+    (subst (λ (xs : Sets). IsSoundVolume (record { tracks = ts; sets = xs })) (sym q) s)
 
 -- a set with other records
-sound_kept : (v : VolumeState) (key : SetKey) (f : List (List ℕ) → List (List ℕ)) → IsSound v →
-    IsSound (record { tracks = v.tracks; sets = changed v.sets key (with_records f) })
+sound_kept : (v : VolumeState) (key : SetKey) (f : List (List ℕ) → List (List ℕ)) → IsSoundVolume v →
+    IsSoundVolume (record { tracks = v.tracks; sets = changed v.sets key (with_records f) })
 sound_kept v key f s =
     ⊎_elim
     (λ (h : get v.sets key ≡ None). sound_as v.tracks v.tracks v.sets (changed v.sets key (with_records f)) refl (not_changed v.sets key (with_records f) h) s)
@@ -200,12 +200,12 @@ sound_kept v key f s =
     (sound_same v key p.0 (with_records f p.0) p.1 refl s))
     (none_or_some (get v.sets key))
 
-pub sound_by : (v : VolumeState) (key : SetKey) (f : List (List ℕ) → List (List ℕ)) (rs : Sets) → rs ≡ changed v.sets key (with_records f) → IsSound v →
-    IsSound (record { tracks = v.tracks; sets = rs })
+pub sound_by : (v : VolumeState) (key : SetKey) (f : List (List ℕ) → List (List ℕ)) (rs : Sets) → rs ≡ changed v.sets key (with_records f) → IsSoundVolume v →
+    IsSoundVolume (record { tracks = v.tracks; sets = rs })
 sound_by v key f rs q s = sound_as v.tracks v.tracks (changed v.sets key (with_records f)) rs refl q (sound_kept v key f s)
 
 pub sound_tried : {A E : Type 0} (r : Result A E) (v : VolumeState) (key : SetKey) (f : List (List ℕ) → List (List ℕ)) (rs : Sets) →
-    OnOk r (rs ≡ changed v.sets key (with_records f)) → OnErr r (rs ≡ v.sets) → IsSound v → IsSound (record { tracks = v.tracks; sets = rs })
+    OnOk r (rs ≡ changed v.sets key (with_records f)) → OnErr r (rs ≡ v.sets) → IsSoundVolume v → IsSoundVolume (record { tracks = v.tracks; sets = rs })
 sound_tried (Ok x) v key f rs q o s = sound_by v key f rs q s
 sound_tried (Err x) v key f rs q o s = sound_as v.tracks v.tracks v.sets rs refl o s
 

@@ -1,6 +1,6 @@
 pub mod Codes
 pub mod Entries
 pub mod Extents
-pub mod Numbers
+pub mod RefusalNumbers
 pub mod Searches
 pub mod Volumes

@@ -130,7 +130,7 @@ abbrev pub extents_of_all : Sets → List Extent
 extents_of_all sets = flat_map (λ s. s.1.extents.items) (entries sets)
 
 -- the tracks of sets are marked so, none of them is in two extents, and all tracks marked so are of a set
-pub record IsSound (v : VolumeState) : Type 0 where
+pub record IsSoundVolume (v : VolumeState) : Type 0 where
   pub in_sets : AreOf InSet v.tracks (extents_of_all v.sets)
   pub no_others : (track : ℕ) → slice_get v.tracks track ≡ Some InSet → 0 < times_in track (extents_of_all v.sets)
   pub size : length v.tracks ≤ 4000

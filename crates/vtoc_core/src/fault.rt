@@ -1,6 +1,6 @@
 //! What a volume refuses.
 ghost use Rattle.std.specs.Prelude.{◌≡◌, Some, None};
-ghost use Rattle.vtoc_core.specs.Numbers.{number_of};
+ghost use Rattle.vtoc_core.specs.RefusalNumbers.{number_of};
 
 use thiserror::Error;
 

@@ -4,7 +4,7 @@ ghost use Rattle.std.specs.FinMap as map;
 ghost use Rattle.std.specs.Option.{option_copied};
 ghost use Rattle.vtoc_core.specs.Entries.{LacksRecords, changed, with_extents, with_records};
 ghost use Rattle.vtoc_core.specs.Extents.{five_largest, free_extents, is_free_track, kept_front, past_front, planned, tracks_in};
-ghost use Rattle.vtoc_core.specs.Volumes.{AnswersGrow, AnswersMake, AnswersWrite, AreOf, IsAside, IsSound, Moves, count_of, first_tracks, marked, tracks_past};
+ghost use Rattle.vtoc_core.specs.Volumes.{AnswersGrow, AnswersMake, AnswersWrite, AreOf, IsAside, IsSoundVolume, Moves, count_of, first_tracks, marked, tracks_past};
 ghost use Rattle.extent_core.specs.declared.extent.Extent.{Extent};
 ghost use Rattle.vtoc_core.specs.declared.entry.SetEntry.{SetEntry};
 ghost use Rattle.vtoc_core.specs.declared.volume.Track.TheVariants.{Free, Aside, InSet, Unusable};
@@ -51,7 +51,7 @@ pub struct Volume {
 
 impl Model for Volume {
     ghost use Rattle.vtoc_core.specs.Entries.{sets_of};
-    ghost use Rattle.vtoc_core.specs.Volumes.{VolumeState, IsSound, coded_volume};
+    ghost use Rattle.vtoc_core.specs.Volumes.{VolumeState, IsSoundVolume, coded_volume};
 
     ghost Value = { VolumeState };
 
@@ -59,7 +59,7 @@ impl Model for Volume {
 
     ghost view = { λ v. record { tracks = v.tracks; sets = sets_of v.sets.entries } };
 
-    ghost invariant = { λ v. IsSound (record { tracks = v.tracks; sets = sets_of v.sets.entries }) };
+    ghost invariant = { λ v. IsSoundVolume (record { tracks = v.tracks; sets = sets_of v.sets.entries }) };
 }
 
 impl Volume {
@@ -290,7 +290,7 @@ impl Volume {
 
 /// Each volume is sound: the tracks of sets are marked so, none of them is in two extents, and all tracks marked so are of a set.
 pub fn volumes_are_sound(volume: &Volume)
-    ensures { IsSound volume.now }
+    ensures { IsSoundVolume volume.now }
 {
     let _ = &volume.tracks;
 }

@@ -8,7 +8,7 @@ use Rattle.cb_meaning.specs.declared.layout.Layout.{Layout}
 use Rattle.cb_meaning.specs.Fields.{byte_at, is_in, is_zero_but, number_at, number_of, part, zero_from}
 use Rattle.cb_meaning.specs.Spelled.{status_bytes}
 use Rattle.world_meaning.specs.Records.{AgreeBut}
-use Rattle.world_meaning.specs.Records.{HasOwnLink, IsBetween}
+use Rattle.world_meaning.specs.Records.{IsQueueLayout, IsBetween}
 
 -- bytes in a row
 pub part_agrees : (r s : List ℕ) (at width : ℕ) → length s ≡ length r → ((k : ℕ) → at ≤ k → k < at + width → byte_at s k ≡ byte_at r k) →
@@ -63,7 +63,7 @@ not_status : (has : Bool) (k : ℕ) → (has ≡ true → k < 168) → list_any 
 not_status true k low = or_from _ _ (below_field status_bytes k (low refl)) refl
 not_status false k low = refl
 
-module _ (l : Layout) (own : HasOwnLink l) (has : Bool) (r s : List ℕ) (agree : AgreeBut (opened l has) r s) where
+module _ (l : Layout) (own : IsQueueLayout l) (has : Bool) (r s : List ℕ) (agree : AgreeBut (opened l has) r s) where
   pub low_byte : (k : ℕ) → k < 4 → byte_at s k ≡ byte_at r k
   low_byte k low =
       agree.bytes k (or_from _ _ (below_field l.link k (omega (arith, low, own.link_from))) (not_status has k (λ e. omega (arith, low))))

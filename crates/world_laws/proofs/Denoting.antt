@@ -12,11 +12,11 @@ use Rattle.cb_meaning.specs.Fields.{byte_at, field, number_at, number_of}
 use Rattle.cb_meaning.specs.Spelled.{Below, CardChain, DdChain, Denotes, IsOwned, Records, Spell, SpellsCards, SpellsJct, SpellsJfcb, SpellsSct, SpellsSiot, StepChain, card_fields, card_record, common, jct, jct_fields, jfcb, jfcb_fields, sct, sct_fields, siot, status_bytes}
 use Rattle.cb_meaning.specs.Walks.{is_free}
 use Rattle.world_meaning.specs.Records.{AgreeBut, has_status, open_fields}
-use Rattle.world_meaning.specs.Records.{HasOwnLink}
+use Rattle.world_meaning.specs.Records.{IsQueueLayout}
 use Rattle.world_laws.specs.RecordsKept.{KeepsRecords}
 use Rattle.world_laws.proofs.Bytes.{low_byte, low_part, open_part, opened, told_byte, told_number, told_part, unused_same}
 
-module _ (l : Layout) (own : HasOwnLink l) where
+module _ (l : Layout) (own : IsQueueLayout l) where
   -- one record of each kind
   module _ (r s : List ℕ) (agree : AgreeBut (opened l true) r s) where
     byte : (k : ℕ) → 8 ≤ k → k + 1 ≤ 168 → byte_at s k ≡ byte_at r k

@@ -9,7 +9,7 @@ use Rattle.jcl_plan.specs.declared.entry.JobLine.{JobLine}
 use Rattle.jcl_plan.specs.declared.plan.JobPlan.{JobPlan}
 use Rattle.jcl_meaning.specs.States.{Fixed}
 use Rattle.cb_meaning.specs.declared.layout.Layout.{Layout}
-use Rattle.cb_meaning.specs.Fields.{byte_at}
+use Rattle.cb_meaning.specs.Fields.{byte_at, with_part}
 use Rattle.cb_meaning.specs.Spelled.{Records}
 use Rattle.cb_meaning.specs.Walks.{is_free, owner_of}
 use Rattle.world_meaning.specs.declared.event.Event.{Event}
@@ -20,16 +20,17 @@ use Rattle.world_meaning.specs.Devices.{ended, idle, no_volume, nothing_written,
 use Rattle.world_meaning.specs.Displays.{set}
 use Rattle.world_meaning.specs.Holdings.{Holds, blocked, broken, held, read as reads_plan}
 use Rattle.world_meaning.specs.Readings.{Denoting, Reads, full, no_number, read, rejected}
-use Rattle.world_meaning.specs.Records.{AgreeBut, SameRecords, given_back, has_status, numbers_from, open_fields, overwritten, owned_by}
+use Rattle.world_meaning.specs.Records.{AgreeBut, SameRecords, records_given_back, has_status, open_fields, owned_by}
 use Rattle.world_meaning.specs.Selections.{nothing, selected}
 use Rattle.world_meaning.specs.Transitions.{Acts, Does, GoesOn, Happens, Transition, acts, past, shown, taken, unknown}
 use Rattle.world_meaning.specs.Turns.{acts as does_act, ends, has_cancel, waits}
 use Rattle.world_meaning.specs.Worlds.{Admitted, Config, Initiator, IsAt, Named, Running, Selected, Shared, Stage, Wanting, World, counted, with_running}
 use Rattle.world_meaning.specs.Zaps.{ZapsRecord, has_initiator, not_owned, runs_job, selected as zaps_selected, zapped}
-use Rattle.world_meaning.specs.Records.{HasOwnLink}
+use Rattle.world_meaning.specs.Records.{IsQueueLayout}
 use Rattle.world_laws.specs.RecordsKept.{IsAlone, KeepsRecords}
 use Rattle.world_laws.proofs.Beside.{one_there, set_here}
 use Rattle.world_laws.proofs.Bytes.{low_byte, opened}
+use Rattle.plain.specs.Lists.{numbers_from}
 
 agree_same : (l : Layout) (r : List ℕ) → AgreeBut (open_fields l r) r r
 agree_same l r = record { size = refl; bytes = λ k out. refl }
@@ -56,7 +57,7 @@ none_owned q other job n apart is (m ∷ ms) = by_test (owner_of q m == other) r
         or_from (m == n) _ (ne_eqb m n (λ same. apart (sym (eqb-true (owner_of q m) other e) ∙ (ap (owner_of q) same ∙ is)))) rest
     by_test false e rest = rest
 
-pub given_keeps : (l : Layout) (q : Records) (other job : ℕ) → other ≢ job → KeepsRecords l job q (given_back l q other)
+pub given_keeps : (l : Layout) (q : Records) (other job : ℕ) → other ≢ job → KeepsRecords l job q (records_given_back l q other)
 given_keeps l q other job apart n used is =
     (any_append (λ f. f == n) (owned_by l q other) q.free (none_owned q other job n apart is (numbers_from 1 l.most_records)) used, agree_same l (q.at n))
 
@@ -65,7 +66,7 @@ same_keeps l job q new e = subst (KeepsRecords l job q) (sym e) (λ n used is. (
 
 -- a job that acts leaves the records, or it is over and gives its own back
 abbrev LeavesRecords : Config → Shared → Running → Shared → Option Running → Type 0
-LeavesRecords c old r new runs = (new.records ≡ old.records) ⊎ ((runs ≡ None) × (new.records ≡ given_back c.layout old.records r.job))
+LeavesRecords c old r new runs = (new.records ≡ old.records) ⊎ ((runs ≡ None) × (new.records ≡ records_given_back c.layout old.records r.job))
 
 holds_records : (c : Config) (old : Shared) (r : Running) (plan : JobPlan) (lines : List JobLine) (new : Shared) (runs : Option Running) →
     Holds old r plan lines new runs → LeavesRecords c old r new runs
@@ -101,7 +102,7 @@ module _ (old mid : World) (place job : ℕ) (alone : IsAlone old place job) (y 
   stays : mid.shared.records ≡ old.shared.records → KeepsRecords old.config.layout job old.shared.records mid.shared.records
   stays e = same_keeps old.config.layout job old.shared.records mid.shared.records e
 
-  gives : (other : ℕ) → other ≢ job → mid.shared.records ≡ given_back old.config.layout old.shared.records other →
+  gives : (other : ℕ) → other ≢ job → mid.shared.records ≡ records_given_back old.config.layout old.shared.records other →
       KeepsRecords old.config.layout job old.shared.records mid.shared.records
   gives other apart e =
       subst (KeepsRecords old.config.layout job old.shared.records) (sym e) (given_keeps old.config.layout old.shared.records other job apart)
@@ -151,7 +152,7 @@ module _ (old mid : World) (place job : ℕ) (alone : IsAlone old place job) (y 
       either true = refl
       either false = refl
 
-  -- the job has an initiator, so its records are not overwritten
+  -- the job has an initiator, so its records are not with_part
   found : (xs : List Initiator) (k : ℕ) (x : Initiator) → slice_get xs k ≡ Some x → runs_job job x.running ≡ true →
       list_any (λ z. runs_job job z.running) xs ≡ true
   found [] k x e h = absurd cc
@@ -170,7 +171,7 @@ module _ (old mid : World) (place job : ℕ) (alone : IsAlone old place job) (y 
       (λ k used owner. (
         used,
         subst (AgreeBut (open_fields old.config.layout (old.shared.records.at k)) (old.shared.records.at k))
-            (sym (ap (λ b. cond b (overwritten (old.shared.records.at n) offset bytes) (old.shared.records.at k))
+            (sym (ap (λ b. cond b (with_part (old.shared.records.at n) offset bytes) (old.shared.records.at k))
             (ne_eqb k n (λ same. both_ways (has_initiator old job) (ap (has_initiator old) (sym owner ∙ ap (owner_of old.shared.records) same) ∙ none) has_one))))
             (agree_same old.config.layout (old.shared.records.at k)),
       ))
@@ -191,7 +192,7 @@ module _ (old mid : World) (place job : ℕ) (alone : IsAlone old place job) (y 
   does_keep job_of (event.Date day) lines (set years of_year is t n) = stays (ap (λ (w : World). w.shared.records) n)
 
 -- and then what is open
-reopened_keeps : (l : Layout) (job : ℕ) (old mid new : Records) → HasOwnLink l → KeepsRecords l job old mid → SameRecords l mid new → KeepsRecords l job old new
+reopened_keeps : (l : Layout) (job : ℕ) (old mid new : Records) → IsQueueLayout l → KeepsRecords l job old mid → SameRecords l mid new → KeepsRecords l job old new
 reopened_keeps l job old mid new own keeps same n used is =
     let k : (is_free mid n ≡ false) × AgreeBut (open_fields l (old.at n)) (old.at n) (mid.at n) = keeps n used is in
     let a : AgreeBut (open_fields l (mid.at n)) (mid.at n) (new.at n) = same.used n k.0 in
@@ -199,7 +200,7 @@ reopened_keeps l job old mid new own keeps same n used is =
     let b : AgreeBut (open_fields l (old.at n)) (mid.at n) (new.at n) = subst (λ z. AgreeBut (opened l (has_status z)) (mid.at n) (new.at n)) kind a in
     (ap (list_any (λ f. f == n)) same.free ∙ k.0, record { size = b.size ∙ k.1.size; bytes = λ i out. b.bytes i out ∙ k.1.bytes i out })
 
-module _ (job_of : Denoting) (old new : World) (e : Event) (lines : List Entry) (place job : ℕ) (y : Initiator) (own : HasOwnLink old.config.layout)
+module _ (job_of : Denoting) (old new : World) (e : Event) (lines : List Entry) (place job : ℕ) (y : Initiator) (own : IsQueueLayout old.config.layout)
     (alone : IsAlone old place job) (there : IsAt new place y) (has : y.running ≢ None) where
   happens_keep : new.config ≡ old.config → Happens job_of (counted old) e lines new →
       KeepsRecords old.config.layout job old.shared.records new.shared.records

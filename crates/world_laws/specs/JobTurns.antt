@@ -8,11 +8,10 @@ use Rattle.jcl_meaning.specs.declared.state.Own.{Own}
 use Rattle.jcl_meaning.specs.Agendas.{agenda}
 use Rattle.jcl_meaning.specs.Names.{names_of}
 use Rattle.jcl_meaning.specs.Parts.{SamePart}
-use Rattle.jcl_meaning.specs.Solo.{answers_of, nothing_own, run}
+use Rattle.jcl_meaning.specs.Solo.{nothing_own, solo_of}
 use Rattle.jcl_meaning.specs.States.{Fixed}
 use Rattle.jcl_meaning.specs.Stores.{Store}
 use Rattle.part_laws.specs.Fits.{Fits}
-use Rattle.world_meaning.specs.Admissions.{first_state}
 use Rattle.world_meaning.specs.Headlines.{IsPrefix}
 use Rattle.world_meaning.specs.Turns.{Advanced, advance, answers_due, state_in}
 
@@ -44,9 +43,9 @@ done_behind count (t ∷ ts) = done_behind t.did.count ts
 -- For some answers the turns wrote what stands first in the solo meaning, and all of it where no action is left.
 pub record Mean (programs : List SoloProgram) (plan : JobPlan) (fixed : Fixed) (start : Store) (turns : List Turn) : Type 0 where
   pub answers : SoloAnswers
-  pub prefix : IsPrefix (lines_in turns) (run fixed (agenda plan programs) (first_state start (answers_of plan programs answers))).lines
+  pub prefix : IsPrefix (lines_in turns) (solo_of fixed plan start programs answers).lines
   pub whole : length (agenda plan programs) ≤ done_behind 0 turns →
-      lines_in turns ≡ (run fixed (agenda plan programs) (first_state start (answers_of plan programs answers))).lines
+      lines_in turns ≡ (solo_of fixed plan start programs answers).lines
 
 abbrev pub TurnsRun : Type 0
 TurnsRun = (programs : List SoloProgram) (plan : JobPlan) (fixed : Fixed) (start : Store) (turns : List Turn) →

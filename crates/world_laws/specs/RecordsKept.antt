@@ -8,7 +8,7 @@ use Rattle.cb_meaning.specs.Walks.{is_free, owner_of}
 use Rattle.world_meaning.specs.declared.event.Event.{Event}
 use Rattle.world_meaning.specs.Cancels.{RunsNot}
 use Rattle.world_meaning.specs.Readings.{Denoting}
-use Rattle.world_meaning.specs.Records.{AgreeBut, HasOwnLink, open_fields}
+use Rattle.world_meaning.specs.Records.{AgreeBut, IsQueueLayout, open_fields}
 use Rattle.world_meaning.specs.Transitions.{Transition}
 use Rattle.world_meaning.specs.Worlds.{Initiator, IsAt, Running, World}
 
@@ -19,7 +19,7 @@ KeepsRecords l job old new =
 
 -- So they denote what they denoted.
 abbrev pub DenotesStill : Type 0
-DenotesStill = (l : Layout) (units : ℕ) (old new : Records) (job : ℕ) (numbers : List ℕ) (plan : JobPlan) → HasOwnLink l → KeepsRecords l job old new →
+DenotesStill = (l : Layout) (units : ℕ) (old new : Records) (job : ℕ) (numbers : List ℕ) (plan : JobPlan) → IsQueueLayout l → KeepsRecords l job old new →
     Denotes l units old job numbers plan → Denotes l units new job numbers plan
 
 -- A job stands at one initiator alone, and does not wait.
@@ -36,6 +36,6 @@ pub record IsAlone (w : World) (place job : ℕ) : Type 0 where
 abbrev pub RecordsStay : Type 0
 RecordsStay =
     (job_of : Denoting) (old new : World) (e : Event) (lines : List Entry) (place job : ℕ) (y : Initiator) (numbers : List ℕ) (plan : JobPlan) →
-    HasOwnLink old.config.layout → IsAlone old place job → Transition job_of old e lines new → IsAt new place y → y.running ≢ None →
+    IsQueueLayout old.config.layout → IsAlone old place job → Transition job_of old e lines new → IsAt new place y → y.running ≢ None →
     Denotes old.config.layout (length old.config.units) old.shared.records job numbers plan →
     Denotes new.config.layout (length new.config.units) new.shared.records job numbers plan

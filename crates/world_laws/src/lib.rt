@@ -5,7 +5,7 @@ ghost use Rattle.world_laws.specs.Beside.{FitsStay, PartsStay, RunningStays, Tur
 ghost use Rattle.world_laws.specs.JobTurns.{TurnsRun};
 ghost use Rattle.world_laws.specs.KeptTracks.{KeptStay};
 ghost use Rattle.world_laws.specs.Looks.{ActLooks};
-ghost use Rattle.world_meaning.specs.Records.{HasOwnLink};
+ghost use Rattle.world_meaning.specs.Records.{IsQueueLayout};
 ghost use Rattle.world_laws.specs.RecordsKept.{DenotesStill, RecordsStay};
 ghost use Rattle.cb_meaning.specs.declared.layout.TheConstants.{LAYOUT_1};
 
@@ -41,7 +41,7 @@ pub fn kept_stay()
 
 /// The first layout keeps its link and the status bytes apart from its fields.
 pub fn first_layout_has_own_link()
-    ensures { HasOwnLink LAYOUT_1 }
+    ensures { IsQueueLayout LAYOUT_1 }
 {}
 
 /// Records that are in use still and differ in links and status bytes alone denote what they denoted.

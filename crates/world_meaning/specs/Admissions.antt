@@ -1,27 +1,20 @@
 -- A job whose names are held is admitted, waits for space, or is refused: ASSURED, WAIT SPACE, RISK, TOOMANY, UNCHECKED, REFUSED.
-use Rattle.std.specs.Prelude.{◌≡◌, ◌≢◌, ℕ, ◌-◌, ◌<◌, ◌≤◌, Bool, true, false, List, [], ◌∷◌, length, take, Option, Some, None, slice_get, sum_by, All, ◌++◌}
-use Rattle.std.specs.List.{Contains, filter_map, list_any}
+use Rattle.std.specs.Prelude.{◌≡◌, ℕ, ◌≤◌, Bool, true, false, List, [], ◌∷◌, ◌++◌, length, Option, Some, None, sum_by, All}
+use Rattle.std.specs.List.{Contains, list_any}
 use Rattle.jcl_plan.specs.declared.entry.JobLine.{JobLine}
 use Rattle.jcl_plan.specs.declared.entry.JobLine.TheVariants as line
 use Rattle.jcl_plan.specs.declared.fault.Fault.{Fault}
-use Rattle.jcl_plan.specs.declared.outcome.Abend.TheVariants.{User}
-use Rattle.jcl_plan.specs.declared.outcome.Fate.{Fate}
-use Rattle.jcl_plan.specs.declared.outcome.Fate.TheVariants as fate
 use Rattle.jcl_plan.specs.declared.outcome.Outcome.{Outcome}
-use Rattle.jcl_plan.specs.declared.outcome.Outcome.TheVariants as outcome
 use Rattle.jcl_plan.specs.declared.plan.DdKind.{DdKind}
 use Rattle.jcl_plan.specs.declared.plan.DdKind.TheVariants.{Cards, Dummy, Set, Sysout}
 use Rattle.jcl_plan.specs.declared.plan.JobPlan.{JobPlan}
 use Rattle.jcl_meaning.specs.declared.state.Place.{Place}
-use Rattle.jcl_meaning.specs.Agendas.{Action, Dispose, Left, Take, budget_of, path_agenda, steps_from}
-use Rattle.jcl_meaning.specs.History.{IsStepOutcome}
-use Rattle.jcl_meaning.specs.Programs.{moves_of}
-use Rattle.jcl_meaning.specs.Resolutions.{meanings_of}
-use Rattle.jcl_meaning.specs.Solo.{Ran, given, is_clean, nothing_own, run}
-use Rattle.jcl_meaning.specs.States.{Answers, Fixed, State}
+use Rattle.jcl_meaning.specs.Agendas.{budget_of}
+use Rattle.jcl_meaning.specs.Solo.{fixed_in, nothing_own}
+use Rattle.jcl_meaning.specs.States.{Fixed}
 use Rattle.jcl_meaning.specs.Stores.{Store}
 use Rattle.jcl_meaning.specs.Takes.{primary_of}
-use Rattle.jcl_meaning.specs.Views.{View, view_at}
+use Rattle.path_meaning.specs.Paths.{HasMoreViews, IsSafe, Makes, MeetsFault}
 use Rattle.cb_meaning.specs.Writable.{kind_at}
 use Rattle.world_meaning.specs.Holdings.{released}
 use Rattle.world_meaning.specs.Lenses.{seen}
@@ -31,30 +24,7 @@ use Rattle.world_meaning.specs.Worlds.{Admitted, Config, Kept, Named, Running, S
 
 -- What is fixed for a job at its admission: where its sets are placed, what its keys mean in the store as it now sees it, and the date.
 abbrev pub fixed_at : Config → Shared → ℕ → JobPlan → List Place → Fixed
-fixed_at c s job plan places = record {
-  job_tests = plan.tests.items;
-  volumes = c.volumes;
-  places = places;
-  meanings = meanings_of (seen job s.store) plan;
-  date = s.date;
-}
-
-abbrev pub first_state : Store → Answers → State
-first_state store answers = record { store = store; own = nothing_own; answers = answers }
-
--- the solo meaning of a job along given outcomes, in a store
-abbrev pub ran_along : Fixed → JobPlan → Store → List Outcome → Ran
-ran_along fixed plan store outcomes = run fixed (path_agenda plan) (first_state store (given outcomes))
-
--- it meets no fault, however its steps end
-abbrev pub IsSafe : Fixed → JobPlan → Store → Type 0
-IsSafe fixed plan store = (outcomes : List Outcome) → All IsStepOutcome outcomes → is_clean (ran_along fixed plan store outcomes) ≡ true
-
--- on some path it makes a set at this place
-pub record Makes (fixed : Fixed) (plan : JobPlan) (store : Store) (p : Place) : Type 0 where
-  pub outcomes : List Outcome
-  pub within : All IsStepOutcome outcomes
-  pub made : Contains (ran_along fixed plan store outcomes).made p
+fixed_at c s job plan places = fixed_in c.volumes (seen job s.store) plan places s.date
 
 -- the primary that a DD asks for
 abbrev pub primary_asked : Option DdKind → ℕ
@@ -84,66 +54,6 @@ pub record AreKept (fixed : Fixed) (plan : JobPlan) (store : Store) (job : ℕ) 
 
 abbrev pub tracks_kept : List Kept → ℕ
 tracks_kept kept = sum_by (λ k. k.tracks) kept
-
--- A path to a fault: an outcome for each step before the place; of a disposition its own step's too, and at the job's end all. A step that
--- runs shows its code, or an ABEND as U0000; another its fate.
-abbrev pub fate_shown : JobLine → Option Fate
-fate_shown (line.Step n name procedure_step f) = Some f
-fate_shown other = None
-
-abbrev pub fates_in : List JobLine → List Fate
-fates_in lines = filter_map fate_shown lines
-
-abbrev pub outcome_shown : Outcome → Outcome
-outcome_shown (outcome.Code code) = outcome.Code code
-outcome_shown (outcome.Abend a) = outcome.Abend (User 0)
-outcome_shown outcome.Bypassed = outcome.Code 0
-outcome_shown outcome.Flushed = outcome.Code 0
-
-abbrev pub path_shown : List Fate → List Outcome → List Outcome
-path_shown [] outcomes = []
-path_shown (fate.Run ∷ fates) [] = outcome.Code 0 ∷ path_shown fates []
-path_shown (fate.Run ∷ fates) (o ∷ outcomes) = outcome_shown o ∷ path_shown fates outcomes
-path_shown (fate.Bypassed ∷ fates) [] = outcome.Bypassed ∷ path_shown fates []
-path_shown (fate.Bypassed ∷ fates) (o ∷ outcomes) = outcome.Bypassed ∷ path_shown fates outcomes
-path_shown (fate.Flushed ∷ fates) [] = outcome.Flushed ∷ path_shown fates []
-path_shown (fate.Flushed ∷ fates) (o ∷ outcomes) = outcome.Flushed ∷ path_shown fates outcomes
-
--- the step and the DD of an action, and how many steps have ended behind it
-abbrev pub IsPlace : Option Action → ℕ → ℕ → ℕ → ℕ → Type 0
-IsPlace (Some (Take n d kind)) steps step dd ended = (n ≡ step) × (d ≡ dd) × (ended ≡ step - 1)
-IsPlace (Some (Dispose n d kind)) steps step dd ended = (n ≡ step) × (d ≡ dd) × (ended ≡ step)
-IsPlace (Some (Left n d kind)) steps step dd ended = (n ≡ step) × (d ≡ dd) × (ended ≡ steps)
-IsPlace other steps step dd ended = ⊥
-
-pub record MeetsFault (fixed : Fixed) (plan : JobPlan) (store : Store) (fault : Fault) (step dd : ℕ) (path : List Outcome) : Type 0 where
-  pub outcomes : List Outcome
-  pub within : All IsStepOutcome outcomes
-  pub place : ℕ
-  pub ended : ℕ
-  pub met : Contains (ran_along fixed plan store outcomes).faults (record { place = place; fault = fault })
-  pub at : IsPlace (slice_get (path_agenda plan) place) (length plan.steps) step dd ended
-  pub shown : path ≡ path_shown (take ended (fates_in (ran_along fixed plan store outcomes).lines)) outcomes
-
--- more views behind a step than the limit
-abbrev pub ran_to : Fixed → JobPlan → Store → ℕ → List Outcome → Ran
-ran_to fixed plan store k outcomes = run fixed (steps_from (moves_of []) 1 (take k plan.steps)) (first_state store (given outcomes))
-
-pub record IsSeenBehind (fixed : Fixed) (plan : JobPlan) (store : Store) (k : ℕ) (view : View) : Type 0 where
-  pub outcomes : List Outcome
-  pub within : All IsStepOutcome outcomes
-  pub without_fault : is_clean (ran_to fixed plan store k outcomes) ≡ true
-  pub seen : view ≡ view_at plan k fixed.date (ran_to fixed plan store k outcomes).state
-
-abbrev pub Differ : List View → Type 0
-Differ [] = Unit {0}
-Differ (v ∷ vs) = All (λ other. v ≢ other) vs × Differ vs
-
-pub record HasMoreViews (fixed : Fixed) (plan : JobPlan) (store : Store) (k limit : ℕ) : Type 0 where
-  pub views : List View
-  pub seen : All (IsSeenBehind fixed plan store k) views
-  pub different : Differ views
-  pub more : limit < length views
 
 -- some DD is for a set
 abbrev pub is_for_set : DdKind → Bool

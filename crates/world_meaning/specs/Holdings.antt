@@ -9,7 +9,7 @@ use Rattle.jcl_plan.specs.declared.entry.JobLine.{JobLine}
 use Rattle.jcl_plan.specs.declared.entry.JobLine.TheVariants as line
 use Rattle.jcl_plan.specs.declared.plan.JobPlan.{JobPlan}
 use Rattle.jcl_meaning.specs.Names.{names_of}
-use Rattle.world_meaning.specs.Records.{given_back}
+use Rattle.world_meaning.specs.Records.{records_given_back}
 use Rattle.world_meaning.specs.Tracks.{Conserves, kept_without}
 use Rattle.world_meaning.specs.Worlds.{Config, Named, Running, Shared, Wanting, going_on}
 use Rattle.std.specs.Prelude.{filter, not, ◌==◌}
@@ -22,7 +22,7 @@ abbrev pub released : Config → Shared → ℕ → (List ℕ → ℕ) → Share
 released c s job free = record s {
   free = free;
   kept = kept_without s.kept job;
-  records = given_back c.layout s.records job;
+  records = records_given_back c.layout s.records job;
   holds = without_job job s.holds;
   cancels = cancels_without s.cancels job;
 }

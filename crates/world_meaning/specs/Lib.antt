@@ -13,5 +13,6 @@ pub mod Cancels
 pub mod Zaps
 pub mod Displays
 pub mod Transitions
+pub mod Choices
 pub mod Starts
 pub mod Headlines

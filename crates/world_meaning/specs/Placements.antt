@@ -15,9 +15,9 @@ use Rattle.jcl_meaning.specs.declared.state.Place.{Place}
 use Rattle.world_meaning.specs.Worlds.{Config}
 
 -- the volumes of a unit name; without one all, as configured
-abbrev pub unit_volumes : Config → Option ℕ → List (List ℕ)
-unit_volumes c None = c.volumes
-unit_volumes c (Some n) = slice_index_or c.units (n - 1) []
+abbrev pub unit_volumes : List (List ℕ) → List (List (List ℕ)) → Option ℕ → List (List ℕ)
+unit_volumes volumes units None = volumes
+unit_volumes volumes units (Some n) = slice_index_or units (n - 1) []
 
 -- a DD with NEW is placed, and one with MOD that has no VOL
 abbrev pub places : Status → VolumePlan → Bool
@@ -41,7 +41,7 @@ PlacedBy (volume.OfName name) volumes step dd here = here ≡ []
 PlacedBy (volume.OfDd s d) volumes step dd here = here ≡ []
 
 abbrev pub PlacedIf : Bool → Config → ℕ → ℕ → SetPlan → List Place → Type 0
-PlacedIf true c step dd p here = PlacedBy p.volume (unit_volumes c p.units) step dd here
+PlacedIf true c step dd p here = PlacedBy p.volume (unit_volumes c.volumes c.units p.units) step dd here
 PlacedIf false c step dd p here = here ≡ []
 
 abbrev pub PlacedDd : Config → ℕ → ℕ → DdKind → List Place → Type 0

@@ -7,23 +7,15 @@ use Rattle.cb_meaning.specs.Fields.{byte_at, is_in}
 use Rattle.cb_meaning.specs.Spelled.{Records, jct, sct, siot, status_bytes}
 use Rattle.cb_meaning.specs.Walks.{is_free, owner_of}
 use Rattle.world_meaning.specs.Worlds.{Shared}
-
--- the numbers from one on
-abbrev pub numbers_from : ℕ → ℕ → List ℕ
-numbers_from n zero = []
-numbers_from n (suc count) = n ∷ numbers_from (n + 1) count
+use Rattle.plain.specs.Lists.{numbers_from}
 
 -- the records of a job, whether or not its chains reach them; the lowest first
 abbrev pub owned_by : Layout → Records → ℕ → List ℕ
 owned_by l q job = filter (λ n. owner_of q n == job) (numbers_from 1 l.most_records)
 
 -- given back from the highest number to the lowest, so that the lowest is taken first
-abbrev pub given_back : Layout → Records → ℕ → Records
-given_back l q job = record q { free = owned_by l q job ++ q.free }
-
--- a record of a job with a part overwritten
-abbrev pub overwritten : List ℕ → ℕ → List ℕ → List ℕ
-overwritten r offset bytes = take offset r ++ (bytes ++ drop (offset + length bytes) r)
+abbrev pub records_given_back : Layout → Records → ℕ → Records
+records_given_back l q job = record q { free = owned_by l q job ++ q.free }
 
 abbrev pub with_record : Records → ℕ → List ℕ → Records
 with_record q n r = record q { at = λ m. if m == n then r else q.at m }
@@ -56,7 +48,7 @@ pub record IsBetween (f : Field) : Type 0 where
   pub to : f.at + f.width ≤ 168
 
 -- The link stands in bytes 4 to 7, and no field of a layout meets it or the status bytes.
-pub record HasOwnLink (l : Layout) : Type 0 where
+pub record IsQueueLayout (l : Layout) : Type 0 where
   pub link_from : 4 ≤ l.link.at
   pub link_to : l.link.at + l.link.width ≤ 8
   pub first_step : IsBetween l.first_step

@@ -4,18 +4,14 @@ use Rattle.std.specs.List.{list_any}
 use Rattle.jcl_meaning.specs.WellFormed.{AreWellFormedPrograms}
 use Rattle.vtoc_core.specs.declared.entry.SetKey.TheVariants as world
 use Rattle.cb_meaning.specs.declared.layout.TheConstants.{RECORD_BYTES}
-use Rattle.cb_meaning.specs.Spelled.{Denotes, Records, are_different}
+use Rattle.cb_meaning.specs.Spelled.{Denotes, Records}
 use Rattle.cb_meaning.specs.Walks.{is_free, owner_of}
 use Rattle.jcl_plan.specs.declared.plan.JobPlan.{JobPlan}
 use Rattle.world_meaning.specs.Lenses.{WorldStore}
-use Rattle.world_meaning.specs.Records.{HasOwnLink}
+use Rattle.world_meaning.specs.Records.{IsQueueLayout}
 use Rattle.world_meaning.specs.Worlds.{Config, Shared, Waiting, World}
 use Rattle.jcl_meaning.specs.WellFormed.{IsEntry}
-
--- serials, and numbers of initiators, are each given once
-abbrev pub Differ : {X : Type 0} → List X → Type 0
-Differ [] = Unit {0}
-Differ (x ∷ xs) = All (λ y. x ≢ y) xs × Differ xs
+use Rattle.plain.specs.Lists.{Differ, are_different}
 
 -- entries stand under names, and no job has a set of its own yet
 pub record IsWellFormed (w : WorldStore) : Type 0 where
@@ -48,8 +44,9 @@ abbrev pub AreInOrder : ℕ → List Waiting → Type 0
 AreInOrder last [] = Unit {0}
 AreInOrder last (w ∷ ws) = (last < w.job) × AreInOrder w.job ws
 
+-- Serials, and numbers of initiators, are each given once.
 pub record IsStart (w : World) : Type 0 where
-  pub layout : HasOwnLink w.config.layout
+  pub layout : IsQueueLayout w.config.layout
   pub serials : Differ w.config.volumes
   pub programs : AreWellFormedPrograms w.config.programs
   pub store : IsWellFormed w.shared.store

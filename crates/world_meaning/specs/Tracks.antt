@@ -8,6 +8,7 @@ use Rattle.jcl_meaning.specs.declared.state.Place.{Place}
 use Rattle.jcl_meaning.specs.declared.store.DataSet.{DataSet}
 use Rattle.world_meaning.specs.Lenses.{WorldStore}
 use Rattle.world_meaning.specs.Worlds.{Kept, Shared}
+use Rattle.plain.specs.Lists.{all_different}
 
 abbrev pub tracks_of : Option DataSet → ℕ
 tracks_of None = 0
@@ -24,14 +25,10 @@ kept_on kept serial = sum_by (λ k. if bytes_eq k.serial serial then k.tracks el
 abbrev pub is_touched : List SetKey → SetKey → Bool
 is_touched keys k = list_any (same_key k) keys
 
-abbrev pub are_different : List SetKey → Bool
-are_different [] = true
-are_different (k ∷ keys) = not (is_touched keys k) && are_different keys
-
 -- On a volume sets of these keys alone changed, and free, kept and used tracks add to as many as before.
 pub record IsConserved (old new : Shared) (serial : List ℕ) : Type 0 where
   pub touched : List SetKey
-  pub once : are_different touched ≡ true
+  pub once : all_different same_key touched ≡ true
   pub others : (k : SetKey) → is_touched touched k ≡ false → new.store.set k serial ≡ old.store.set k serial
   pub sum : new.free serial + (kept_on new.kept serial + used_by new.store serial touched)
       ≡ old.free serial + (kept_on old.kept serial + used_by old.store serial touched)

@@ -1,4 +1,4 @@
--- Bytes of a record are overwritten, as long as its job waits. What stands in bytes 0 to 7 is the queue's own. (This profile)
+-- Bytes of a record are with_part, as long as its job waits. What stands in bytes 0 to 7 is the queue's own. (This profile)
 use Rattle.std.specs.Prelude.{◌≡◌, ℕ, ◌+◌, Bool, true, false, not, ◌&&◌, ◌||◌, ◌==◌, nat_le, List, [], ◌∷◌, length, Option, Some, None}
 use Rattle.std.specs.List.{list_any}
 use Rattle.cb_meaning.specs.declared.layout.TheConstants.{RECORD_BYTES}
@@ -7,8 +7,9 @@ use Rattle.jcl_plan.specs.declared.entry.Entry.{Entry}
 use Rattle.jcl_plan.specs.declared.entry.Entry.TheVariants as entry
 use Rattle.jcl_plan.specs.declared.fault.Cause.TheVariants.{Q}
 use Rattle.jcl_plan.specs.declared.fault.QueueFault.TheVariants as refused
-use Rattle.world_meaning.specs.Records.{overwritten, with_record}
+use Rattle.world_meaning.specs.Records.{with_record}
 use Rattle.world_meaning.specs.Worlds.{Running, World}
+use Rattle.cb_meaning.specs.Fields.{with_part}
 
 abbrev pub most_zapped : ℕ
 most_zapped = 32
@@ -40,5 +41,5 @@ pub data ZapsRecord (old : World) (n offset : ℕ) (bytes : List ℕ) (lines : L
   selected : may_be_zapped old n offset (length bytes) ≡ true → has_initiator old (owner_of old.shared.records n) ≡ true →
       lines ≡ entry.Refused (Q refused.Selected) ∷ [] → new ≡ old → ZapsRecord old n offset bytes lines new
   zapped : may_be_zapped old n offset (length bytes) ≡ true → has_initiator old (owner_of old.shared.records n) ≡ false → lines ≡ [] →
-      new ≡ record old { shared = record old.shared { records = with_record old.shared.records n (overwritten (old.shared.records.at n) offset bytes) } } →
+      new ≡ record old { shared = record old.shared { records = with_record old.shared.records n (with_part (old.shared.records.at n) offset bytes) } } →
       ZapsRecord old n offset bytes lines new

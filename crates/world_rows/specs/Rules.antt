@@ -20,13 +20,14 @@ use Rattle.jcl_meaning.specs.States.{Fixed, State}
 use Rattle.jcl_meaning.specs.Stores.{Store, generation_entered, resolution_of}
 use Rattle.cb_meaning.specs.Walks.{first_fault}
 use Rattle.world_meaning.specs.Lenses.{WorldStore, put_back, seen}
-use Rattle.world_meaning.specs.Records.{overwritten, with_record}
+use Rattle.world_meaning.specs.Records.{with_record}
 use Rattle.world_meaning.specs.Tracks.{kept_on}
 use Rattle.world_rows.specs.Devices as devices
 use Rattle.world_rows.specs.Generations as generations
 use Rattle.world_rows.specs.Growths.{no_sets, of_another}
 use Rattle.world_rows.specs.Machines.{dd_with, few_records, fixed_with, free_tracks, serial, set_of, shared_set, store_with}
 use Rattle.world_rows.specs.Zaps.{records}
+use Rattle.cb_meaning.specs.Fields.{with_part}
 
 -- what one action of a running step leaves of a store
 abbrev pub runs_with : Own → Store → State
@@ -82,7 +83,7 @@ pub record NumbersAreResolvedOnce : Type 0 where
 -- A Zap is refused once its job is selected: otherwise the records of a job stop denoting it.
 pub record ZapsComeBefore : Type 0 where
   pub good : first_fault few_records 1 records 1 1 ≡ None
-  pub bad : first_fault few_records 1 (with_record records 4 (overwritten (records.at 4) 8 (0 ∷ 3 ∷ []))) 1 1 ≡ Some 4
+  pub bad : first_fault few_records 1 (with_record records 4 (with_part (records.at 4) 8 (0 ∷ 3 ∷ []))) 1 1 ≡ Some 4
 
 -- Kept tracks are one job's: once another has made its set of them, no number of tracks is left that the first may take ten of.
 pub record TracksAreKeptForOne : Type 0 where

@@ -5,7 +5,7 @@ use Rattle.std.specs.List.{AllByRecursion, IsDistinct, list_any}
 use Rattle.std.proofs.lemmas.Bool.{and_parts, eqb-false, eqb-true, ne_eqb, not-true, or_cases, or_from, or_parts, true≢false}
 use Rattle.std.proofs.lemmas.List.Elements.{All-head, All-tail}
 use Rattle.std.proofs.lemmas.Map.Steps.{length-le_from_distinct_below}
-use Rattle.cb_meaning.specs.Spelled.{are_different}
+use Rattle.plain.specs.Lists.{are_different}
 
 abbrev pub is_among : ℕ → List ℕ → Bool
 is_among n numbers = list_any (λ m. m == n) numbers

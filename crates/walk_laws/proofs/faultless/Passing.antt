@@ -2,7 +2,7 @@
 use Rattle.std.proofs.Common.{◌≡◌, ℕ, ◌==◌, Bool, true, false, not, List, [], ◌∷◌, ◌++◌, refl, sym, ap, ◌∙◌, subst, inl, inr, eqb-true, eq-eqb}
 use Rattle.std.specs.List.{list_any}
 use Rattle.std.proofs.lemmas.Bool.{and_from, both_ways, cases_Bool, or_from, or_left, or_right}
-use Rattle.cb_meaning.specs.Spelled.{are_different}
+use Rattle.plain.specs.Lists.{are_different}
 
 abbrev pub is_met : List ℕ → ℕ → Bool
 is_met seen n = list_any (λ m. m == n) seen

@@ -3,7 +3,7 @@ use Rattle.group_core.specs.declared.entry.CatEntry.TheVariants.{Group}
 use Rattle.group_core.specs.declared.group.Generation.{Generation}
 use Rattle.group_core.specs.Groups.{GroupState}
 use Rattle.cat_core.specs.Catalogs.{entry_without}
-use Rattle.cat_core.proofs.Numbers.{without_absent}
+use Rattle.cat_core.proofs.AbsentNumbers.{without_absent}
 use Rattle.cat_core.proofs.catalog.clear_in.Goals as goal
 
 pub returns-in-Err : goal.returns-in-Err

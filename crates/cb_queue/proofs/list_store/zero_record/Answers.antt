@@ -1,7 +1,6 @@
 use Rattle.std.proofs.Common.{ℕ, ◌∙◌, ap, arith, length, refl}
 use Rattle.std.proofs.lemmas.List.{length-replicate}
-use Rattle.cb_meaning.specs.Fields.{field, two_bytes}
-use Rattle.cb_queue.specs.RecordQueues.{with_part}
+use Rattle.cb_meaning.specs.Fields.{field, two_bytes, with_part}
 use Rattle.cb_queue.proofs.Parts.{with_part_is}
 use Rattle.cb_queue.proofs.list_store.zero_record.Goals as goal
 

@@ -1,7 +1,7 @@
 use Rattle.std.proofs.Common.{◌≡◌, Some, sym, subst}
 use Rattle.jname_core.specs.Generations.{base_of, generation_of}
 use Rattle.jcl_meaning.specs.Stores.{Store, generation_entered, generation_entered_by, group_of}
-use Rattle.store_core.specs.Numbers.{TakesNumber}
+use Rattle.store_core.specs.EnteredNumbers.{TakesNumber}
 use Rattle.disp_core.proofs.Entering.{group_of_member, refused_number, takes_number}
 use Rattle.disp_core.proofs.change.enter_generation.Goals as goal
 

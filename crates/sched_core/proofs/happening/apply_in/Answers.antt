@@ -2,13 +2,13 @@ use Rattle.std.proofs.Common.{◌<◌, ◌-◌, ◌+◌, ◌≡◌, arith, ap, s
 use Rattle.jcl_job.specs.Jobs.{job_of}
 use Rattle.machine_meaning.specs.declared.machine.TheConstants.{MOST_EVENTS}
 use Rattle.std.specs.Prelude.{Err}
-use Rattle.world_meaning.specs.Transitions.{Does, Transition}
+use Rattle.world_meaning.specs.Transitions.{Transition}
 use Rattle.world_meaning.specs.Worlds.{World, counted}
-use Rattle.sched_core.specs.Events.{Answers, RefusesFirst}
+use Rattle.sched_core.specs.Events.{Answers, DoesSo, RefusesFirst}
 use Rattle.sched_core.specs.Machines.{config_in, world_in}
 use Rattle.sched_core.specs.Systems.{meant_by}
 use Rattle.sched_core.proofs.Counting.{kept_at}
-use Rattle.sched_core.proofs.Happened.{decided_before, kept_before, kept_done, kept_refused, refuses, refuses_first}
+use Rattle.sched_core.proofs.Happened.{done, kept_before, kept_done, kept_refused, refuses, refuses_first}
 use Rattle.sched_core.proofs.happening.apply_in.Goals as goal
 
 pub happen-requires-clause-kept : goal.happen-requires-clause-kept
@@ -18,18 +18,20 @@ happen-requires-clause-kept g c =
     let few : s.events < MOST_EVENTS = c.if-state-ge-MOST_EVENTS.false in
     kept_at queue_of (config_in queue_of c.args.profile.now s) s (s.events + 1) (omega (arith, few)) c.requires.kept
 
+pub returns-in-Ok-clause-answer : goal.returns-in-Ok-clause-answer
+returns-in-Ok-clause-answer g c =
+    let queue_of = g.Q.RecordStore.queue in
+    let s = c.args.state.now in
+    let config = config_in queue_of c.args.profile.now s in
+    done s.parts.store (job_of c.args.units.now c.args.library.now) (meant_by c.args.event.now) (world_in queue_of config s)
+    (world_in queue_of config c.happen.new.state) c.if-state-ge-MOST_EVENTS.false c.in-Ok.lines c.in-Ok.ensures.answer
+
 pub returns-in-Ok-clause-refusal : goal.returns-in-Ok-clause-refusal
 returns-in-Ok-clause-refusal g c =
     let queue_of = g.Q.RecordStore.queue in
     let s = c.args.state.now in
     let first = world_in queue_of (config_in queue_of c.args.profile.now s) s in
     refuses_first (job_of c.args.units.now c.args.library.now) (meant_by c.args.event.now) first _ c.if-state-ge-MOST_EVENTS.false c.in-Ok.ensures.refusal
-
-pub returns-in-Ok-clause-decided : goal.returns-in-Ok-clause-decided
-returns-in-Ok-clause-decided g c =
-    let queue_of = g.Q.RecordStore.queue in
-    let s = c.args.state.now in
-    decided_before queue_of (config_in queue_of c.args.profile.now s) s (s.events + 1) c.args.event.now c.in-Ok.lines c.in-Ok.ensures.decided
 
 pub returns-in-Ok-clause-kept : goal.returns-in-Ok-clause-kept
 returns-in-Ok-clause-kept g c =
@@ -47,8 +49,8 @@ returns-in-Err-Refused-clause-answer g c =
     let e = meant_by c.args.event.now in
     let first = world_in queue_of config s in
     let after = world_in queue_of config c.happen.new.state in
-    let answered = subst (λ f. Answers (Err f) (counted first) after (Does job (counted first) e)) c.in-Err-Refused.field-0-is c.in-Err-Refused.ensures.answer in
-    (refuses job e first after c.if-state-ge-MOST_EVENTS.false c.in-Err-Refused.cause answered).0
+    let answered = subst (λ f. Answers (Err f) (counted first) after (DoesSo s.parts.store job (counted first) e)) c.in-Err-Refused.field-0-is c.in-Err-Refused.ensures.answer in
+    (refuses s.parts.store job e first after c.if-state-ge-MOST_EVENTS.false c.in-Err-Refused.cause answered).0
 
 pub returns-in-Err-Refused-clause-refusal : goal.returns-in-Err-Refused-clause-refusal
 returns-in-Err-Refused-clause-refusal g c =
@@ -70,7 +72,7 @@ returns-in-Err-Refused-clause-kept g c =
     let e = meant_by c.args.event.now in
     let first = world_in queue_of config s in
     let after = world_in queue_of config c.happen.new.state in
-    let answered = subst (λ f. Answers (Err f) (counted first) after (Does job (counted first) e)) c.in-Err-Refused.field-0-is c.in-Err-Refused.ensures.answer in
+    let answered = subst (λ f. Answers (Err f) (counted first) after (DoesSo s.parts.store job (counted first) e)) c.in-Err-Refused.field-0-is c.in-Err-Refused.ensures.answer in
     kept_refused queue_of config s c.requires.kept job e c.if-state-ge-MOST_EVENTS.false c.soundness_is_kept.ensures c.happen.new.state
     c.in-Err-Refused.ensures.fit c.in-Err-Refused.cause answered
 
@@ -94,7 +96,7 @@ returns-in-Err-Memory-clause-kept g c =
     let e = meant_by c.args.event.now in
     let first = world_in queue_of config s in
     let after = world_in queue_of config c.happen.new.state in
-    let answered = subst (λ f. Answers (Err f) (counted first) after (Does job (counted first) e)) c.in-Err-Memory.field-0-is c.in-Err-Memory.ensures.answer in
+    let answered = subst (λ f. Answers (Err f) (counted first) after (DoesSo s.parts.store job (counted first) e)) c.in-Err-Memory.field-0-is c.in-Err-Memory.ensures.answer in
     let same : c.happen.new.state.events ≡ s.events + 1 = ap (λ (w : World). w.events) answered in
     kept_before queue_of config s c.requires.kept job e c.if-state-ge-MOST_EVENTS.false c.soundness_is_kept.ensures c.happen.new.state
     c.in-Err-Memory.ensures.fit (c.happen.new.state.events - 1) (omega (arith, same)) answered

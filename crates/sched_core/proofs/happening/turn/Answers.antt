@@ -3,7 +3,7 @@ use Rattle.sched_core.specs.declared.state.Initiator.{Initiator}
 use Rattle.std.proofs.lemmas.Option.{slice_get_within}
 use Rattle.sched_core.specs.Happening.{IsSeat}
 use Rattle.sched_core.specs.Machines.{config_in, world_in}
-use Rattle.sched_core.proofs.Happened.{idle_decided, job_decided, never_refused, refused, seat_idle, seat_runs, selects_acts, turn_answer}
+use Rattle.sched_core.proofs.Happened.{never_refused, refused, seat_idle, seat_runs, selects_acts, turn_answer}
 use Rattle.sched_core.proofs.happening.turn.Goals as goal
 
 pub returns-in_default-clause-answer : goal.returns-in_default-clause-answer
@@ -46,13 +46,6 @@ returns-then-is_some-clause-refusal g c =
     let seat = subst (λ ys. IsSeat ys c.args.number c.in-Some.place) c.as_slice.ensures.value c.in-Some.ensures.some in
     never_refused g.Q.RecordStore.queue (config_in g.Q.RecordStore.queue c.args.profile.now s) s c.args.number c.in-Some.place seat c.go_on_at.result
 
-pub returns-then-is_some-clause-decided : goal.returns-then-is_some-clause-decided
-returns-then-is_some-clause-decided g c =
-    let s = c.args.state.now in
-    let seat = subst (λ ys. IsSeat ys c.args.number c.in-Some.place) c.as_slice.ensures.value c.in-Some.ensures.some in
-    job_decided g.Q.RecordStore.queue (config_in g.Q.RecordStore.queue c.args.profile.now s) s c.args.number c.in-Some.place seat c.requires.sound
-    c.go_on_at.result c.go_on_at.ensures.decided
-
 pub returns-else-is_some-clause-answer : goal.returns-else-is_some-clause-answer
 returns-else-is_some-clause-answer g c =
     let s = c.args.state.now in
@@ -70,10 +63,3 @@ returns-else-is_some-clause-refusal g c =
     let s = c.args.state.now in
     let seat = subst (λ ys. IsSeat ys c.args.number c.in-Some.place) c.as_slice.ensures.value c.in-Some.ensures.some in
     never_refused g.Q.RecordStore.queue (config_in g.Q.RecordStore.queue c.args.profile.now s) s c.args.number c.in-Some.place seat c.select_at.result
-
-pub returns-else-is_some-clause-decided : goal.returns-else-is_some-clause-decided
-returns-else-is_some-clause-decided g c =
-    let s = c.args.state.now in
-    let seat = subst (λ ys. IsSeat ys c.args.number c.in-Some.place) c.as_slice.ensures.value c.in-Some.ensures.some in
-    let idle = seat_idle s.initiators.items c.args.number c.in-Some.place seat c.index.result.now c.index.ensures c.is_some.result c.is_some.ensures c.if-is_some.false in
-    idle_decided g.Q.RecordStore.queue (config_in g.Q.RecordStore.queue c.args.profile.now s) s c.args.number c.in-Some.place seat c.requires.sound idle c.select_at.result

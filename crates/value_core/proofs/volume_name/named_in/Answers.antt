@@ -1,6 +1,6 @@
 use Rattle.std.proofs.Common.{sym, ap, ◌∙◌}
 use Rattle.operand_core.specs.Operands.{keyword_of}
-use Rattle.value_core.specs.VolumeNames.{first_named, place_of, with_later}
+use Rattle.value_core.specs.VolumeNames.{first_named, volume_place, with_later}
 use Rattle.value_core.proofs.Volumes.{answer, any_later, later_any, named_more, with_later_assoc}
 use Rattle.value_core.proofs.volume_name.named_in.Goals as goal
 
@@ -11,8 +11,8 @@ pub loop-place-preserved : goal.loop-place-preserved
 loop-place-preserved c =
     let place = c.in-Some.place.now in
     let places = c.next.new.self in
-    ap (λ volume. with_later volume (answer (first_named places))) (c.with_later-volume.ensures ∙ ap (with_later c.loop-place.volume) c.place_of.ensures)
-    ∙ with_later_assoc c.loop-place.volume (answer (place_of place (keyword_of place))) (answer (first_named places))
+    ap (λ volume. with_later volume (answer (first_named places))) (c.with_later-volume.ensures ∙ ap (with_later c.loop-place.volume) c.volume_place.ensures)
+    ∙ with_later_assoc c.loop-place.volume (answer (volume_place place (keyword_of place))) (answer (first_named places))
     ∙ ap (with_later c.loop-place.volume) (named_more place places ∙ ap (λ xs. answer (first_named xs)) (sym c.in-Some.ensures))
     ∙ c.loop-place.invariant
 

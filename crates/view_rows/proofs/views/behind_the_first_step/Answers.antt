@@ -5,10 +5,11 @@ use Rattle.jcl_meaning.specs.History.{IsStepOutcome}
 use Rattle.jcl_meaning.specs.Views.{IsViewAfter}
 use Rattle.view_rows.specs.Examples.{no_sets, passing_job, places, seen}
 use Rattle.jcl_meaning.specs.Acts.{act}
-use Rattle.jcl_meaning.specs.Solo.{run}
+use Rattle.jcl_meaning.specs.Solo.{fixed_alone, run}
+use Rattle.jcl_meaning.specs.Stores.{store_of}
 use Rattle.view_rows.proofs.views.behind_the_first_step.Goals as goal
 
-is_view : IsViewAfter passing_job no_sets places 25567 1 (seen 1 (Code 5 ∷ []))
+is_view : IsViewAfter (fixed_alone no_sets passing_job places 25567) passing_job (store_of no_sets) 1 (seen 1 (Code 5 ∷ []))
 unfolding run act
 is_view = record {
   outcomes = Code 5 ∷ [];

@@ -1,9 +1,8 @@
 use Rattle.std.proofs.Common.{subst}
-use Rattle.std.specs.Prelude.{IfOk}
 use Rattle.world_meaning.specs.Transitions.{Transition}
 use Rattle.sched_core.specs.Events.{RefusesFirst}
-use Rattle.sched_core.specs.Systems.{Applies, IsDecided, KeepsIfRefused, denoting, machine_in, meant_by, world_of}
-use Rattle.sched_core.proofs.Machined.{applied, decided_if, kept_if}
+use Rattle.sched_core.specs.Systems.{Applies, KeepsIfRefused, Steps, denoting, machine_in, meant_by, world_of}
+use Rattle.sched_core.proofs.Machined.{applied, kept_if}
 use Rattle.sched_core.proofs.system.System.apply.Goals as goal
 
 pub returns-clause-answer : goal.returns-clause-answer
@@ -11,11 +10,10 @@ returns-clause-answer g c =
     let queue_of = g.Q.RecordStore.queue in
     let x = c.self.inside in
     let new = c.apply_in.new.state in
-    let e = meant_by c.args.event.now in
-    subst (λ m. Applies c.apply_in.result (world_of m) (world_of (machine_in queue_of x.profile x.units.now x.library.now new)) (Transition (denoting m) (world_of m) e))
+    subst (λ m. Applies c.apply_in.result (world_of m) (world_of (machine_in queue_of x.profile x.units.now x.library.now new)) (Steps m c.args.event.now))
     c.self.view_is
     (applied queue_of x.profile x.units.now x.library.now x.state new c.apply_in.ensures.kept.fit.good.layout c.apply_in.result
-    (Transition (denoting (machine_in queue_of x.profile x.units.now x.library.now x.state)) (world_of (machine_in queue_of x.profile x.units.now x.library.now x.state)) e)
+    (Steps (machine_in queue_of x.profile x.units.now x.library.now x.state) c.args.event.now)
     c.apply_in.ensures.answer)
 
 pub returns-clause-refusal : goal.returns-clause-refusal
@@ -30,10 +28,3 @@ returns-clause-unless_refused g c =
     let new = c.apply_in.new.state in
     subst (λ m. KeepsIfRefused c.apply_in.result (world_of m) (world_of (machine_in queue_of x.profile x.units.now x.library.now new))) c.self.view_is
     (kept_if queue_of x.profile x.units.now x.library.now x.state new c.apply_in.ensures.kept.fit.good.layout c.apply_in.result c.apply_in.ensures.unless_refused)
-
-pub returns-clause-decided : goal.returns-clause-decided
-returns-clause-decided g c =
-    let queue_of = g.Q.RecordStore.queue in
-    let x = c.self.inside in
-    subst (λ m. IfOk c.apply_in.result (IsDecided m c.args.event.now)) c.self.view_is
-    (decided_if queue_of x.profile x.units.now x.library.now x.state c.args.event.now c.apply_in.result c.apply_in.ensures.decided)

@@ -1,7 +1,7 @@
 use Rattle.std.proofs.Common.{◌<◌, ◌+◌, length, List, [], ◌∷◌, ◌++◌, sym, ap, ◌∙◌, subst}
 use Rattle.std.specs.Prelude.{get_or}
+use Rattle.sched_core.proofs.Driving.{DrivenTo, driven_more, driven_now, driven_still, promises_so}
 use Rattle.sched_core.specs.Systems.{IsDriven}
-use Rattle.sched_core.proofs.Driving.{driven_more}
 use Rattle.sched_core.proofs.system.System.drive.Goals as goal
 
 pub loop-event-preserved : goal.loop-event-preserved
@@ -15,7 +15,37 @@ loop-event-preserved g c =
     let is = c.event-item.is ∙ ap (λ n. get_or events n e) (sym same) in
     let grown = c.push_reserved.ensures.items ∙ ap (λ l. l ++ lines ∷ []) c.reserve.ensures.items in (
       ap (λ n. n + 1) same,
-      subst (λ ys. IsDriven c.args.self.now events ys (c.loop-event.done + 1) c.apply_shown.new.self) (sym grown)
+      subst (λ ys. DrivenTo c.args.self.now events ys (c.loop-event.done + 1) c.apply_shown.new.self) (sym grown)
           (driven_more c.args.self.now c.loop-event.self c.apply_shown.new.self events entries c.loop-event.done e lines c.loop-event.invariant.1 less is
           c.in-Ok-apply_shown.ensures.step c.apply_shown.ensures.fixed),
     )
+
+pub returns-in_default-clause-done : goal.returns-in_default-clause-done
+returns-in_default-clause-done g c =
+    subst (λ ys. IsDriven c.args.self.now c.args.events.now ys c.loop-event.done c.loop-event.self) (sym c.reserve.ensures.items)
+    (driven_now c.args.self.now c.loop-event.self c.args.events.now c.loop-event.entries.items c.loop-event.done c.loop-event.invariant.1)
+
+pub returns-in_default-clause-promised : goal.returns-in_default-clause-promised
+returns-in_default-clause-promised g c =
+    promises_so c.promises_are_kept.ensures c.args.self.now c.loop-event.self c.args.events.now c.reserve.new.self.items c.loop-event.done
+    (returns-in_default-clause-done g c)
+
+pub returns-in_default-apply_shown-clause-done : goal.returns-in_default-apply_shown-clause-done
+returns-in_default-apply_shown-clause-done g c =
+    subst (λ ys. IsDriven c.args.self.now c.args.events.now ys c.loop-event.done c.apply_shown.new.self) (sym c.reserve.ensures.items)
+    (driven_still c.args.self.now c.loop-event.self c.apply_shown.new.self c.args.events.now c.loop-event.entries.items c.loop-event.done
+    c.loop-event.invariant.1 c.in_default-apply_shown.ensures.err c.apply_shown.ensures.fixed)
+
+pub returns-in_default-apply_shown-clause-promised : goal.returns-in_default-apply_shown-clause-promised
+returns-in_default-apply_shown-clause-promised g c =
+    promises_so c.promises_are_kept.ensures c.args.self.now c.apply_shown.new.self c.args.events.now c.reserve.new.self.items c.loop-event.done
+    (returns-in_default-apply_shown-clause-done g c)
+
+pub returns-clause-done : goal.returns-clause-done
+returns-clause-done g c =
+    driven_now c.args.self.now c.loop-event.self c.args.events.now c.loop-event.entries.items c.loop-event.done c.loop-event.invariant.1
+
+pub returns-clause-promised : goal.returns-clause-promised
+returns-clause-promised g c =
+    promises_so c.promises_are_kept.ensures c.args.self.now c.loop-event.self c.args.events.now c.loop-event.entries.items c.loop-event.done
+    (returns-clause-done g c)

@@ -3,7 +3,7 @@ use Rattle.store_core.specs.Actions.{new_set_of}
 use Rattle.world_meaning.specs.Lenses.{seen}
 use Rattle.shared_core.specs.Rooms.{holds_new, kept_place, others_of}
 use Rattle.shared_core.specs.Writes.{KeepsOthers}
-use Rattle.shared_core.specs.Shown.{mounted_in, world_of}
+use Rattle.shared_core.specs.Shown.{mounted_in, world_store_of}
 use Rattle.shared_core.proofs.Entries.{err_by, ok_by}
 use Rattle.shared_core.proofs.SeenSets.{others_made, seen_written, with_volumes}
 use Rattle.shared_core.proofs.store.SharedStoreJobStore.make.Goals as goal
@@ -22,5 +22,5 @@ returns-in-Some-clause-ok c =
 pub returns-in-Some-clause-err : goal.returns-in-Some-clause-err
 returns-in-Some-clause-err c =
     err_by c.make_set.result (λ e.
-    (ap (λ l. seen c.args.job (world_of (with_volumes c.args.self.now l))) e, ap (λ l. others_of c.args.job (with_volumes c.args.self.now l)) e))
+    (ap (λ l. seen c.args.job (world_store_of (with_volumes c.args.self.now l))) e, ap (λ l. others_of c.args.job (with_volumes c.args.self.now l)) e))
     c.make_set.ensures.err

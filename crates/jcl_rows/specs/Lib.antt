@@ -1,0 +1,9 @@
+pub mod Cards
+pub mod Conditions
+pub mod Decks
+pub mod Denoted
+pub mod Edges
+pub mod Jobs
+pub mod Procedures
+pub mod Symbols
+pub mod Values

@@ -1,0 +1,13 @@
+-- The limits of the machine, as numbers. (This profile)
+use Rattle.std.specs.Prelude.{◌≡◌}
+use Rattle.machine_meaning.specs.declared.config.TheConstants.{LAST_INITIATOR, MOST_TRACKS, MOST_UNITS, MOST_VOLUMES}
+use Rattle.machine_meaning.specs.declared.machine.TheConstants.{MOST_EVENTS, MOST_JOBS}
+
+-- 16 volumes of 4,000 tracks each at most, 65,535 unit names, initiators 1 to 15, 65,535 events, job numbers to 9,999
+pub record AreThoseOfTheProfile : Type 0 where
+  pub volumes : MOST_VOLUMES ≡ 16
+  pub tracks : MOST_TRACKS ≡ 4000
+  pub units : MOST_UNITS ≡ 65535
+  pub initiators : LAST_INITIATOR ≡ 15
+  pub events : MOST_EVENTS ≡ 65535
+  pub jobs : MOST_JOBS ≡ 9999

@@ -1,5 +1,0 @@
-use Rattle.machine_rows.proofs.tests.places.store.Goals as goal
-
-pub returns : goal.returns
-returns c = λ serial at job.
-    c.new_volumes_keep_nothing.ensures (record { alloc = c.args.alloc; catalog = c.new.result; volumes = c.mount-3.new.volumes }) c.in_ok-mount-3.ensures serial at

@@ -1,0 +1,2 @@
+pub mod Nobody
+pub mod Writable

@@ -1,0 +1,81 @@
+//! The job of a deck.
+ghost use Rattle.std.specs.Prelude.{ℕ, IfOk, IfSome};
+ghost use Rattle.cb_meaning.specs.Writable.{IsWritable};
+
+use jcl_job::job::job_of;
+use jcl_plan::fault::Cause;
+use jcl_plan::plan::JobPlan;
+use jcl_refs::units::UnitNames;
+use jname_core::name8::UnitName;
+use plain::lent::Lent;
+use proc_library::library::ProcLibrary;
+use row_table::told::push_numbered_line;
+use row_table::words::Lines;
+use std::alloc::{AllocError, Global};
+use value_core::refusal::ReadError;
+
+/// The names of the units that decks may say: SYSDA is the first, and DISK the second.
+fn unit_names(alloc: Global) -> Result<UnitNames, AllocError> {
+    let mut names = UnitNames::new(alloc);
+    for text in [b"SYSDA".as_slice(), b"DISK"] {
+        if let Ok(name) = UnitName::read(text)
+            && names.number(&name).is_none()
+            && names.len() < 65_535
+        {
+            names.add(name)?;
+        }
+    }
+    Ok(names)
+}
+
+/// The cards up to the line `/ENDDECK`.
+fn cards<'a>(alloc: Global, lines: &mut Lines<'a>) -> Result<Vec<Lent<'a>>, AllocError> {
+    let mut cards = Vec::new(alloc);
+    for _ in 0..lines.len() {
+        match lines.next_line() {
+            None | Some(b"/ENDDECK") => return Ok(cards),
+            Some(card) => cards.push(Lent::new(card))?,
+        }
+    }
+    Ok(cards)
+}
+
+/// The letter and the number of a refusal.
+fn push_cause(told: &mut Vec<u8>, cause: Cause) -> Result<(), AllocError> {
+    let (letter, number) = match cause {
+        Cause::C(number) => (b"REFUSED C", number),
+        Cause::N(number) => (b"REFUSED N", number),
+        Cause::P(fault) => (b"REFUSED P", fault.number()),
+        Cause::Q(fault) => (b"REFUSED Q", fault.number()),
+        Cause::B(number) => (b"REFUSED B", number),
+        Cause::A(fault) => (b"REFUSED A", fault.number()),
+    };
+    push_numbered_line(told, letter, u64::from(number))
+}
+
+/// The job of a deck, where no unit's name and no procedure is missing.
+fn denoted(alloc: Global, units: &UnitNames, deck: &[Lent<'_>]) -> Result<JobPlan, ReadError>
+    ensures { IfOk result (λ job. (units : ℕ) × IsWritable 32 units job) }
+{
+    job_of(alloc, units, &ProcLibrary::new(alloc), deck)
+}
+
+/// The job of the deck that comes next, or none, and its refusal is told.
+pub(crate) fn next_job(
+    alloc: Global,
+    lines: &mut Lines<'_>,
+    told: &mut Vec<u8>,
+) -> Result<Option<JobPlan>, AllocError>
+    ensures { IfOk result (λ some. IfSome some (λ job. (units : ℕ) × IsWritable 32 units job)) }
+{
+    let units = unit_names(alloc)?;
+    let deck = cards(alloc, lines)?;
+    match denoted(alloc, &units, deck.as_slice()) {
+        Ok(job) => Ok(Some(job)),
+        Err(ReadError::Refused(cause)) => {
+            push_cause(told, cause)?;
+            Ok(None)
+        }
+        Err(ReadError::Memory) => Err(AllocError),
+    }
+}

@@ -1,0 +1,113 @@
+//! The events of a session, driven one after another.
+ghost use Rattle.std.specs.Prelude.{◌≡◌, IfOk};
+ghost use Rattle.cb_meaning.specs.declared.layout.TheConstants.{LAYOUT_1};
+ghost use Rattle.cb_queue.specs.RecordQueues.{empty_queue};
+ghost use Rattle.sched_core.specs.Starting.{IsForMachine};
+
+use cb_meaning::layout::LAYOUT_1;
+use cb_queue::list_store::ListStore;
+use config_core::config::Config;
+use input_core::event::Event;
+use jcl_plan::entry::Entry;
+use plain::draft::Draft;
+use plain::listed::Listed;
+use sched_core::start::first_layout_is_for_machine;
+use sched_core::system::System;
+use session_text::parse::statements;
+use session_text::statement::{Ending, Says, Statement};
+use std::alloc::{AllocError, Global};
+
+/// The same event. A deck is read once.
+fn again<'a>(event: &Event<'a>) -> Option<Event<'a>> {
+    match event {
+        Event::Read(_) => None,
+        Event::Turn(number) => Some(Event::Turn(*number)),
+        Event::DeviceEnd(serial) => Some(Event::DeviceEnd(*serial)),
+        Event::Write(class) => Some(Event::Write(*class)),
+        Event::Cancel(job) => Some(Event::Cancel(*job)),
+        Event::Display => Some(Event::Display),
+    }
+}
+
+/// An event so many times.
+fn push_times<'a>(
+    events: &mut Vec<Event<'a>>,
+    event: Event<'a>,
+    times: u16,
+) -> Result<(), AllocError> {
+    for _ in 1..times {
+        if let Some(same) = again(&event) {
+            events.push(same)?;
+        }
+    }
+    events.push(event)?;
+    Ok(())
+}
+
+/// Adds what a session configures, and gathers its events. A statement that is refused is left out.
+fn gather<'a>(
+    config: &mut Config,
+    events: &mut Vec<Event<'a>>,
+    statements: Vec<Statement<'a>>,
+) -> Result<(), AllocError> {
+    for statement in statements {
+        match statement.says {
+            Says::Config {
+                statement: says,
+                ..
+            } => {
+                let Ok(()) = config.add(&says) else {
+                    return Err(AllocError);
+                };
+            }
+            Says::Events(event, times) => push_times(events, event, times)?,
+            Says::Refused(_) => {}
+        }
+    }
+    Ok(())
+}
+
+/// The queue of a machine that begins: no record is in use.
+fn first_queue(alloc: Global) -> Result<ListStore, AllocError>
+    ensures empty { IfOk result (λ queue. queue ≡ empty_queue LAYOUT_1) }
+    ensures layout { IfOk result (λ queue. IsForMachine queue.layout) }
+{
+    first_layout_is_for_machine();
+    let queue = ListStore::new(alloc, LAYOUT_1)?;
+    Ok(queue)
+}
+
+/// The lines of events.
+fn push_entries(text: &mut Draft, entries: &[Listed<Entry>]) -> Result<(), AllocError> {
+    for lines in entries {
+        for line in lines.as_slice() {
+            line.write_to(text)?;
+        }
+    }
+    text.keep();
+    Ok(())
+}
+
+/// Drives the events, and once more the first for which memory was wanting with those behind it.
+fn drive(alloc: Global, config: Config, events: &[Event<'_>]) -> Result<Draft, AllocError> {
+    let (store, fixed) = config.take_apart()?;
+    let queue = first_queue(alloc)?;
+    let mut system = System::new(alloc, store, queue, &fixed, false, 1_024)?;
+    let first = system.drive(events);
+    let (_, rest) = events.split_at(first.done);
+    let then = system.drive(rest);
+    system.close();
+    let mut text = Draft::empty(alloc);
+    push_entries(&mut text, first.entries.as_slice())?;
+    push_entries(&mut text, then.entries.as_slice())?;
+    Ok(text)
+}
+
+/// The listing of a session whose events are driven one after another.
+pub fn list_driven(alloc: Global, text: &[u8]) -> Result<Draft, AllocError> {
+    let read = statements(alloc, text, Ending::Whole)?;
+    let mut config = Config::new(alloc);
+    let mut events = Vec::new(alloc);
+    gather(&mut config, &mut events, read.into_vec())?;
+    drive(alloc, config, events.as_slice())
+}

@@ -1,3 +1,0 @@
-mod both;
-mod refused;
-mod rows;

@@ -1,0 +1,15 @@
+use Rattle.std.proofs.Common.{refl}
+use Rattle.std.specs.Fmt.{digits}
+use Rattle.text_rows.proofs.lines.writes_analyses.Goals as goal
+
+pub returns : goal.returns
+unfolding digits
+returns c = record {
+  assured = refl;
+  risk_at_once = refl;
+  risk_later = refl;
+  too_many = refl;
+  unchecked = refl;
+  refused = refl;
+  cancelled = refl;
+}

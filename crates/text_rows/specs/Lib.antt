@@ -1,0 +1,6 @@
+pub mod Cards
+pub mod Limits
+pub mod Lines
+pub mod Lists
+pub mod Names
+pub mod Operands

@@ -1,3 +1,0 @@
-mod GrownBack
-mod MadeBack
-mod MarkedBack

@@ -1,2 +1,0 @@
-pub mod Broken
-pub mod Sets
