@@ -1,9 +1,12 @@
 # Needs the Rattle toolchain (`rt` on the path).
 
-.PHONY: help test run mvt examples documents
+.PHONY: help test run mvt examples documents rows
 
 # The session that `make run` runs.
 SESSION ?= examples/first.session
+
+# The programs that compare worked rows with their tables.
+ROW_PROGRAMS = volume_rows record_rows machine_rows store_rows session_rows
 
 # What the program is made from.
 SOURCES = crates.txt $(wildcard crates/*/src/*.rt crates/*/src/*/*.rt)
@@ -14,6 +17,7 @@ help:
 	@echo 'make mvt                  proves the program and all that it stands on, and builds it to ./mvt'
 	@echo 'make examples             runs each session of examples/ with ./mvt and compares the listings'
 	@echo 'make documents            compares README.md and docs/ with ./mvt: what examples print, what refusals are told'
+	@echo 'make rows                 compares the worked rows that are texts with ./mvt and with the row programs'
 	@echo 'make test                 the gate: every proof from nothing, the edits that must fail, the tests, the programs'
 
 # Runs the program on a session. Nothing is proved.
@@ -33,9 +37,16 @@ mvt:
 examples: mvt
 	tests/examples.sh ./mvt
 
-# Compares the documents with ./mvt: their examples, and what docs/REFUSALS.md says is told.
+# Compares the documents with ./mvt: their examples, and what docs/REFUSALS.md says is told; and the table of examples.
 documents: mvt
 	python3 tests/documents.py ./mvt
+	python3 tests/document_rows.py --check
+
+# Compares the worked rows that are texts. The row programs are those of the gate, or are proved first.
+rows: mvt
+	for crate in $(ROW_PROGRAMS); do test -x crates/$$crate/out/$$crate || (cd crates/$$crate && rt run </dev/null) || exit 1; done
+	python3 tests/rows.py ./mvt
+	tests/examples.sh ./mvt
 
 # The gate.
 test:

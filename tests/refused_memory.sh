@@ -1,9 +1,10 @@
 #!/bin/sh
 # Refuses the allocations of proved programs one at a time, the first, then the second and so on, until a run asks for no more.
-# - The tests `refused_memory_..` look, where a call answers want of memory, that all values are as before, and make the call again: they must pass.
-# - The program, on a session, must write a beginning of its listing and end with status 3, or write all of it; of the runs that want
-#   memory none writes less than one in which an earlier allocation is refused.
-# It needs a C compiler, ./mvt (make mvt) and the tests that the gate built.
+# - The row programs show the values of a call that wants memory before and behind it, and make the call again: no row may come out as
+#   another than it is, but by a line MEMORY.
+# - The program, on a session, must write the listing of a whole number of its events and end with status 3, or write all of it; a run
+#   writes never less than one in which an earlier allocation is refused, and the last that wants memory all but at most one event's.
+# It needs a C compiler, ./mvt (make mvt) and the row programs that the gate built.
 # Usage: tests/refused_memory.sh
 
 cd "$(dirname "$0")/.." || exit 2
@@ -34,7 +35,7 @@ void *realloc(void *old, size_t size) { return is_refused() ? 0 : __libc_realloc
 END
 ${CC:-cc} -shared -fPIC -O1 -o "$work/refuse.so" "$work/refuse.c" || exit 2
 
-# Runs a command with its allocation of this number refused.
+# Runs a command with its allocation of this number refused; work/told is empty where it has no such allocation.
 refusing() {
     number=$1
     shift
@@ -46,37 +47,47 @@ if [ ! -x ./mvt ]; then
     echo "./mvt is not there: make mvt builds it"
     exit 2
 fi
-
 failed=0
-input=/dev/null
-for crate in volume_rows machine_rows store_rows session_rows; do
-    tests=crates/$crate/out/${crate}_tests
-    names=$("$tests" --list | grep -o '[a-z_:]*refused_memory[a-z_]*')
-    if [ -z "$names" ]; then
-        echo "$tests has no such test, or is not there: make test builds it"
+
+# The rows of a table: CRATE TABLE STEP tries each STEPth allocation.
+try_rows() {
+    program=$PWD/crates/$1/out/$1
+    if [ ! -x "$program" ]; then
+        echo "$program is not there: make test builds it"
         exit 2
     fi
-    for test in $names; do
-        if ! refusing 0 "$tests" "$test"; then
-            echo "$test: it fails though nothing is refused"
+    input=/dev/null
+    number=1
+    while refusing "$number" "$program" "crates/$1/data/$2.rows"; status=$?; [ -s "$work/told" ]; do
+        if [ $status -gt 3 ] || grep -qx CHANGED "$work/err" || { grep -qx -e '-- came' "$work/err" && ! grep -qx MEMORY "$work/err"; }; then
+            echo "$1: $2: allocation $number: status $status"
+            cat "$work/err"
             failed=1
-            continue
         fi
-        number=1
-        while refusing $number "$tests" "$test" && [ -s "$work/told" ]; do
-            number=$((number + 1))
-        done
-        if [ -s "$work/told" ]; then
-            echo "$test: allocation $number: the test fails"
-            failed=1
-        else
-            echo "$crate: $test: $((number - 1)) allocations refused in turn, and nothing was lost"
-        fi
+        number=$((number + $3))
     done
-done
+    echo "$1: $2: up to $((number - 1)) allocations, each ${3}th of them refused in turn"
+}
+
+for table in volumes catalog groups extents records mounted; do try_rows volume_rows $table 1; done
+try_rows machine_rows places 1
+try_rows store_rows stores 7
+try_rows session_rows configurations 7
+
+# How many bytes the events of a session list: the first, the first two, and so on.
+sizes_of() {
+    awk '$2 == "TURN" || $2 == "WRITE" {n = split($3, it, "*") > 1 ? it[2] : 1; for (k = 0; k < n; k++) print $1, $2, it[1]; next} {print}' "$1" >"$work/events"
+    lines=$(wc -l <"$work/events")
+    line=0
+    while [ "$line" -le "$lines" ]; do
+        head -n "$line" "$work/events" | ./mvt 2>/dev/null | wc -c
+        line=$((line + 1))
+    done | sort -nu
+}
 
 for input in examples/*.session; do
     listing=${input%.session}.listing
+    sizes_of "$input" >"$work/sizes"
     number=1
     most=0
     while :; do
@@ -90,6 +101,10 @@ for input in examples/*.session; do
                 failed=1
             fi
             most=$size
+            if ! grep -qx "$size" "$work/sizes"; then
+                echo "$input: allocation $number: $size bytes are no whole number of events"
+                failed=1
+            fi
         fi
         if ! cmp -s "$work/out" "$listing"; then
             if [ $status -ne 3 ] || ! head -c "$size" "$listing" | cmp -s "$work/out" -; then
@@ -101,6 +116,10 @@ for input in examples/*.session; do
     done
     if ! cmp -s "$work/out" "$listing"; then
         echo "$input: its listing differs though nothing is refused"
+        failed=1
+    fi
+    if [ "$most" -lt "$(tail -n 2 "$work/sizes" | head -n 1)" ]; then
+        echo "$input: at the last allocation more than one event's lines are wanting"
         failed=1
     fi
     echo "$input: $((number - 1)) allocations refused in turn, with up to $most bytes of the listing"

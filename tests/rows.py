@@ -1,0 +1,89 @@
+"""Compares all worked rows that are texts: the row programs with their tables, and ./mvt with the rows that are whole sessions.
+
+Usage: python3 tests/rows.py PROGRAM       behind `make test` or `make rows`, which build the row programs
+"""
+
+import glob
+import os
+import re
+import subprocess
+import sys
+
+PROGRAMS = ("volume_rows", "record_rows", "machine_rows", "store_rows", "session_rows")
+# The commands of a session's row that the program can be asked by its options, or that leave the listing as it is.
+PLAIN = ("risk ", "views ", "read ", "write ", "driven", "times ", "end")
+
+
+def text_of(path):
+    with open(path, encoding="utf-8") as file:
+        return file.read()
+
+
+def compare_tables(crate):
+    """Runs a row program on its tables, and returns whether it said what stands in its file stdout."""
+    folder = os.path.join("crates", crate)
+    command = [os.path.abspath(os.path.join(folder, "out", crate)), *text_of(os.path.join(folder, "args")).split()]
+    run = subprocess.run(command, cwd=folder, capture_output=True, text=True, check=False)
+    sys.stdout.write(run.stdout)
+    sys.stderr.write(run.stderr)
+    return run.returncode == 0 and run.stdout == text_of(os.path.join(folder, "stdout"))
+
+
+def rows_of(path):
+    """Yields each row of a table: its name, what is put in, and what is wanted."""
+    for row in re.split(r"^== ", text_of(path), flags=re.M)[1:]:
+        name, _, rest = row.partition("\n")
+        put_in, _, wanted = rest.partition("=>\n")
+        yield name.strip(), put_in, wanted.rstrip("\n") + "\n" if wanted.strip("\n") else ""
+
+
+def unescaped(text):
+    return re.sub(rb"\\(\n|[0-9A-F]{2})", lambda it: b"" if it[1] == b"\n" else bytes([int(it[1], 16)]), text.encode())
+
+
+def repeated(lines):
+    """The lines with each block between !times N and !end N times."""
+    out, block, times = [], None, 0
+    for line in lines:
+        if line.startswith("!times "):
+            block, times = [], int(line[7:])
+        elif line == "!end":
+            number = lambda at: re.sub(r"\\#(#*)", lambda it: str(at).zfill(len(it[1]) + 1), "\n".join(block))
+            out += [number(at) for at in range(1, times + 1)]
+            block = None
+        elif not line.startswith("!"):
+            (out if block is None else block).append(line)
+    return out
+
+
+def compare_sessions(program, path):
+    """Runs the rows of a table that are whole sessions with the program, and returns how many there are and how many fail."""
+    count = failed = 0
+    for name, put_in, wanted in rows_of(path):
+        lines = put_in.rstrip("\n").split("\n")
+        commands = [line[1:] for line in lines if line.startswith("!")]
+        if not all(command.startswith(PLAIN) for command in commands):
+            continue
+        options = [word for it in commands if it.startswith(("risk ", "views ")) for word in ("--" + it.split()[0], it.split()[1])]
+        session = unescaped("\n".join(repeated(lines)) + "\n")
+        run = subprocess.run([program, *options], input=session, capture_output=True, check=False)
+        told = run.stdout.decode("latin-1")
+        if run.returncode:
+            told += f"status {run.returncode}: {run.stderr.decode()}"
+        count += 1
+        if told != unescaped(wanted).decode("latin-1"):
+            failed += 1
+            sys.stderr.write(f"{path}: {name}\n-- wanted\n{wanted}-- came\n{told}")
+    return count, failed
+
+
+def main():
+    os.chdir(os.path.join(os.path.dirname(os.path.abspath(__file__)), ".."))
+    holds = all([compare_tables(crate) for crate in PROGRAMS])
+    sums = [compare_sessions(sys.argv[1], path) for path in sorted(glob.glob("crates/session_rows/data/*.rows"))]
+    print(f"{sys.argv[1]}: {sum(count for count, _ in sums)} rows that are whole sessions")
+    sys.exit(0 if holds and not any(failed for _, failed in sums) else 1)
+
+
+if __name__ == "__main__":
+    main()
