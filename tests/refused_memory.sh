@@ -66,7 +66,7 @@ try_rows() {
         fi
         number=$((number + $3))
     done
-    echo "$1: $2: up to $((number - 1)) allocations, each ${3}th of them refused in turn"
+    echo "$1: $2: of $((number - 1)) allocations one in $3 was refused in turn"
 }
 
 for table in volumes catalog groups extents records mounted; do try_rows volume_rows $table 1; done
