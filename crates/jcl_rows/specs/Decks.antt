@@ -1,4 +1,5 @@
--- Decks, DDs behind a call, and what references mean. (jcl_deck, jcl_procs, jcl_refs)
+-- Decks, DDs behind a call, and what references mean: `deck_of`, `override_dds` and the readers of references answer these definitions. (jcl_deck,
+-- jcl_procs, jcl_refs)
 use Rattle.std.specs.Prelude.{◌≡◌, ℕ, ◌++◌, ◌∷◌, [], List, length, map, codes, Option, Some, None, Result, Ok, Err}
 use Prim.Native.String.{String}
 use Rattle.std.specs.List.{flat_map}

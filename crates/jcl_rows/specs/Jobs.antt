@@ -1,4 +1,4 @@
--- Decks, with procedures of a library and names of units.
+-- Decks, with procedures of a library and names of units: what `job_of` is given. (jcl_job)
 use Rattle.std.specs.Prelude.{ℕ, zero, suc, ◌==◌, ◌++◌, ◌∷◌, [], List, codes, Option, Some, None, Result, Ok, Err}
 use Prim.Native.String.{String}
 use Rattle.std.specs.List.{slice_split}

@@ -1,4 +1,5 @@
--- Procedures of the library, the conditions that a call leaves their steps, and decks with their steps. (proc_library, jcl_procs)
+-- Procedures of the library, the conditions that a call leaves their steps, and decks with their steps: `ProcLibrary`'s calls, `override_conditions`
+-- and `expand` answer these definitions. (proc_library, jcl_procs)
 use Rattle.std.specs.Prelude.{◌≡◌, ℕ, ◌∷◌, [], Bool, true, false, List, length, map, codes, Option, Some, None, Result, Ok, Err, is_some}
 use Rattle.jcl_plan.specs.declared.fault.Cause.{Cause}
 use Rattle.jcl_plan.specs.declared.fault.Cause.TheVariants.{C, P}

@@ -1,5 +1,4 @@
 pub mod Cards
-pub mod Limits
 pub mod Lines
 pub mod Lists
 pub mod Names

@@ -1,33 +1,8 @@
--- Lists that are changed, and short texts that are compared. (plain)
-use Rattle.std.specs.Prelude.{◌≡◌, ℕ, ◌++◌, ◌∷◌, [], true, false, nat_eq, List, length, codes, slice_set, remove}
+-- Short texts that are compared. (plain)
+use Rattle.std.specs.Prelude.{◌≡◌, ◌∷◌, [], true, false, nat_eq, codes}
 use Rattle.std.specs.Cmp.Lexicographic.{pointwise, slice_cmp}
 use Rattle.std.specs.declared.cmp.Ordering.TheVariants.{Equal, Greater, Less}
 use Rattle.std.specs.Ordering.{nat_cmp}
-
--- what `Listed::push`, `push_front`, `replace` and `remove` make of a list, and what `len` gives, by their contracts
-abbrev pub push : List ℕ → ℕ → List ℕ
-push list item = list ++ item ∷ []
-
-abbrev pub push_front : List ℕ → ℕ → List ℕ
-push_front list item = item ∷ list
-
-abbrev pub replaced : List ℕ → ℕ → ℕ → List ℕ
-replaced list index item = slice_set list index item
-
-abbrev pub removed : List ℕ → ℕ → List ℕ
-removed list index = remove list index
-
-abbrev pub counted : List ℕ → ℕ
-counted list = length list
-
--- What is made of a list.
-pub record ChangesLists : Type 0 where
-  pub pushed : push (2 ∷ 3 ∷ []) 4 ≡ 2 ∷ 3 ∷ 4 ∷ []
-  pub pushed_front : push_front (2 ∷ 3 ∷ 4 ∷ []) 1 ≡ 1 ∷ 2 ∷ 3 ∷ 4 ∷ []
-  pub pushed_to_none : push_front [] 7 ≡ 7 ∷ []
-  pub counted : counted (1 ∷ 2 ∷ 3 ∷ 4 ∷ []) ≡ 4
-  pub replaced : replaced (1 ∷ 2 ∷ 3 ∷ 4 ∷ []) 1 20 ≡ 1 ∷ 20 ∷ 3 ∷ 4 ∷ []
-  pub removed : removed (1 ∷ 20 ∷ 3 ∷ 4 ∷ []) 0 ≡ 20 ∷ 3 ∷ 4 ∷ []
 
 -- As in a dictionary: `Short`'s `cmp` gives this, and its `partial_cmp` the same in `Some`.
 pub record OrdersTexts : Type 0 where

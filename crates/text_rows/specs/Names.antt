@@ -1,4 +1,5 @@
--- Names of worked examples, and the faults that are told of others.
+-- Names of worked examples, and the faults that are told of others: `Name8::read`, `UnitName::read`, `Serial::read`, `read_ds_name`, `read_base` and
+-- `DsName`'s `base_of` and `generation` answer by these definitions (jname_core).
 use Rattle.std.specs.Prelude.{◌≡◌, ℕ, ◌<◌, ◌≤◌, [], true, false, List, length, codes, Some, None}
 use Rattle.jname_core.specs.Characters.{is_first, is_name_character}
 use Rattle.jname_core.specs.Faults.{ds_name_fault, name8_fault, unit_name_fault}

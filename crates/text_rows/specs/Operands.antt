@@ -1,4 +1,4 @@
--- Operands and their values. (operand_core)
+-- Operands and their values: `operand_of` and `unquoted` answer these definitions (operand_core).
 use Rattle.std.specs.Prelude.{◌≡◌, ◌∷◌, [], codes, Some}
 use Rattle.jcl_plan.specs.declared.fault.Cause.TheVariants.{P}
 use Rattle.jcl_plan.specs.declared.fault.StatementFault.TheVariants.{UnbalancedParentheses}

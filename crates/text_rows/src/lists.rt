@@ -1,10 +1,5 @@
-//! Lists that are changed, and short texts that are compared: laws that are computed.
-ghost use Rattle.text_rows.specs.Lists.{ChangesLists, OrdersTexts, TellsSameTexts};
-
-/// What a list is when it was changed.
-pub fn changes_lists()
-    ensures { ChangesLists }
-{}
+//! Short texts that are compared: laws that are computed.
+ghost use Rattle.text_rows.specs.Lists.{OrdersTexts, TellsSameTexts};
 
 /// As in a dictionary.
 pub fn orders_texts()
