@@ -17,7 +17,7 @@ use std::alloc::{AllocError, Global};
 use store_core::job_store::JobStore;
 
 /// What a job has from its admission on: where its sets are placed, what its keys mean, its date, and whether it cannot fail.
-#[derive(Debug, Drop)]
+#[derive(Drop)]
 pub struct Admission {
     pub places: Listed<Place>,
     pub meanings: Listed<KeyMeaning>,

@@ -10,14 +10,14 @@ use std::collections::BTreeMap;
 use std::marker::Model;
 
 /// A job's lines so far.
-#[derive(Debug, Drop)]
+#[derive(Drop)]
 pub struct Listing {
     pub job: u16,
     pub lines: Listed<JobLine>,
 }
 
 /// The listings of the jobs that wait, in the order of reading, which is that of their numbers.
-#[derive(Debug, Drop)]
+#[derive(Drop)]
 pub struct Backlog {
     listings: BTreeMap<u16, Listing>,
 }

@@ -8,7 +8,7 @@ use std::alloc::{AllocError, Global};
 use std::marker::Model;
 
 /// The jobs whose cancel has not acted yet, in the order of coming.
-#[derive(Debug, Drop)]
+#[derive(Drop)]
 pub struct Cancels {
     jobs: Vec<u16>,
 }

@@ -10,7 +10,6 @@ use jcl_plan::plan::JobPlan;
 use std::alloc::{AllocError, Global};
 
 /// What comes of a job's wish for its names: it holds so many, or one that another job holds stands in its way.
-#[derive(Debug)]
 pub enum Named {
     Holds(Held, usize),
     Blocked(Blocked),

@@ -9,7 +9,7 @@ use jcl_plan::plan::JobPlan;
 use std::alloc::{AllocError, Global};
 
 /// What a job's records say: its plan, or the number of the first fault.
-#[derive(Debug, Drop)]
+#[derive(Drop)]
 pub enum Read {
     Broken(u8),
     Plan(JobPlan),

@@ -17,7 +17,7 @@ use plain::text::Text;
 use std::alloc::{AllocError, Global};
 
 /// A statement that begins on a card.
-#[derive(Debug, Drop)]
+#[derive(Drop)]
 pub struct Begun {
     pub statement: Statement,
     /// Whether an EXEC statement stands before what follows.

@@ -10,7 +10,7 @@ use crate::statement::DataCard;
 const COLUMNS: usize = 80;
 
 /// What a card is.
-#[derive(Clone, Copy, Debug, PartialEq, Eq)]
+#[derive(Clone, Copy, PartialEq, Eq)]
 pub enum Kind {
     /// `//*`
     Comment,

@@ -9,7 +9,7 @@ use plain::listed::Listed;
 use std::alloc::{AllocError, Global};
 
 /// Which data stand behind a statement.
-#[derive(Clone, Copy, Debug, PartialEq, Eq)]
+#[derive(Clone, Copy, PartialEq, Eq)]
 pub enum Opens {
     Nothing,
     /// `DD *`: data to `/*` or `//`.

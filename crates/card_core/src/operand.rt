@@ -14,7 +14,7 @@ use plain::text::Text;
 use std::alloc::Global;
 
 /// An operand to its end.
-#[derive(Debug, Drop)]
+#[derive(Drop)]
 pub struct Operand {
     pub text: Text,
     /// How many cards behind its first it takes.

@@ -10,7 +10,7 @@ use crate::statement::{Card, DataCard, Statement};
 use std::alloc::{AllocError, Global};
 
 /// Why no statements were read.
-#[derive(Clone, Copy, Debug, PartialEq, Eq)]
+#[derive(Clone, Copy, PartialEq, Eq)]
 pub enum ReadError {
     /// The first fault: of lines first, over all cards, then in the order of the deck.
     Fault(CardFault),
@@ -29,7 +29,7 @@ impl From<AllocError> for ReadError {
 }
 
 /// Where the reading goes on behind a card and what it took.
-#[derive(Clone, Copy, Debug)]
+#[derive(Clone, Copy)]
 struct Place {
     /// Whether an EXEC statement stands before it.
     called: bool,

@@ -12,7 +12,7 @@ pub type DataCard = [u8; 80];
 /// A statement: its name field, operation and operand, and the data cards behind it where it is `DD *` or `DD DATA`.
 ///
 /// A data card that no statement opens stands behind a statement `SYSIN DD *`. An absent field is empty.
-#[derive(Debug, Drop)]
+#[derive(Drop)]
 pub struct Statement {
     pub name: Text,
     pub operation: Text,

@@ -19,7 +19,7 @@ use std::collections::BTreeMap;
 use std::marker::Model;
 
 /// Names and what is entered for them.
-#[derive(Debug, Drop)]
+#[derive(Drop)]
 pub struct Catalog {
     entries: BTreeMap<DsName, CatEntry>,
 }

@@ -4,14 +4,14 @@
 pub const RECORD_BYTES: usize = 176;
 
 /// A number's first byte, and how many bytes it has, the highest first.
-#[derive(Clone, Copy, Debug, PartialEq, Eq)]
+#[derive(Clone, Copy, PartialEq, Eq)]
 pub struct Field {
     pub at: u8,
     pub width: u8,
 }
 
 /// A layout of the queue's records.
-#[derive(Clone, Copy, Debug, PartialEq, Eq)]
+#[derive(Clone, Copy, PartialEq, Eq)]
 pub struct Layout {
     /// What a JCT says of it.
     pub number: u8,

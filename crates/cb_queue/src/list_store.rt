@@ -25,7 +25,7 @@ const STATUS: Field = Field { at: 168, width: 8 };
 const BLOCK: u32 = 64;
 
 /// A store of records in one table, got when it is made.
-#[derive(Debug, Drop)]
+#[derive(Drop)]
 pub struct ListStore {
     layout: Layout,
     records: Vec<Rec>,

@@ -7,7 +7,7 @@ use crate::rec::Rec;
 use cb_meaning::layout::Layout;
 
 /// A free record, read by a layout.
-#[derive(Clone, Copy, Debug)]
+#[derive(Clone, Copy)]
 pub struct FreeView<'a> {
     pub bytes: &'a Rec,
     pub layout: &'a Layout,

@@ -8,7 +8,7 @@ use crate::rec::Rec;
 use cb_meaning::layout::{Field, Layout};
 
 /// A record that is a JCT, read by a layout.
-#[derive(Clone, Copy, Debug)]
+#[derive(Clone, Copy)]
 pub struct JctView<'a> {
     pub bytes: &'a Rec,
     pub layout: &'a Layout,

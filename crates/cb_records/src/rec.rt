@@ -7,7 +7,7 @@ use cb_meaning::layout::{Field, RECORD_BYTES};
 use std::marker::Model;
 
 /// A record, which a contract sees as its bytes.
-#[derive(Clone, Copy, Debug)]
+#[derive(Clone, Copy)]
 pub struct Rec {
     bytes: [u8; RECORD_BYTES],
 }

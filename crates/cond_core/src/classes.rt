@@ -9,7 +9,7 @@ use std::alloc::{AllocError, Global};
 use std::marker::Model;
 
 /// The codes 0 to 4095 in classes, of which contracts see the representatives: the least code of each class, rising.
-#[derive(Debug, Drop)]
+#[derive(Drop)]
 pub struct CodeClasses {
     representatives: Vec<Code>,
 }

@@ -8,7 +8,7 @@ use jcl_plan::outcome::Fate;
 use jcl_plan::plan::{StepPlan, Test};
 
 /// What came before a step of a job.
-#[derive(Clone, Copy, Debug)]
+#[derive(Clone, Copy)]
 pub struct History<'a> {
     /// The tests of the JOB statement.
     pub job_tests: &'a [Test],

@@ -36,7 +36,7 @@ use std::marker::Model;
 use vtoc_core::entry::SetKey;
 
 /// Why a statement of the configuration changed nothing.
-#[derive(Clone, Copy, Debug, PartialEq, Eq)]
+#[derive(Clone, Copy, PartialEq, Eq)]
 pub enum ConfigError {
     Refused(ConfigFault),
     Memory,
@@ -54,7 +54,7 @@ impl From<AllocError> for ConfigError {
 }
 
 /// What was configured so far.
-#[derive(Debug, Drop)]
+#[derive(Drop)]
 pub struct Config {
     pub(crate) alloc: Global,
     pub(crate) volumes: Listed<Mounted>,

@@ -16,7 +16,7 @@ use shared_core::store::SharedStore;
 use std::alloc::{AllocError, Global};
 
 /// What stays fixed while the machine runs.
-#[derive(Debug, Drop)]
+#[derive(Drop)]
 pub struct Fixed {
     /// The serials of the volumes, in the order of their statements.
     pub serials: Listed<Serial>,

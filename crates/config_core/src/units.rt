@@ -10,7 +10,7 @@ use std::alloc::{AllocError, Global};
 use std::marker::Model;
 
 /// The units in the order of their statements: their names, and the volumes of each.
-#[derive(Debug, Drop)]
+#[derive(Drop)]
 pub struct Units {
     names: UnitNames,
     volumes: Vec<Listed<Serial>>,

@@ -12,7 +12,7 @@ use std::alloc::AllocError;
 
 /// What is fixed for a job from its admission on: its JOB tests, the volumes as configured, where its DDs' sets are placed, what their keys mean,
 /// and its date.
-#[derive(Clone, Copy, Debug)]
+#[derive(Clone, Copy)]
 pub struct Given<'a> {
     pub job_tests: &'a [Test],
     pub volumes: &'a [Serial],
@@ -22,7 +22,7 @@ pub struct Given<'a> {
 }
 
 /// What is a job's own, and the lines that it has written.
-#[derive(Debug, Drop)]
+#[derive(Drop)]
 pub struct Course {
     pub own: Own,
     pub lines: Listed<JobLine>,

@@ -23,7 +23,7 @@ use store_core::job_store::{JobStore, RoomFault};
 use store_core::laws::{grown_and_emptied_in_either_order, not_emptied_stays};
 
 /// The DD that a request goes to, from 0, and what the request needs of its state.
-#[derive(Clone, Copy, Debug)]
+#[derive(Clone, Copy)]
 pub(crate) struct Here {
     pub(crate) d: usize,
     pub(crate) member: usize,

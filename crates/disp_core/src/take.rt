@@ -37,7 +37,7 @@ use store_core::take::{
 };
 
 /// What taking a DD met and made.
-#[derive(Clone, Copy, Debug)]
+#[derive(Clone, Copy)]
 pub struct Taken {
     /// The fault that ended the job's running.
     pub meets: Option<Fault>,

@@ -11,7 +11,7 @@ use std::marker::Model;
 pub(crate) const MARKS: usize = 8192;
 
 /// A hold that keeps the mark of its name.
-#[derive(Debug, Drop)]
+#[derive(Drop)]
 pub struct MarkedHold {
     hold: Hold,
     mark: u16,

@@ -10,14 +10,14 @@ use std::alloc::{AllocError, Global};
 use std::marker::Model;
 
 /// A name that a job wants, shared with others that share it or for itself alone.
-#[derive(Clone, Copy, Debug, PartialEq, Eq)]
+#[derive(Clone, Copy, PartialEq, Eq)]
 pub struct Want {
     pub name: DsName,
     pub exclusive: bool,
 }
 
 /// A name that is held, and for which job.
-#[derive(Clone, Copy, Debug, PartialEq, Eq)]
+#[derive(Clone, Copy, PartialEq, Eq)]
 pub struct Hold {
     pub job: u16,
     pub name: DsName,
@@ -26,21 +26,20 @@ pub struct Hold {
 
 /// Why a job cannot have its names: the first of them, in byte order, at which another holder conflicts, and of its holders the lowest
 /// job number that conflicts.
-#[derive(Clone, Copy, Debug, PartialEq, Eq)]
+#[derive(Clone, Copy, PartialEq, Eq)]
 pub struct Blocked {
     pub job: u16,
     pub name: DsName,
 }
 
 /// Why no name was held. The table is as before.
-#[derive(Clone, Copy, Debug, PartialEq, Eq)]
+#[derive(Clone, Copy, PartialEq, Eq)]
 pub enum HoldFault {
     Blocked(Blocked),
     Memory,
 }
 
 /// All names that a job holds. It must be released.
-#[derive(Debug)]
 pub struct Held {
     job: u16,
 }
@@ -65,7 +64,7 @@ impl Held {
 }
 
 /// The held names, in the order in which they were held.
-#[derive(Debug, Drop)]
+#[derive(Drop)]
 pub struct EnqTable {
     holds: Vec<MarkedHold>,
 }

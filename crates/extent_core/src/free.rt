@@ -10,7 +10,7 @@ use std::marker::Model;
 
 /// The free extents of a volume. A contract sees of each track whether it is free; the free extents are as many neighbouring free tracks
 /// as there are.
-#[derive(Debug, Drop)]
+#[derive(Drop)]
 pub struct FreeExtents {
     /// How many tracks the volume has.
     count: usize,

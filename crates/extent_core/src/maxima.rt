@@ -7,7 +7,7 @@ use std::alloc::{AllocError, Global};
 use std::marker::Model;
 
 /// A power of two of numbers.
-#[derive(Debug, Drop)]
+#[derive(Drop)]
 pub(crate) struct Maxima {
     /// How often the numbers can be halved: 12 times at most.
     height: usize,

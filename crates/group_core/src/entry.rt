@@ -3,7 +3,7 @@ use crate::group::Group;
 use jname_core::serial::Serial;
 
 /// An entry of the catalog.
-#[derive(Clone, Debug, Drop)]
+#[derive(Clone, Drop)]
 pub enum CatEntry {
     /// The volume of the set of that name.
     Volume(Serial),

@@ -11,7 +11,7 @@ use std::marker::Model;
 use thiserror::Error;
 
 /// A generation that is entered: its number, 1 to 9999, and the volume of its set.
-#[derive(Clone, Copy, Debug, PartialEq, Eq)]
+#[derive(Clone, Copy, PartialEq, Eq)]
 pub struct Generation {
     pub number: u16,
     pub serial: Serial,
@@ -19,7 +19,7 @@ pub struct Generation {
 
 /// A generation data group: how many generations it holds at most, whether the set of one that rolls off is scratched, and its
 /// generations, the newest first. Room for all that it may hold is taken when it is made.
-#[derive(Debug, Drop)]
+#[derive(Drop)]
 pub struct Group {
     limit: u8,
     scratch: bool,
@@ -39,7 +39,7 @@ impl Model for Group {
 }
 
 /// What entering a generation did.
-#[derive(Clone, Copy, Debug, PartialEq, Eq)]
+#[derive(Clone, Copy, PartialEq, Eq)]
 pub enum Rolled {
     /// It was entered.
     Entered,

@@ -22,7 +22,7 @@ use std::alloc::{AllocError, Global};
 use turn_core::walk::Walk;
 
 /// What a job's records say, with the names that it wants.
-#[derive(Debug, Drop)]
+#[derive(Drop)]
 enum Found {
     Broken(u8),
     Job(JobPlan, Listed<Want>),

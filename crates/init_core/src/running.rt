@@ -11,7 +11,6 @@ use prog_core::library::ProgramLibrary;
 use turn_core::walk::Walk;
 
 /// How far an initiator is with its job.
-#[derive(Debug)]
 pub enum Stage {
     /// Its records are to be read; its JCT is this record.
     Selected {
@@ -36,7 +35,6 @@ pub enum Stage {
 }
 
 /// A job at an initiator: its number, its place in its agenda with its own part and its listing so far, and how far the initiator is with it.
-#[derive(Debug)]
 pub struct Running {
     pub job: u16,
     pub walk: Walk,
@@ -59,7 +57,7 @@ impl Running {
 
 /// What is fixed for all jobs: the serials of the volumes, the volumes of each unit name, the programs, whether jobs that may fail are refused, and the
 /// limit of views.
-#[derive(Clone, Copy, Debug)]
+#[derive(Clone, Copy)]
 pub struct Profile<'c> {
     pub volumes: &'c [Serial],
     pub units: &'c [Listed<Serial>],
@@ -69,7 +67,6 @@ pub struct Profile<'c> {
 }
 
 /// What a job's turn came to.
-#[derive(Debug)]
 pub enum Progress {
     /// The job goes on. It wrote the lines of its listing from this place on.
     GoesOn { job: Running, from: usize },

@@ -4,7 +4,7 @@ use plain::lent::Lent;
 use plain::listed::Listed;
 
 /// What happens to the machine from outside. Nothing else runs meanwhile.
-#[derive(Debug, Drop)]
+#[derive(Drop)]
 pub enum Event<'a> {
     /// A deck is read: its lines.
     Read(Listed<Lent<'a>>),

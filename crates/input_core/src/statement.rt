@@ -16,7 +16,7 @@ pub const MOST_GENERATIONS: u16 = 255;
 pub const MOST_REQUESTS: usize = 4_096;
 
 /// A set that is there at the start, and whether it is catalogued.
-#[derive(Debug, Drop)]
+#[derive(Drop)]
 pub struct SetStatement {
     pub name: DsName,
     pub serial: Serial,
@@ -26,7 +26,7 @@ pub struct SetStatement {
 }
 
 /// A statement of the configuration.
-#[derive(Debug, Drop)]
+#[derive(Drop)]
 pub enum ConfigStatement<'a> {
     /// A volume, and the tracks of it that are never free.
     Volume {

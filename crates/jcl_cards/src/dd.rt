@@ -31,7 +31,7 @@ use value_core::refusal::ReadError;
 use value_core::set::{Disposition, SetName, VolumeName};
 
 /// The positional operand of a DD.
-#[derive(Debug, Drop)]
+#[derive(Drop)]
 pub enum Word {
     /// `*` or DATA, with the cards behind the statement.
     Cards(Listed<DataCard>),
@@ -39,7 +39,7 @@ pub enum Word {
 }
 
 /// A DD statement that was read, or one with its override: each keyword by itself.
-#[derive(Debug, Drop)]
+#[derive(Drop)]
 pub struct DdCard {
     /// The step of a procedure whose DD it overrides, where one is named.
     pub qualifier: Option<Name8>,
@@ -210,7 +210,7 @@ fn has_two_words(positional: &[Positional<'_>]) -> bool
 }
 
 /// What a DD codes of keywords whose values are looked at.
-#[derive(Debug, Drop)]
+#[derive(Drop)]
 pub(crate) struct DdValues {
     set: SetValues,
     sysout: Coded<u8>,

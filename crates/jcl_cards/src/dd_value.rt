@@ -184,7 +184,7 @@ pub(crate) fn coding(keywords: &[Keyword<'_>], key: &[u8]) -> Coded<()>
 }
 
 /// What a DD codes of a data set.
-#[derive(Debug, Drop)]
+#[derive(Drop)]
 pub(crate) struct SetValues {
     pub(crate) set_name: Coded<SetName>,
     pub(crate) disposition: Coded<Disposition>,

@@ -26,7 +26,7 @@ use std::alloc::{AllocError, Global};
 use value_core::refusal::ReadError;
 
 /// What a step runs.
-#[derive(Debug, Drop)]
+#[derive(Drop)]
 pub enum Runs {
     Program(Name8),
     /// The procedure that is called, and the symbols that the call gives, in their order.
@@ -37,14 +37,14 @@ pub enum Runs {
 }
 
 /// COND of one step of a procedure: `COND.step=`.
-#[derive(Debug, Drop)]
+#[derive(Drop)]
 pub struct StepCondition {
     pub step: Name8,
     pub condition: Condition,
 }
 
 /// An EXEC statement that was read.
-#[derive(Debug, Drop)]
+#[derive(Drop)]
 pub struct ExecCard {
     pub name: Option<Name8>,
     pub runs: Runs,

@@ -17,7 +17,7 @@ use plain::listed::Listed;
 use std::alloc::{AllocError, Global};
 
 /// What keywords say: COND of the step or of all steps of the procedure, where it is coded, and of single steps, in their order.
-#[derive(Debug, Drop)]
+#[derive(Drop)]
 pub(crate) struct Conditions {
     pub(crate) own: Option<Condition>,
     pub(crate) of_steps: Listed<StepCondition>,

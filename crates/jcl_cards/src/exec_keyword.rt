@@ -18,7 +18,7 @@ use operand_core::qualified::{head_len, head_of, is_qualified};
 use value_core::parm_fault::parm_fault;
 
 /// What a keyword of an EXEC statement is.
-#[derive(Clone, Copy, Debug, PartialEq, Eq)]
+#[derive(Clone, Copy, PartialEq, Eq)]
 pub(crate) enum ExecKeyword {
     Program,
     Procedure,

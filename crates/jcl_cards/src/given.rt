@@ -10,7 +10,7 @@ use crate::dd_value::coding;
 use operand_core::operand::Keyword;
 
 /// What stands on a DD.
-#[derive(Clone, Copy, Debug)]
+#[derive(Clone, Copy)]
 pub(crate) struct Given {
     /// `*`, DATA or DUMMY.
     pub(crate) word: bool,

@@ -23,7 +23,7 @@ use value_core::reads::{both, name as read_name, with_fault};
 use value_core::refusal::ReadError;
 
 /// A JOB statement that was read.
-#[derive(Debug, Drop)]
+#[derive(Drop)]
 pub struct JobCard {
     pub name: Name8,
     /// A to O.

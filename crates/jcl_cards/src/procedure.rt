@@ -22,7 +22,7 @@ use std::alloc::{AllocError, Global};
 use value_core::refusal::ReadError;
 
 /// A PROC statement that was read.
-#[derive(Debug, Drop)]
+#[derive(Drop)]
 pub struct ProcedureCard {
     /// None only of a procedure of the library.
     pub name: Option<Name8>,

@@ -17,7 +17,7 @@ use plain::short::Short;
 use std::alloc::{AllocError, Global};
 
 /// How many spellings the keywords of a statement have.
-#[derive(Clone, Copy, Debug)]
+#[derive(Clone, Copy)]
 pub(crate) enum Spelling {
     One,
     /// DSN and DSNAME, VOL and VOLUME.

@@ -8,7 +8,7 @@ use jname_core::name8::Name8;
 use plain::listed::Listed;
 
 /// A procedure in the stream. Its statements are read at each call.
-#[derive(Debug, Drop)]
+#[derive(Drop)]
 pub struct Procedure {
     pub name: Name8,
     /// Symbols and the values that they have where a call gives none.
@@ -18,14 +18,14 @@ pub struct Procedure {
 }
 
 /// An EXEC statement and the DD statements behind it.
-#[derive(Debug, Drop)]
+#[derive(Drop)]
 pub struct DeckStep {
     pub exec: ExecCard,
     pub dds: Listed<DdCard>,
 }
 
 /// A deck that was read.
-#[derive(Debug, Drop)]
+#[derive(Drop)]
 pub struct Deck {
     pub job: JobCard,
     /// At most 15. Of two of one name the first is called.

@@ -22,7 +22,7 @@ use std::alloc::{AllocError, Global};
 use value_core::refusal::ReadError;
 
 /// What was read of a deck so far.
-#[derive(Debug, Drop)]
+#[derive(Drop)]
 pub struct Place {
     pub job: Option<JobCard>,
     pub procedures: Vec<Procedure>,

@@ -10,7 +10,7 @@ use plain::listed::Listed;
 use std::alloc::{AllocError, Global};
 
 /// A name that a job holds, for itself alone or shared with others.
-#[derive(Clone, Copy, Debug)]
+#[derive(Clone, Copy)]
 pub struct HeldName {
     pub name: DsName,
     pub exclusive: bool,

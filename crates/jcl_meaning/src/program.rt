@@ -10,7 +10,7 @@ use plain::listed::Listed;
 use std::alloc::{AllocError, Global};
 
 /// What a program asks for. A program without an end ends with code 0, and nothing behind its end counts.
-#[derive(Clone, Copy, Debug)]
+#[derive(Clone, Copy)]
 pub enum Request {
     /// The next record of a DD.
     Get(Name8),
@@ -23,7 +23,7 @@ pub enum Request {
 }
 
 /// A request that moves a record.
-#[derive(Clone, Copy, Debug)]
+#[derive(Clone, Copy)]
 pub enum Move {
     /// GET.
     From(Name8),
@@ -32,7 +32,7 @@ pub enum Move {
 }
 
 /// A program. Of two of a name the first counts.
-#[derive(Debug, Drop)]
+#[derive(Drop)]
 pub struct SoloProgram {
     pub name: Name8,
     pub requests: Listed<Request>,

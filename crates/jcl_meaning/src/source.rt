@@ -4,7 +4,7 @@ use jname_core::serial::Serial;
 use plain::listed::Listed;
 
 /// What a member of a concatenation has to read. Cards and sets have records and are read past; DUMMY and SYSOUT have none and are not.
-#[derive(Debug, Drop)]
+#[derive(Drop)]
 pub struct Source {
     pub records: Listed<Record>,
     pub read_past: bool,
@@ -13,7 +13,7 @@ pub struct Source {
 }
 
 /// Where a GET reads: the member, from 0, the record in it, the record there, and the volume of its set.
-#[derive(Clone, Copy, Debug)]
+#[derive(Clone, Copy)]
 pub struct FoundRecord {
     pub member: usize,
     pub position: usize,

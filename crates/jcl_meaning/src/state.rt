@@ -13,7 +13,7 @@ use plain::listed::Listed;
 use std::alloc::{AllocError, Global};
 
 /// A set that was passed and not yet received. (DISP parameter, PASS)
-#[derive(Clone, Copy, Debug)]
+#[derive(Clone, Copy)]
 pub struct Passed {
     pub key: Key,
     pub serial: Serial,
@@ -29,14 +29,14 @@ pub struct Passed {
 }
 
 /// How a step ended, by a code or an ABEND.
-#[derive(Clone, Copy, Debug)]
+#[derive(Clone, Copy)]
 pub struct Ended {
     pub step: usize,
     pub outcome: Outcome,
 }
 
 /// A set that a DD took.
-#[derive(Clone, Copy, Debug)]
+#[derive(Clone, Copy)]
 pub struct TakenSet {
     pub key: Key,
     pub serial: Serial,
@@ -49,7 +49,7 @@ pub struct TakenSet {
 }
 
 /// A DD of the step at hand, once it is taken.
-#[derive(Clone, Debug, Drop)]
+#[derive(Clone, Drop)]
 pub struct DdState {
     pub number: usize,
     pub name: Option<Name8>,
@@ -65,7 +65,7 @@ pub struct DdState {
 }
 
 /// What is due at a device's end.
-#[derive(Clone, Copy, Debug)]
+#[derive(Clone, Copy)]
 pub enum Due {
     /// The record that a GET reads.
     Data {
@@ -81,7 +81,7 @@ pub enum Due {
 }
 
 /// The volume on which a DD's set was taken.
-#[derive(Clone, Copy, Debug)]
+#[derive(Clone, Copy)]
 pub struct DdVolume {
     pub step: usize,
     pub dd: usize,
@@ -89,7 +89,7 @@ pub struct DdVolume {
 }
 
 /// The records of a SYSOUT DD whose step is over.
-#[derive(Debug, Drop)]
+#[derive(Drop)]
 pub struct Output {
     pub step: usize,
     pub dd: usize,
@@ -98,7 +98,7 @@ pub struct Output {
 }
 
 /// What is a job's own.
-#[derive(Debug, Drop)]
+#[derive(Drop)]
 pub struct Own {
     /// The passed sets, in the order of passing.
     pub passed: Listed<Passed>,
@@ -138,7 +138,7 @@ pub fn nothing_own(alloc: Global) -> Own
 }
 
 /// A DD on a volume.
-#[derive(Clone, Copy, Debug)]
+#[derive(Clone, Copy)]
 pub struct Place {
     pub step: usize,
     pub dd: usize,
@@ -146,14 +146,14 @@ pub struct Place {
 }
 
 /// What a key means, by what admission found.
-#[derive(Clone, Copy, Debug)]
+#[derive(Clone, Copy)]
 pub enum Resolution {
     Means(Key),
     Fails(Fault),
 }
 
 /// What the key of a DD means, from admission on.
-#[derive(Clone, Copy, Debug)]
+#[derive(Clone, Copy)]
 pub struct KeyMeaning {
     pub step: usize,
     pub dd: usize,
@@ -161,7 +161,7 @@ pub struct KeyMeaning {
 }
 
 /// What a disposition changes.
-#[derive(Clone, Copy, Debug, PartialEq, Eq)]
+#[derive(Clone, Copy, PartialEq, Eq)]
 pub enum Change {
     Nothing,
     Scratch,
@@ -172,7 +172,7 @@ pub enum Change {
 }
 
 /// What a disposition does: its word, what it changes, and whether the set is passed.
-#[derive(Clone, Copy, Debug, PartialEq, Eq)]
+#[derive(Clone, Copy, PartialEq, Eq)]
 pub struct Disposed {
     pub word: DispWord,
     pub change: Change,

@@ -10,7 +10,7 @@ use plain::listed::Listed;
 use std::alloc::{AllocError, Global};
 
 /// A set on a volume: its tracks, the day (from 1900/001 as 0) before which it is not to be deleted, and its records.
-#[derive(Clone, Debug, Drop)]
+#[derive(Clone, Drop)]
 pub struct DataSet {
     pub tracks: u64,
     pub expires: Option<u32>,
@@ -18,7 +18,7 @@ pub struct DataSet {
 }
 
 /// A set of a store, by its volume and its key.
-#[derive(Clone, Debug, Drop)]
+#[derive(Clone, Drop)]
 pub struct SoloSet {
     pub serial: Serial,
     pub key: Key,
@@ -26,14 +26,14 @@ pub struct SoloSet {
 }
 
 /// An entry of a store's catalog.
-#[derive(Clone, Debug, Drop)]
+#[derive(Clone, Drop)]
 pub struct SoloEntry {
     pub name: DsName,
     pub entry: CatEntry,
 }
 
 /// Volumes as configured, sets and catalog. Of two sets or entries in one place the first counts.
-#[derive(Debug, Drop)]
+#[derive(Drop)]
 pub struct SoloStore {
     pub volumes: Listed<Serial>,
     pub sets: Listed<SoloSet>,

@@ -4,7 +4,7 @@ use jcl_plan::fault::Fault;
 use jname_core::serial::Serial;
 
 /// The volume that VOL names.
-#[derive(Clone, Copy, Debug)]
+#[derive(Clone, Copy)]
 pub enum Where {
     /// VOL is not coded.
     Anywhere,
@@ -14,7 +14,7 @@ pub enum Where {
 }
 
 /// What a DD goes for.
-#[derive(Clone, Copy, Debug)]
+#[derive(Clone, Copy)]
 pub enum Target {
     /// A set to be made, on a volume if there is one.
     Makes(Option<Serial>),
@@ -25,7 +25,7 @@ pub enum Target {
 }
 
 /// How a set was taken.
-#[derive(Clone, Copy, Debug, PartialEq, Eq)]
+#[derive(Clone, Copy, PartialEq, Eq)]
 pub enum How {
     Made,
     Found,
@@ -35,7 +35,7 @@ pub enum How {
 }
 
 /// What taking a set decides.
-#[derive(Clone, Copy, Debug)]
+#[derive(Clone, Copy)]
 pub enum Decision {
     Refuses(Fault),
     Takes(Serial, How),

@@ -9,7 +9,7 @@ use jname_core::serial::Serial;
 use plain::listed::Listed;
 
 /// A job's line without its number. Steps and DDs count from 1; a step or a DD without a name is shown as `-`.
-#[derive(Debug, Drop)]
+#[derive(Drop)]
 pub enum JobLine {
     /// Taken into the queue.
     Read {
@@ -110,7 +110,7 @@ pub enum JobLine {
 }
 
 /// What a writer writes of a job.
-#[derive(Debug, Drop)]
+#[derive(Drop)]
 pub enum Written {
     /// A line of its listing.
     Line(JobLine),
@@ -119,7 +119,7 @@ pub enum Written {
 }
 
 /// A line of the listing.
-#[derive(Debug, Drop)]
+#[derive(Drop)]
 pub enum Entry {
     /// A job's line, by the job's number.
     Job(u16, JobLine),

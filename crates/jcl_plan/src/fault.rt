@@ -5,7 +5,7 @@ ghost use Rattle.jcl_plan.specs.RefusalNumbers.{event_number, number_of, queue_n
 use thiserror::Error;
 
 /// A fault of a job.
-#[derive(Clone, Copy, Debug, PartialEq, Eq)]
+#[derive(Clone, Copy, PartialEq, Eq)]
 pub enum Fault {
     /// A set is missing.
     F1,
@@ -201,7 +201,7 @@ impl EventFault {
 }
 
 /// Why a job, an event or a chain of records was refused: its letter and its number, as in `P11`.
-#[derive(Clone, Copy, Debug, PartialEq, Eq)]
+#[derive(Clone, Copy, PartialEq, Eq)]
 pub enum Cause {
     /// Cards.
     C(u8),

@@ -7,7 +7,7 @@ use std::marker::Model;
 pub const GREATEST_CODE: u16 = 4095;
 
 /// A completion code, or the code of a test: 0 to 4095. (COND parameter)
-#[derive(Clone, Copy, Debug, PartialEq, Eq, PartialOrd, Ord)]
+#[derive(Clone, Copy, PartialEq, Eq, PartialOrd, Ord)]
 pub struct Code {
     value: u16,
 }
@@ -52,7 +52,7 @@ impl Code {
 }
 
 /// What ends a step abnormally, by its completion code.
-#[derive(Clone, Copy, Debug, PartialEq, Eq)]
+#[derive(Clone, Copy, PartialEq, Eq)]
 pub enum Abend {
     /// The job was cancelled.
     S222,
@@ -71,7 +71,7 @@ pub enum Abend {
 }
 
 /// How a step came out. (COND parameter)
-#[derive(Clone, Copy, Debug, PartialEq, Eq)]
+#[derive(Clone, Copy, PartialEq, Eq)]
 pub enum Outcome {
     Code(Code),
     Abend(Abend),
@@ -80,7 +80,7 @@ pub enum Outcome {
 }
 
 /// What becomes of a step. (COND parameter)
-#[derive(Clone, Copy, Debug, PartialEq, Eq)]
+#[derive(Clone, Copy, PartialEq, Eq)]
 pub enum Fate {
     Run,
     Bypassed,

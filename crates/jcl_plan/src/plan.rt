@@ -17,7 +17,7 @@ pub type Record = [u8; 80];
 pub const RECORDS_A_TRACK: usize = 32;
 
 /// How a test compares its code with a completion code. (COND parameter)
-#[derive(Clone, Copy, Debug, PartialEq, Eq)]
+#[derive(Clone, Copy, PartialEq, Eq)]
 pub enum Operator {
     Gt,
     Ge,
@@ -29,7 +29,7 @@ pub enum Operator {
 
 /// A test of completion codes: of one step, counted from 1, or of each step that ended by a code. A test of the JOB statement names
 /// no step. (COND parameter)
-#[derive(Clone, Copy, Debug)]
+#[derive(Clone, Copy)]
 pub struct Test {
     pub code: Code,
     pub operator: Operator,
@@ -48,7 +48,7 @@ impl Default for Test {
 }
 
 /// Whether a step runs after an ABEND. (COND parameter)
-#[derive(Clone, Copy, Debug, PartialEq, Eq)]
+#[derive(Clone, Copy, PartialEq, Eq)]
 pub enum AfterAbend {
     /// It does not.
     Unsaid,
@@ -59,7 +59,7 @@ pub enum AfterAbend {
 }
 
 /// Whether a set is to be made or is there. (DISP parameter)
-#[derive(Clone, Copy, Debug, PartialEq, Eq)]
+#[derive(Clone, Copy, PartialEq, Eq)]
 pub enum Status {
     New,
     Old,
@@ -68,7 +68,7 @@ pub enum Status {
 }
 
 /// What becomes of a set at the step's end. (DISP parameter)
-#[derive(Clone, Copy, Debug, PartialEq, Eq)]
+#[derive(Clone, Copy, PartialEq, Eq)]
 pub enum Word {
     Delete,
     Keep,
@@ -78,7 +78,7 @@ pub enum Word {
 }
 
 /// What becomes of it after an ABEND. (DISP parameter)
-#[derive(Clone, Copy, Debug, PartialEq, Eq)]
+#[derive(Clone, Copy, PartialEq, Eq)]
 pub enum ConditionalWord {
     Delete,
     Keep,
@@ -87,7 +87,7 @@ pub enum ConditionalWord {
 }
 
 /// The way to a set's volume. Steps and DDs count from 1. (VOLUME parameter)
-#[derive(Clone, Copy, Debug)]
+#[derive(Clone, Copy)]
 pub enum VolumePlan {
     NotCoded,
     Serial(Serial),
@@ -98,7 +98,7 @@ pub enum VolumePlan {
 }
 
 /// What a set that is made gets, in tracks. (SPACE parameter)
-#[derive(Clone, Copy, Debug, PartialEq, Eq)]
+#[derive(Clone, Copy, PartialEq, Eq)]
 pub struct Space {
     pub primary: u16,
     pub secondary: u16,
@@ -107,7 +107,7 @@ pub struct Space {
 }
 
 /// Before which day a set that is made is not to be deleted. Days count from 1900/001 as 0. (LABEL parameter)
-#[derive(Clone, Copy, Debug, PartialEq, Eq)]
+#[derive(Clone, Copy, PartialEq, Eq)]
 pub enum Expiry {
     NotCoded,
     Day(Day),
@@ -116,7 +116,7 @@ pub enum Expiry {
 }
 
 /// A DD for a set. (DD statement)
-#[derive(Clone, Copy, Debug)]
+#[derive(Clone, Copy)]
 pub struct SetPlan {
     pub key: Key,
     pub status: Status,
@@ -130,7 +130,7 @@ pub struct SetPlan {
 }
 
 /// What a DD is. (DD statement)
-#[derive(Debug, Drop)]
+#[derive(Drop)]
 pub enum DdKind {
     /// Output of this class.
     Sysout(u8),
@@ -141,14 +141,14 @@ pub enum DdKind {
 }
 
 /// A DD. One without a name continues the concatenation of the one before. (DD statement)
-#[derive(Debug, Drop)]
+#[derive(Drop)]
 pub struct DdPlan {
     pub name: Option<Name8>,
     pub kind: DdKind,
 }
 
 /// A step. (EXEC statement)
-#[derive(Debug, Drop)]
+#[derive(Drop)]
 pub struct StepPlan {
     pub name: Option<Name8>,
     /// The name of the procedure's step, where a procedure brought it.
@@ -170,7 +170,7 @@ pub fn no_tests() -> Tests
 }
 
 /// A job. (JOB statement)
-#[derive(Debug, Drop)]
+#[derive(Drop)]
 pub struct JobPlan {
     pub name: Name8,
     /// A to O.

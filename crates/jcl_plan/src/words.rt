@@ -2,7 +2,7 @@
 use jname_core::serial::Serial;
 
 /// What taking a DD did.
-#[derive(Clone, Copy, Debug)]
+#[derive(Clone, Copy)]
 pub enum TakeWord {
     Made(Serial),
     Found(Serial),
@@ -15,7 +15,7 @@ pub enum TakeWord {
 }
 
 /// What a disposition did.
-#[derive(Clone, Copy, Debug, PartialEq, Eq)]
+#[derive(Clone, Copy, PartialEq, Eq)]
 pub enum DispWord {
     Kept,
     Deleted,
@@ -37,7 +37,7 @@ pub enum DispWord {
 }
 
 /// What became of a DD that was given back.
-#[derive(Clone, Copy, Debug, PartialEq, Eq)]
+#[derive(Clone, Copy, PartialEq, Eq)]
 pub enum BackWord {
     Deleted,
     Kept,

@@ -38,7 +38,7 @@ use std::alloc::{AllocError, Global};
 use value_core::refusal::ReadError;
 
 /// A call of a procedure: what is the same for all its steps.
-#[derive(Clone, Copy, Debug)]
+#[derive(Clone, Copy)]
 pub struct Caller<'a> {
     /// The name on the EXEC statement that calls.
     pub name: Option<Name8>,
@@ -51,7 +51,7 @@ pub struct Caller<'a> {
 }
 
 /// The steps so far.
-#[derive(Debug, Drop)]
+#[derive(Drop)]
 struct Place {
     /// A JOBLIB stands before the first step.
     job_library: bool,

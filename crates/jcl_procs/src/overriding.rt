@@ -20,7 +20,7 @@ use std::mem::replace;
 use value_core::refusal::ReadError;
 
 /// Where the overrides are.
-#[derive(Debug, Drop)]
+#[derive(Drop)]
 struct Place {
     steps: Listed<FlatStep>,
     /// The step of the override before, from 0.
@@ -30,7 +30,7 @@ struct Place {
 }
 
 /// The DDs of a step, and the next member of the concatenation.
-#[derive(Debug, Drop)]
+#[derive(Drop)]
 struct Members {
     dds: Listed<DdCard>,
     member: usize,

@@ -5,7 +5,7 @@ use list_values::condition::Condition;
 use plain::listed::Listed;
 
 /// A step of the job: an EXEC statement of the deck, or one of a procedure that it calls.
-#[derive(Debug, Drop)]
+#[derive(Drop)]
 pub struct FlatStep {
     /// The name on the deck's EXEC statement.
     pub name: Option<Name8>,

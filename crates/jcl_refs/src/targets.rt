@@ -13,7 +13,7 @@ use jname_core::name8::Name8;
 use value_core::reference::{DdReference, StepReference};
 
 /// A DD by its place: its step and its number in that, each from 1.
-#[derive(Clone, Copy, Debug, PartialEq, Eq)]
+#[derive(Clone, Copy, PartialEq, Eq)]
 pub struct Target {
     pub step: usize,
     pub dd: usize,

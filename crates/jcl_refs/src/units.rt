@@ -8,7 +8,7 @@ use std::collections::BTreeMap;
 use std::marker::Model;
 
 /// The names of units in the order of the configuration. They count from 1.
-#[derive(Debug, Drop)]
+#[derive(Drop)]
 pub struct UnitNames {
     names: Vec<UnitName>,
     numbers: BTreeMap<UnitName, u16>,

@@ -18,7 +18,7 @@ pub const MOST_CHARACTERS: usize = 44;
 pub const MOST_OF_A_BASE: usize = 35;
 
 /// Components joined by periods: the name of a permanent data set, or the base of one that has the form of a generation.
-#[derive(Clone, Copy, Debug, PartialEq, Eq, PartialOrd, Ord)]
+#[derive(Clone, Copy, PartialEq, Eq, PartialOrd, Ord)]
 pub struct DsName {
     text: Short<44>,
 }

@@ -3,7 +3,7 @@ use crate::ds_name::DsName;
 use crate::name8::Name8;
 
 /// Which way a relative number counts from the newest generation. (Generation data sets)
-#[derive(Clone, Copy, Debug, PartialEq, Eq, PartialOrd, Ord)]
+#[derive(Clone, Copy, PartialEq, Eq, PartialOrd, Ord)]
 pub enum Sign {
     /// `+n` is n after the newest; `+0`, `-0` and `0` are the newest.
     Plus,
@@ -12,7 +12,7 @@ pub enum Sign {
 }
 
 /// The data set that a DD names. (DSNAME parameter)
-#[derive(Clone, Copy, Debug, PartialEq, Eq, PartialOrd, Ord)]
+#[derive(Clone, Copy, PartialEq, Eq, PartialOrd, Ord)]
 pub enum Key {
     /// A permanent set, which the form of its name may make a generation.
     Named(DsName),

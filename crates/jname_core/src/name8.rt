@@ -90,7 +90,7 @@ fn unit_name_fault(text: &[u8]) -> Option<NameFault>
 }
 
 /// A name of a job, a step, a DD, a program or a temporary set.
-#[derive(Clone, Copy, Debug, PartialEq, Eq, PartialOrd, Ord)]
+#[derive(Clone, Copy, PartialEq, Eq, PartialOrd, Ord)]
 pub struct Name8 {
     text: Short<8>,
 }
@@ -131,7 +131,7 @@ impl Name8 {
 }
 
 /// The name of a list of volumes, which may begin with a digit.
-#[derive(Clone, Copy, Debug, PartialEq, Eq, PartialOrd, Ord)]
+#[derive(Clone, Copy, PartialEq, Eq, PartialOrd, Ord)]
 pub struct UnitName {
     name: Short<8>,
 }

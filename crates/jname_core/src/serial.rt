@@ -8,7 +8,7 @@ use plain::short::Short;
 use std::marker::Model;
 
 /// A volume's serial: one to six letters, digits, `#`, `@`, `$` or hyphens. (VOLUME parameter)
-#[derive(Clone, Copy, Debug, PartialEq, Eq, PartialOrd, Ord)]
+#[derive(Clone, Copy, PartialEq, Eq, PartialOrd, Ord)]
 pub struct Serial {
     text: Short<6>,
 }

@@ -7,7 +7,7 @@ use jcl_plan::plan::{AfterAbend, Operator};
 use value_core::reference::StepReference;
 
 /// A test of the steps that ended by a code, or of one of them.
-#[derive(Clone, Copy, Debug)]
+#[derive(Clone, Copy)]
 pub struct CodedTest {
     pub code: Code,
     pub operator: Operator,
@@ -29,7 +29,7 @@ impl Default for CodedTest {
 pub type CodedTests = ArrayVec<CodedTest, 8>;
 
 /// What COND says. On a JOB statement no test names a step, and neither EVEN nor ONLY is known.
-#[derive(Debug, Drop)]
+#[derive(Drop)]
 pub struct Condition {
     pub tests: CodedTests,
     pub after_abend: AfterAbend,

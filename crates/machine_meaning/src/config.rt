@@ -17,21 +17,21 @@ pub const MOST_UNITS: usize = 65_535;
 pub const LAST_INITIATOR: u16 = 15;
 
 /// A unit name, and its volumes in order.
-#[derive(Debug, Drop)]
+#[derive(Drop)]
 pub struct ConfiguredUnit {
     pub name: UnitName,
     pub serials: Listed<Serial>,
 }
 
 /// An initiator, and the classes that it selects from, in their order.
-#[derive(Clone, Copy, Debug)]
+#[derive(Clone, Copy)]
 pub struct ConfiguredInitiator {
     pub number: u8,
     pub classes: Short<8>,
 }
 
 /// Why a statement of the configuration is refused. It changes nothing.
-#[derive(Clone, Copy, Debug, PartialEq, Eq)]
+#[derive(Clone, Copy, PartialEq, Eq)]
 pub enum ConfigFault {
     BadValue,
     DefinedTwice,

@@ -9,7 +9,7 @@ pub const MOST_EVENTS: u16 = 65_535;
 pub const MOST_JOBS: u16 = 9_999;
 
 /// Lines of one class and one job for a writer.
-#[derive(Debug, Drop)]
+#[derive(Drop)]
 pub struct SpoolSet {
     pub class: u8,
     pub job: u16,

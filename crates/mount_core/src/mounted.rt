@@ -22,7 +22,7 @@ use vtoc_core::fault::VolumeFault;
 use vtoc_core::volume::{Volume, volumes_are_sound};
 
 /// A volume with its serial, and the tracks that are kept on it for sets still to be made.
-#[derive(Debug, Drop)]
+#[derive(Drop)]
 pub struct Mounted {
     serial: Serial,
     volume: Volume,

@@ -4,7 +4,7 @@ use extent_core::extent::Extent;
 use std::marker::Model;
 
 /// The set that a DD of a step of a job is to make. In order by job, step and DD.
-#[derive(Clone, Copy, Debug, PartialEq, Eq, PartialOrd, Ord)]
+#[derive(Clone, Copy, PartialEq, Eq, PartialOrd, Ord)]
 pub struct KeptPlace {
     pub job: u16,
     pub step: usize,
@@ -12,7 +12,7 @@ pub struct KeptPlace {
 }
 
 /// The tracks that are kept for one set: five extents at most.
-#[derive(Debug, Drop)]
+#[derive(Drop)]
 pub(crate) struct KeptExtents {
     pub(crate) extents: ArrayVec<Extent, 5>,
 }

@@ -22,7 +22,7 @@ pub const MISUSE: u8 = 2;
 pub const WANT_OF_MEMORY: u8 = 3;
 
 /// What is said on standard error.
-#[derive(Clone, Copy, Debug, PartialEq, Eq)]
+#[derive(Clone, Copy, PartialEq, Eq)]
 pub enum Message {
     Nothing,
     /// A fault of the session by its number, n of `Sn`, and its line, which counts from 1.

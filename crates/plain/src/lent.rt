@@ -4,7 +4,7 @@ ghost use Rattle.std.specs.Prelude.{◌≡◌};
 use std::marker::Model;
 
 /// Bytes that another text lends, which a contract sees as their list.
-#[derive(Debug, Drop)]
+#[derive(Drop)]
 pub struct Lent<'a> {
     bytes: &'a [u8],
 }

@@ -8,7 +8,7 @@ use std::cmp::Ordering;
 use std::marker::Model;
 
 /// At most `N` bytes that a contract sees as their list. It never allocates.
-#[derive(Clone, Copy, Debug)]
+#[derive(Clone, Copy)]
 pub struct Short<const N: usize> {
     bytes: [u8; N],
     len: usize,

@@ -11,14 +11,14 @@ use std::collections::BTreeMap;
 use std::marker::Model;
 
 /// A procedure of the library, by its name: its lines.
-#[derive(Debug, Drop)]
+#[derive(Drop)]
 pub struct LibraryProcedure {
     pub name: Name8,
     pub lines: Listed<Text>,
 }
 
 /// The library in the order in which its procedures were added; one is found by its name without going through them all.
-#[derive(Debug, Drop)]
+#[derive(Drop)]
 pub struct ProcLibrary {
     list: Vec<LibraryProcedure>,
     places: BTreeMap<Name8, usize>,

@@ -8,7 +8,7 @@ use jcl_plan::outcome::Outcome;
 use std::marker::Model;
 
 /// A program, and how many records it moves: each of so many requests is a move, and the next one is its end.
-#[derive(Debug, Drop)]
+#[derive(Drop)]
 pub(crate) struct CountedProgram {
     program: SoloProgram,
     moves: usize,

@@ -13,7 +13,7 @@ use std::marker::Model;
 
 /// The programs in the order in which they were added; one is found by its name without going through them all, and so is each record
 /// that it moves.
-#[derive(Debug, Drop)]
+#[derive(Drop)]
 pub struct ProgramLibrary {
     list: Vec<CountedProgram>,
     places: BTreeMap<Name8, usize>,

@@ -11,7 +11,7 @@ use std::marker::Model;
 pub const MOST_OPERATIONS: usize = 16;
 
 /// An operation under way on a volume, from its start to the device's end, and the job that waits for it, if one still does.
-#[derive(Clone, Copy, Debug, PartialEq, Eq)]
+#[derive(Clone, Copy, PartialEq, Eq)]
 pub struct Operation {
     pub serial: Serial,
     pub owner: Option<u16>,
@@ -31,7 +31,7 @@ impl Default for Operation {
 }
 
 /// The operations in the order in which they were started, on each volume one at most.
-#[derive(Debug, Drop)]
+#[derive(Drop)]
 pub struct Units {
     operations: ArrayVec<Operation, MOST_OPERATIONS>,
 }

@@ -9,7 +9,7 @@ use std::collections::{BTreeMap, BTreeSet};
 use std::marker::Model;
 
 /// A job that waits, by its number, its class and its priority.
-#[derive(Clone, Copy, Debug, PartialEq, Eq)]
+#[derive(Clone, Copy, PartialEq, Eq)]
 pub struct Queued {
     pub job: u16,
     /// The number of its first record.
@@ -20,7 +20,7 @@ pub struct Queued {
 
 /// A job by its turn: those of a class together, the highest priority first, and of these the one that was read first.
 /// The number of its first record goes along.
-#[derive(Clone, Copy, Debug, PartialEq, Eq, PartialOrd, Ord)]
+#[derive(Clone, Copy, PartialEq, Eq, PartialOrd, Ord)]
 struct Rank {
     class: u8,
     priority: Reverse<u8>,
@@ -29,7 +29,7 @@ struct Rank {
 }
 
 /// The jobs that wait, in the order of reading, which is that of their numbers.
-#[derive(Debug, Drop)]
+#[derive(Drop)]
 pub struct JobQueue {
     jobs: BTreeMap<u16, Queued>,
     ranks: BTreeSet<Rank>,

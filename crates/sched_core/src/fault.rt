@@ -3,7 +3,7 @@ use jcl_plan::fault::Cause;
 use std::alloc::AllocError;
 
 /// Why an event was not done.
-#[derive(Clone, Copy, Debug, PartialEq, Eq)]
+#[derive(Clone, Copy, PartialEq, Eq)]
 pub enum ApplyFault {
     /// The event changes the count of events alone.
     Refused(Cause),

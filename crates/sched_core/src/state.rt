@@ -6,7 +6,6 @@ use machine_core::parts::Parts;
 use plain::short::Short;
 
 /// An initiator, the classes that it selects from, in their order, and its job.
-#[derive(Debug)]
 pub struct Initiator {
     pub number: u8,
     pub classes: Short<8>,

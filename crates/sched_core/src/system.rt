@@ -32,7 +32,7 @@ use std::alloc::{AllocError, Global};
 use std::marker::Model;
 
 /// What came of a list of events.
-#[derive(Debug, Drop)]
+#[derive(Drop)]
 pub struct Driven {
     /// The lines of each event that was done.
     pub entries: Vec<Listed<Entry>>,

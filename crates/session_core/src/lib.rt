@@ -27,14 +27,14 @@ use thiserror::Error;
 pub const MOST_BYTES: usize = 1_048_576;
 
 /// What becomes of a job that is at risk.
-#[derive(Clone, Copy, Debug, PartialEq, Eq)]
+#[derive(Clone, Copy, PartialEq, Eq)]
 pub enum RiskChoice {
     Run,
     Refuse,
 }
 
 /// How a session is run. Nothing asks for it yet: no job is analysed.
-#[derive(Clone, Copy, Debug, PartialEq, Eq)]
+#[derive(Clone, Copy, PartialEq, Eq)]
 pub struct Options {
     pub risk: RiskChoice,
     /// The most views of the verifier.
@@ -42,7 +42,7 @@ pub struct Options {
 }
 
 /// All of the text was read and run.
-#[derive(Clone, Copy, Debug, PartialEq, Eq)]
+#[derive(Clone, Copy, PartialEq, Eq)]
 pub struct SessionEnd;
 
 /// Why a session ends before its text does. Lines count from 1.

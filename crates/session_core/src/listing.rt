@@ -23,7 +23,7 @@ use std::io::Write;
 pub(crate) const MOST_HELD: usize = 65_536;
 
 /// Where the lines of a statement begin in the held text, and its own first line.
-#[derive(Clone, Copy, Debug)]
+#[derive(Clone, Copy)]
 pub(crate) struct Mark {
     pub(crate) line: usize,
     pub(crate) start: usize,

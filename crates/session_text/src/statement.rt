@@ -5,7 +5,7 @@ use input_core::statement::{ConfigStatement, SetStatement};
 use jname_core::name8::Name8;
 
 /// How a text ended: whole, or cut where it was too long or could not be read further.
-#[derive(Clone, Copy, Debug, PartialEq, Eq)]
+#[derive(Clone, Copy, PartialEq, Eq)]
 pub enum Ending {
     Whole,
     TooLong,
@@ -13,7 +13,7 @@ pub enum Ending {
 }
 
 /// What a statement says.
-#[derive(Debug, Drop)]
+#[derive(Drop)]
 pub enum Says<'a> {
     /// Configuration, and whether its block has an END; what is no block lacks none.
     Config {
@@ -27,14 +27,14 @@ pub enum Says<'a> {
 }
 
 /// A statement, and its first line, which counts from 1.
-#[derive(Debug, Drop)]
+#[derive(Drop)]
 pub struct Statement<'a> {
     pub line: usize,
     pub says: Says<'a>,
 }
 
 /// A block, by the line that opens it.
-#[derive(Debug, Drop)]
+#[derive(Drop)]
 pub enum Block {
     /// A deck that is read.
     Deck,
@@ -48,7 +48,7 @@ pub enum Block {
 }
 
 /// What a line outside a block says.
-#[derive(Debug, Drop)]
+#[derive(Drop)]
 pub enum LineSays<'a> {
     Blank,
     One(Says<'a>),

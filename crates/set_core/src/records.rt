@@ -12,7 +12,7 @@ use std::marker::Model;
 pub type DataRecord = [u8; 80];
 
 /// The records of a set.
-#[derive(Debug, Drop)]
+#[derive(Drop)]
 pub struct Records {
     records: Vec<DataRecord>,
 }

@@ -12,7 +12,7 @@ use std::collections::VecDeque;
 use std::marker::Model;
 
 /// What is left of a set: it lies as the job left it, and is taken from one after another.
-#[derive(Debug, Drop)]
+#[derive(Drop)]
 pub(crate) enum Rest {
     Listing(VecDeque<JobLine>),
     Output(VecDeque<Record>),
@@ -47,7 +47,7 @@ impl Rest {
 }
 
 /// A set, the lines of which are taken one after another.
-#[derive(Debug, Drop)]
+#[derive(Drop)]
 pub(crate) struct Queued {
     class: u8,
     job: u16,

@@ -14,7 +14,7 @@ use std::marker::Model;
 use std::mem::replace;
 
 /// The class of a set, the key under which it lies, and whether it is still there: it is written out else.
-#[derive(Clone, Copy, Debug)]
+#[derive(Clone, Copy)]
 struct Place {
     class: u8,
     key: usize,
@@ -25,7 +25,7 @@ struct Place {
 const CLASSES: usize = 256;
 
 /// Sets of lines, in the order in which their jobs ended.
-#[derive(Debug, Drop)]
+#[derive(Drop)]
 pub struct Spool {
     alloc: Global,
     sets: Slab<Queued>,

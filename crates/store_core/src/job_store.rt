@@ -19,7 +19,7 @@ use jname_core::serial::Serial;
 use std::alloc::AllocError;
 
 /// What is known of a set: its tracks, the day (from 1900/001 as 0) before which it is not to be deleted, and how many records it has.
-#[derive(Clone, Copy, Debug, PartialEq, Eq)]
+#[derive(Clone, Copy, PartialEq, Eq)]
 pub struct SetFacts {
     pub tracks: u64,
     pub expires: Option<u32>,
@@ -27,7 +27,7 @@ pub struct SetFacts {
 }
 
 /// Why a set did not get tracks. Nothing has changed.
-#[derive(Clone, Copy, Debug, PartialEq, Eq)]
+#[derive(Clone, Copy, PartialEq, Eq)]
 pub enum RoomFault {
     /// They are not granted.
     NotGranted,

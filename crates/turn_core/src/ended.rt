@@ -12,7 +12,7 @@ use plain::listed::Listed;
 use std::alloc::{AllocError, Global};
 
 /// What the end of a step changes of a job's own part, as it was before.
-#[derive(Debug, Drop)]
+#[derive(Drop)]
 pub(crate) struct BeforeEnd {
     passed: Listed<Passed>,
     over: Option<Outcome>,

@@ -3,7 +3,7 @@ use jcl_meaning::program::Move;
 use jcl_plan::plan::{DdPlan, StepPlan};
 
 /// Where a job is in its agenda. Steps, DDs and requests count from 0.
-#[derive(Clone, Copy, Debug, PartialEq, Eq)]
+#[derive(Clone, Copy, PartialEq, Eq)]
 pub enum Todo {
     /// The start of a step; behind the last step what its DDs passed.
     Start { step: usize },
@@ -20,7 +20,7 @@ pub enum Todo {
 }
 
 /// An action of a job's agenda, but for the last. Steps and DDs count from 1.
-#[derive(Clone, Copy, Debug)]
+#[derive(Clone, Copy)]
 pub(crate) enum Task<'a> {
     Start { n: usize, step: &'a StepPlan },
     Take { n: usize, dd: usize, d: &'a DdPlan },
@@ -32,7 +32,7 @@ pub(crate) enum Task<'a> {
 }
 
 /// What a job does at a place of its agenda.
-#[derive(Clone, Copy, Debug)]
+#[derive(Clone, Copy)]
 pub(crate) enum Next<'a> {
     /// An action, and the place behind it.
     Does(Task<'a>, Todo),

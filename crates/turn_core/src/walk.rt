@@ -15,14 +15,14 @@ use plain::listed::Listed;
 use std::alloc::Global;
 
 /// How far a job is: what it does next, its own part, and the lines of its listing so far.
-#[derive(Debug, Drop)]
+#[derive(Drop)]
 pub struct Walk {
     pub todo: Todo,
     pub course: Course,
 }
 
 /// What is to be done for a job whose turn wrote lines.
-#[derive(Clone, Copy, Debug)]
+#[derive(Clone, Copy)]
 pub struct Acted {
     /// Where it made a set.
     pub made: Option<Place>,
@@ -33,7 +33,7 @@ pub struct Acted {
 }
 
 /// What a turn came to.
-#[derive(Clone, Copy, Debug)]
+#[derive(Clone, Copy)]
 pub enum Turned {
     /// The job waits for a device.
     Waits,

@@ -13,7 +13,7 @@ use operand_core::fault::{earlier, name_fault, when};
 use operand_core::qualified::head_len;
 
 /// An earlier DD, by its name alone, with that of its step, or with those of the step that called a procedure and the procedure's step.
-#[derive(Clone, Copy, Debug, PartialEq, Eq)]
+#[derive(Clone, Copy, PartialEq, Eq)]
 pub enum DdReference {
     Dd(Name8),
     OfStep {
@@ -28,7 +28,7 @@ pub enum DdReference {
 }
 
 /// An earlier step, by its name, or by those of the step that called a procedure and the procedure's step.
-#[derive(Clone, Copy, Debug, PartialEq, Eq)]
+#[derive(Clone, Copy, PartialEq, Eq)]
 pub enum StepReference {
     Step(Name8),
     ProcedureStep { step: Name8, procedure_step: Name8 },

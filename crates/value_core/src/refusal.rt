@@ -3,7 +3,7 @@ use jcl_plan::fault::Cause;
 use std::alloc::AllocError;
 
 /// Why a value, a statement or a deck was not read.
-#[derive(Clone, Copy, Debug, PartialEq, Eq)]
+#[derive(Clone, Copy, PartialEq, Eq)]
 pub enum ReadError {
     /// The fault that is told: of a statement names before all others, then the lowest number.
     Refused(Cause),

@@ -6,7 +6,7 @@ use jname_core::key::Key;
 use jname_core::serial::Serial;
 
 /// What DSNAME names.
-#[derive(Clone, Copy, Debug, PartialEq, Eq)]
+#[derive(Clone, Copy, PartialEq, Eq)]
 pub enum SetName {
     /// NULLFILE, which is no data set.
     Null,
@@ -16,7 +16,7 @@ pub enum SetName {
 }
 
 /// The words of DISP.
-#[derive(Clone, Copy, Debug, PartialEq, Eq)]
+#[derive(Clone, Copy, PartialEq, Eq)]
 pub struct Disposition {
     pub status: Status,
     pub normal: Option<Word>,
@@ -24,7 +24,7 @@ pub struct Disposition {
 }
 
 /// The volume that VOLUME names.
-#[derive(Clone, Copy, Debug, PartialEq, Eq)]
+#[derive(Clone, Copy, PartialEq, Eq)]
 pub enum VolumeName {
     /// None: PRIVATE, RETAIN or counts alone.
     Any,

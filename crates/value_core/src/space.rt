@@ -24,7 +24,7 @@ const BYTES_A_TRACK: u64 = 7294;
 const TRACKS_A_CYLINDER: u64 = 20;
 
 /// What SPACE is asked in.
-#[derive(Clone, Copy, Debug, PartialEq, Eq)]
+#[derive(Clone, Copy, PartialEq, Eq)]
 pub enum SpaceUnit {
     Tracks,
     Cylinders,

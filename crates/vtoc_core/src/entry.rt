@@ -12,7 +12,7 @@ use std::marker::Model;
 
 /// Which set it is among all that stand on volumes. A temporary set is its job's. In order the named sets come first, by their names,
 /// then the temporary ones, by job and name, then those without a name, by job, step and DD.
-#[derive(Clone, Copy, Debug, PartialEq, Eq, PartialOrd, Ord)]
+#[derive(Clone, Copy, PartialEq, Eq, PartialOrd, Ord)]
 pub enum SetKey {
     Named(DsName),
     Temporary { job: u16, name: Name8 },
@@ -56,7 +56,7 @@ pub fn tracks_in(extents: &[Extent]) -> u32
 
 /// A set on a volume: its extents in order, sixteen at most, the day, counted from 1900/001 as 0, before which it is not to be deleted,
 /// and its records.
-#[derive(Debug, Drop)]
+#[derive(Drop)]
 pub struct SetEntry {
     pub extents: ArrayVec<Extent, 16>,
     pub expires: Option<u32>,
@@ -73,7 +73,6 @@ impl SetEntry {
 }
 
 /// Tracks set aside: five extents at most. It must be given back, made a set, or its extents be kept.
-#[derive(Debug)]
 pub struct ExtentList {
     pub(crate) extents: ArrayVec<Extent, 5>,
 }

@@ -88,7 +88,7 @@ fn change(
 }
 
 /// What each track is, of 4,000 at most, where they are free, and how many are of each kind.
-#[derive(Debug, Drop)]
+#[derive(Drop)]
 pub(crate) struct TrackTable {
     tracks: Vec<Track>,
     free: FreeExtents,

@@ -21,7 +21,7 @@ use std::collections::BTreeMap;
 use std::marker::Model;
 
 /// What a track is.
-#[derive(Clone, Copy, Debug, PartialEq, Eq)]
+#[derive(Clone, Copy, PartialEq, Eq)]
 pub enum Track {
     /// In no set, and set aside for none.
     Free,
@@ -34,7 +34,7 @@ pub enum Track {
 }
 
 /// How many tracks of a volume are of each kind.
-#[derive(Clone, Copy, Debug, PartialEq, Eq)]
+#[derive(Clone, Copy, PartialEq, Eq)]
 pub struct TrackCounts {
     pub free: usize,
     pub aside: usize,
@@ -43,7 +43,7 @@ pub struct TrackCounts {
 }
 
 /// A volume: what each track is, and its sets by their keys.
-#[derive(Debug, Drop)]
+#[derive(Drop)]
 pub struct Volume {
     tracks: TrackTable,
     sets: Sets,
