@@ -80,7 +80,7 @@ fn ask_of<S: JobStore>(
     ensures ok { OnOk result ((x : DdState) → IsHere course.old.own.dds here.now x → CarriedGrown (S.grants_growth job store.old)
         (growth_of step.now wants.now here.now dd.now (S.seen job store.old))
         (λ s. asks_of step.now wants.now here.now.d x dd.now s) (S.seen job store.old) course.old (S.seen job store.new) course.new) }
-    ensures err { OnErr result ((S.seen job store.new ≡ S.seen job store.old) × (course.new ≡ course.old)) }
+    ensures err { OnErr result ((store.new ≡ store.old) × (course.new ≡ course.old)) }
     ensures rest { S.rest job store.new ≡ S.rest job store.old }
 {
     match wants {
@@ -123,7 +123,7 @@ fn ask_at<S: JobStore>(
     ensures asked { IfOk result (λ asked. asked ≡ is_some (growth_at (Some d) step.now wants.now course.old.own.dds (S.seen job store.old))) }
     ensures ok { OnOk result (CarriedGrown (S.grants_growth job store.old) (growth_at (Some d) step.now wants.now course.old.own.dds (S.seen job store.old))
         (λ s. asks_at (Some d) step.now wants.now s) (S.seen job store.old) course.old (S.seen job store.new) course.new) }
-    ensures err { OnErr result ((S.seen job store.new ≡ S.seen job store.old) × (course.new ≡ course.old)) }
+    ensures err { OnErr result ((store.new ≡ store.old) × (course.new ≡ course.old)) }
     ensures rest { S.rest job store.new ≡ S.rest job store.old }
 {
     let Some(here) = here_at(course.own.dds.as_slice(), d) else {
@@ -151,7 +151,7 @@ pub fn ask<S: JobStore>(
     ensures ok { OnOk result (CarriedRequest cancelled (S.grants_growth job store.old)
         (growth_asked cancelled step.now wants.now course.old.own (S.seen job store.old))
         (λ s. asked step.now wants.now s) (S.seen job store.old) course.old (S.seen job store.new) course.new) }
-    ensures err { OnErr result ((S.seen job store.new ≡ S.seen job store.old) × (course.new ≡ course.old)) }
+    ensures err { OnErr result ((store.new ≡ store.old) × (course.new ≡ course.old)) }
     ensures rest { S.rest job store.new ≡ S.rest job store.old }
 {
     if !is_open(&course.own) {

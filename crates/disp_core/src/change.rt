@@ -255,7 +255,7 @@ fn catalog<S: JobStore>(
     serial: Serial,
 ) -> Result<(), AllocError>
     ensures ok { OnOk result (S.seen job store.new ≡ name_entered (S.seen job store.old) key.now serial) }
-    ensures err { OnErr result (S.seen job store.new ≡ S.seen job store.old) }
+    ensures err { OnErr result (store.new ≡ store.old) }
     ensures rest { S.rest job store.new ≡ S.rest job store.old }
 {
     match key {
@@ -276,7 +276,7 @@ pub fn change<S: JobStore>(
     date: Day,
 ) -> Result<(), AllocError>
     ensures ok { OnOk result (S.seen job store.new ≡ changed change (S.seen job store.old) key.now serial date) }
-    ensures err { OnErr result (S.seen job store.new ≡ S.seen job store.old) }
+    ensures err { OnErr result (store.new ≡ store.old) }
     ensures rest { S.rest job store.new ≡ S.rest job store.old }
 {
     match change {

@@ -63,7 +63,7 @@ fn say_and_change<S: JobStore>(
 ) -> Result<(), AllocError>
     ensures seen { OnOk result (S.seen job store.new ≡ tracks_released cuts key.now serial (changed what (S.seen job store.old) key.now serial date)) }
     ensures said { OnOk result (course.new ≡ record course.old { lines = course.old.lines ++ line ∷ [] }) }
-    ensures err { OnErr result ((S.seen job store.new ≡ S.seen job store.old) × (course.new ≡ course.old)) }
+    ensures err { OnErr result ((store.new ≡ store.old) × (course.new ≡ course.old)) }
     ensures rest { S.rest job store.new ≡ S.rest job store.old }
 {
     course.say(line)?;
@@ -119,7 +119,7 @@ fn set_disposed<S: JobStore>(
     disposed: Disposed,
 ) -> Result<Option<Fault>, AllocError>
     ensures ok { IfOk result (λ meets. Carried (λ s. set_disposed (fixed_by given.now) n dd name.now p.now t.now s disposed) (S.seen job store.old) course.old (S.seen job store.new) course.new meets []) }
-    ensures err { OnErr result ((S.seen job store.new ≡ S.seen job store.old) × (course.new ≡ course.old)) }
+    ensures err { OnErr result ((store.new ≡ store.old) × (course.new ≡ course.old)) }
     ensures rest { S.rest job store.new ≡ S.rest job store.old }
 {
     pass(&mut course.own.passed, disposed.passes, n, dd, t)?;
@@ -175,7 +175,7 @@ fn dispose_set<S: JobStore>(
     t: &TakenSet,
 ) -> Result<Option<Fault>, AllocError>
     ensures ok { IfOk result (λ meets. Carried (λ s. set_disposes (fixed_by given.now) n dd name.now p.now (Some t.now) s) (S.seen job store.old) course.old (S.seen job store.new) course.new meets []) }
-    ensures err { OnErr result ((S.seen job store.new ≡ S.seen job store.old) × (course.new ≡ course.old)) }
+    ensures err { OnErr result ((store.new ≡ store.old) × (course.new ≡ course.old)) }
     ensures rest { S.rest job store.new ≡ S.rest job store.old }
 {
     let word = word_at(&course.own.over, p, t);
@@ -249,7 +249,7 @@ fn dispose_taken<S: JobStore>(
     taken: &Option<TakenSet>,
 ) -> Result<Option<Fault>, AllocError>
     ensures ok { IfOk result (λ meets. Carried (λ s. set_disposes (fixed_by given.now) n dd name.now p.now taken.now s) (S.seen job store.old) course.old (S.seen job store.new) course.new meets []) }
-    ensures err { OnErr result ((S.seen job store.new ≡ S.seen job store.old) × (course.new ≡ course.old)) }
+    ensures err { OnErr result ((store.new ≡ store.old) × (course.new ≡ course.old)) }
     ensures rest { S.rest job store.new ≡ S.rest job store.old }
 {
     match taken {
@@ -280,7 +280,7 @@ fn dispose_at<S: JobStore>(
     x: DdState,
 ) -> Result<Option<Fault>, AllocError>
     ensures ok { IfOk result (λ meets. Carried (λ s. disposes_at (fixed_by given.now) n dd d.now.name d.now.kind x s) (S.seen job store.old) course.old (S.seen job store.new) course.new meets []) }
-    ensures err { OnErr result ((S.seen job store.new ≡ S.seen job store.old) × (course.new ≡ course.old)) }
+    ensures err { OnErr result ((store.new ≡ store.old) × (course.new ≡ course.old)) }
     ensures rest { S.rest job store.new ≡ S.rest job store.old }
 {
     match &d.kind {
@@ -303,7 +303,7 @@ pub fn dispose<S: JobStore>(
 ) -> Result<Option<Fault>, AllocError>
     requires { 0 < dd }
     ensures ok { IfOk result (λ meets. Carried (λ s. if_runs s.own.runs s (disposes (slice_get s.own.dds (dd - 1)) (fixed_by given.now) n dd d.now.name d.now.kind s)) (S.seen job store.old) course.old (S.seen job store.new) course.new meets []) }
-    ensures err { OnErr result ((S.seen job store.new ≡ S.seen job store.old) × (course.new ≡ course.old)) }
+    ensures err { OnErr result ((store.new ≡ store.old) × (course.new ≡ course.old)) }
     ensures rest { S.rest job store.new ≡ S.rest job store.old }
 {
     if !course.own.runs {
@@ -367,7 +367,7 @@ fn left_disposed<S: JobStore>(
     disposed: Disposed,
 ) -> Result<Option<Fault>, AllocError>
     ensures ok { IfOk result (λ meets. Carried (λ s. left_disposed (fixed_by given.now) n dd name.now q.now s disposed) (S.seen job store.old) course.old (S.seen job store.new) course.new meets []) }
-    ensures err { OnErr result ((S.seen job store.new ≡ S.seen job store.old) × (course.new ≡ course.old)) }
+    ensures err { OnErr result ((store.new ≡ store.old) × (course.new ≡ course.old)) }
     ensures rest { S.rest job store.new ≡ S.rest job store.old }
 {
     let line = JobLine::Left {
@@ -404,7 +404,7 @@ fn leave_set<S: JobStore>(
     q: &Passed,
 ) -> Result<Option<Fault>, AllocError>
     ensures ok { IfOk result (λ meets. Carried (λ s. leaves (fixed_by given.now) n dd name.now p.now (Some q.now) s) (S.seen job store.old) course.old (S.seen job store.new) course.new meets []) }
-    ensures err { OnErr result ((S.seen job store.new ≡ S.seen job store.old) × (course.new ≡ course.old)) }
+    ensures err { OnErr result ((store.new ≡ store.old) × (course.new ≡ course.old)) }
     ensures rest { S.rest job store.new ≡ S.rest job store.old }
 {
     let temporary = is_temporary(&q.key);
@@ -425,7 +425,7 @@ pub fn leave<S: JobStore>(
     d: &DdPlan,
 ) -> Result<Option<Fault>, AllocError>
     ensures ok { IfOk result (λ meets. Carried (λ s. left_at (fixed_by given.now) n dd d.now.name d.now.kind s) (S.seen job store.old) course.old (S.seen job store.new) course.new meets []) }
-    ensures err { OnErr result ((S.seen job store.new ≡ S.seen job store.old) × (course.new ≡ course.old)) }
+    ensures err { OnErr result ((store.new ≡ store.old) × (course.new ≡ course.old)) }
     ensures rest { S.rest job store.new ≡ S.rest job store.old }
 {
     let DdKind::Set(p) = &d.kind else {

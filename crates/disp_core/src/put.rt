@@ -166,7 +166,7 @@ fn put_grows<S: JobStore>(
 ) -> Result<(), AllocError>
     ensures seen { OnOk result (S.seen job store.new ≡ store_grown (S.grants_growth job store.old t.now.key t.now.serial secondary) wipes secondary (S.seen job store.old) t.now) }
     ensures course { OnOk result (course.new ≡ course_grown (S.grants_growth job store.old t.now.key t.now.serial secondary) course.old name.now text.now d t.now secondary) }
-    ensures err { OnErr result ((S.seen job store.new ≡ S.seen job store.old) × (course.new ≡ course.old)) }
+    ensures err { OnErr result ((store.new ≡ store.old) × (course.new ≡ course.old)) }
     ensures rest { S.rest job store.new ≡ S.rest job store.old }
 {
     grown_and_emptied_in_either_order();
@@ -212,7 +212,7 @@ fn put_in<S: JobStore>(
     ensures ok { OnOk result ((x : DdState) → IsHere course.old.own.dds here.now x → CarriedGrown (S.grants_growth job store.old)
         (growth_in p.now here.now.written (Some t.now) (S.seen job store.old))
         (λ s. puts_in name.now text.now here.now.d x p.now (Some t.now) s) (S.seen job store.old) course.old (S.seen job store.new) course.new) }
-    ensures err { OnErr result ((S.seen job store.new ≡ S.seen job store.old) × (course.new ≡ course.old)) }
+    ensures err { OnErr result ((store.new ≡ store.old) × (course.new ≡ course.old)) }
     ensures rest { S.rest job store.new ≡ S.rest job store.old }
 {
     let wipes = empties(p.status, here.written);
@@ -273,7 +273,7 @@ pub(crate) fn put<S: JobStore>(
     ensures ok { OnOk result ((x : DdState) → IsHere course.old.own.dds here.now x → CarriedGrown (S.grants_growth job store.old)
         (growth_of_kind here.now kind.now (S.seen job store.old))
         (λ s. puts name.now text.now here.now.d x kind.now s) (S.seen job store.old) course.old (S.seen job store.new) course.new) }
-    ensures err { OnErr result ((S.seen job store.new ≡ S.seen job store.old) × (course.new ≡ course.old)) }
+    ensures err { OnErr result ((store.new ≡ store.old) × (course.new ≡ course.old)) }
     ensures rest { S.rest job store.new ≡ S.rest job store.old }
 {
     match kind {

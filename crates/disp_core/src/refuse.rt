@@ -109,7 +109,7 @@ pub(crate) fn refuse<S: JobStore>(
     fault: Fault,
 ) -> Result<(), AllocError>
     ensures ok { OnOk result (Carried (λ s. refused n dd fault s) (S.seen job store.old) course.old (S.seen job store.new) course.new (Some fault) []) }
-    ensures err { OnErr result ((S.seen job store.new ≡ S.seen job store.old) × (course.new ≡ course.old)) }
+    ensures err { OnErr result ((store.new ≡ store.old) × (course.new ≡ course.old)) }
     ensures rest { S.rest job store.new ≡ S.rest job store.old }
 {
     say_refusal(

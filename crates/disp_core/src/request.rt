@@ -328,7 +328,7 @@ fn append<S: JobStore>(
     text: &Record,
 ) -> Result<(), AllocError>
     ensures ok { OnOk result (S.seen job store.new ≡ store_appended (slice_get dds.now d) text.now (S.seen job store.old)) }
-    ensures err { OnErr result (S.seen job store.new ≡ S.seen job store.old) }
+    ensures err { OnErr result (store.new ≡ store.old) }
     ensures rest { S.rest job store.new ≡ S.rest job store.old }
 {
     let Some(x) = dds.get(d) else {
@@ -363,7 +363,7 @@ fn receive_put<S: JobStore>(
 ) -> Result<(), AllocError>
     ensures seen { OnOk result (S.seen job store.new ≡ store_appended (slice_get course.old.own.dds d) text.now (S.seen job store.old)) }
     ensures course { OnOk result (course.new ≡ record { own = wrote course.old.own; lines = course.old.lines ++ line.PutDone name.now ∷ [] }) }
-    ensures err { OnErr result ((S.seen job store.new ≡ S.seen job store.old) × (course.new ≡ course.old)) }
+    ensures err { OnErr result ((store.new ≡ store.old) × (course.new ≡ course.old)) }
     ensures rest { S.rest job store.new ≡ S.rest job store.old }
 {
     let lines = one_more(course.own.lines)?;
@@ -388,7 +388,7 @@ fn receive_due<S: JobStore>(
     due: &Due,
 ) -> Result<(), AllocError>
     ensures ok { OnOk result (Carried (λ s. received_now due.now s) (S.seen job store.old) course.old (S.seen job store.new) course.new None []) }
-    ensures err { OnErr result ((S.seen job store.new ≡ S.seen job store.old) × (course.new ≡ course.old)) }
+    ensures err { OnErr result ((store.new ≡ store.old) × (course.new ≡ course.old)) }
     ensures rest { S.rest job store.new ≡ S.rest job store.old }
 {
     match due {
@@ -411,7 +411,7 @@ pub fn receive<S: JobStore>(
     cancelled: bool,
 ) -> Result<(), AllocError>
     ensures ok { OnOk result (CarriedUnless cancelled (λ s. received s) (S.seen job store.old) course.old (S.seen job store.new) course.new) }
-    ensures err { OnErr result ((S.seen job store.new ≡ S.seen job store.old) × (course.new ≡ course.old)) }
+    ensures err { OnErr result ((store.new ≡ store.old) × (course.new ≡ course.old)) }
     ensures rest { S.rest job store.new ≡ S.rest job store.old }
 {
     if !is_open(&course.own) {

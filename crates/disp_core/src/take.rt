@@ -258,7 +258,7 @@ fn make_for<S: JobStore>(
     ensures rest { OnOk result (S.rest job store.new ≡ S.spent job (place_made how n dd serial) (S.rest job store.old)) }
     ensures granted { OnOk result (how ≡ How.Made → granted_on (S.grants_new job store.old key.now) n dd p.now (Some serial) ≡ true) }
     ensures refused { result ≡ Err RoomFault.NotGranted → (how ≡ How.Made) × (granted_on (S.grants_new job store.old key.now) n dd p.now (Some serial) ≡ false) }
-    ensures err { OnErr result ((S.seen job store.new ≡ S.seen job store.old) × (S.rest job store.new ≡ S.rest job store.old)) }
+    ensures err { OnErr result (store.new ≡ store.old) }
 {
     match how {
         How::Made => {
@@ -300,7 +300,7 @@ fn accept<S: JobStore>(
     ensures rest { OnOk result (S.rest job store.new ≡ S.spent job (place_made how n dd serial) (S.rest job store.old)) }
     ensures granted { OnOk result (how ≡ How.Made → granted_on (S.grants_new job store.old key.now) n dd p.now (Some serial) ≡ true) }
     ensures refused { result ≡ Err RoomFault.NotGranted → (how ≡ How.Made) × (granted_on (S.grants_new job store.old key.now) n dd p.now (Some serial) ≡ false) }
-    ensures err { OnErr result ((S.seen job store.new ≡ S.seen job store.old) × (S.rest job store.new ≡ S.rest job store.old) × (course.new ≡ course.old)) }
+    ensures err { OnErr result ((store.new ≡ store.old) × (course.new ≡ course.old)) }
 {
     let volume = DdVolume {
         step: n,
@@ -390,7 +390,7 @@ fn take_refused<S: JobStore>(
     fault: Fault,
 ) -> Result<Taken, AllocError>
     ensures ok { IfOk result (λ told. Carried (λ s. refused n dd fault s) (S.seen job store.old) course.old (S.seen job store.new) course.new told.meets (made_of told.made)) }
-    ensures err { OnErr result ((S.seen job store.new ≡ S.seen job store.old) × (course.new ≡ course.old)) }
+    ensures err { OnErr result ((store.new ≡ store.old) × (course.new ≡ course.old)) }
     ensures told { IfOk result (λ told. told.made ≡ None) }
     ensures rest { S.rest job store.new ≡ S.rest job store.old }
 {
@@ -421,7 +421,7 @@ fn accept_or_refuse<S: JobStore>(
         (λ s. decided (fixed_by given.now) n dd name.now p.now key.now s (granted_or_refused (Takes serial how) (granted_on (S.grants_new job store.old key.now) n dd p.now (Some serial))))
         (S.seen job store.old) course.old (S.seen job store.new) course.new told.meets (made_of told.made)) }
     ensures rest { IfOk result (λ told. S.rest job store.new ≡ S.spent job (made_of told.made) (S.rest job store.old)) }
-    ensures err { OnErr result ((S.seen job store.new ≡ S.seen job store.old) × (S.rest job store.new ≡ S.rest job store.old) × (course.new ≡ course.old)) }
+    ensures err { OnErr result ((store.new ≡ store.old) × (course.new ≡ course.old)) }
 {
     match accept(
         alloc, store, job, given, course, n, dd, name, p, key, serial, how,
@@ -452,7 +452,7 @@ fn take_key<S: JobStore>(
         (λ s. takes_set (fixed_by given.now) n dd name.now p.now s (Means key.now))
         (S.seen job store.old) course.old (S.seen job store.new) course.new told.meets (made_of told.made)) }
     ensures rest { IfOk result (λ told. S.rest job store.new ≡ S.spent job (made_of told.made) (S.rest job store.old)) }
-    ensures err { OnErr result ((S.seen job store.new ≡ S.seen job store.old) × (S.rest job store.new ≡ S.rest job store.old) × (course.new ≡ course.old)) }
+    ensures err { OnErr result ((store.new ≡ store.old) × (course.new ≡ course.old)) }
 {
     let target = target(store, job, given, &course.own, n, dd, p, key);
     match decision(store, job, given, p, key, &target) {
@@ -479,7 +479,7 @@ fn take_set<S: JobStore>(
         (λ s. takes_set (fixed_by given.now) n dd name.now p.now s (meaning_at given.now.meanings.now n dd))
         (S.seen job store.old) course.old (S.seen job store.new) course.new told.meets (made_of told.made)) }
     ensures rest { IfOk result (λ told. S.rest job store.new ≡ S.spent job (made_of told.made) (S.rest job store.old)) }
-    ensures err { OnErr result ((S.seen job store.new ≡ S.seen job store.old) × (S.rest job store.new ≡ S.rest job store.old) × (course.new ≡ course.old)) }
+    ensures err { OnErr result ((store.new ≡ store.old) × (course.new ≡ course.old)) }
 {
     match meaning_at(given.meanings, n, dd) {
         Resolution::Fails(fault) => take_refused(alloc, store, job, course, n, dd, fault),
@@ -505,7 +505,7 @@ pub fn take<S: JobStore>(
         (λ s. if_runs s.own.runs s (takes (fixed_by given.now) n dd d.now.name d.now.kind s))
         (S.seen job store.old) course.old (S.seen job store.new) course.new told.meets (made_of told.made)) }
     ensures rest { IfOk result (λ told. S.rest job store.new ≡ S.spent job (made_of told.made) (S.rest job store.old)) }
-    ensures err { OnErr result ((S.seen job store.new ≡ S.seen job store.old) × (S.rest job store.new ≡ S.rest job store.old) × (course.new ≡ course.old)) }
+    ensures err { OnErr result ((store.new ≡ store.old) × (course.new ≡ course.old)) }
 {
     if !course.own.runs {
         return Ok(Taken {

@@ -45,7 +45,7 @@ use Rattle.init_core.specs.declared.running.Stage.TheVariants as stage
 use Rattle.init_core.specs.Choosing.{IsChosenByVolumes}
 use Rattle.init_core.specs.Going.{Went}
 use Rattle.init_core.specs.Running.{AreOn, IsAt, IsGood, config_of, shown_admission, shown_running}
-use Rattle.init_core.specs.Turning.{IsAsBefore, IsEnded, IsSameStore, IsWritten, answers_of, around_in, with_spool}
+use Rattle.init_core.specs.Turning.{IsEnded, IsWritten, answers_of, around_in, with_spool}
 use Rattle.init_core.proofs.Reading.{good_again}
 use Rattle.init_core.proofs.Rooms.{known_on, room_if, stand_on}
 use Rattle.init_core.proofs.Volumes.{IsOnOne, StandOn, acted_on}
@@ -104,16 +104,6 @@ module _ {Q : Type 0} (queue_of : Q → RecordQueue) (profile : Profile) (p : Pa
   abbrev pub chosen_to : List JobLine → Shared → Option world.Running → Type 0
   chosen_to lines new runs = (g : advances_to lines new runs) × IsChosenByVolumes c p.store (choice_of_advance g)
 
-  -- the store is as it was
-  same_shown : (st : SharedStore) → IsSameStore p.store st → shown queue_of (record p { store = st }) ≡ shown queue_of p
-  same_shown st is = λ i. record (shown queue_of p) { store = is.world i; free = λ serial. is.free serial i }
-
-  good_there : (st : SharedStore) → IsSameStore p.store st → IsGood queue_of c (record p { store = st })
-  good_there st is = record { kept = is.kept; volumes = is.volumes ∙ g.volumes; layout = g.layout; fields = g.fields; operations = g.operations; few = g.few }
-
-  pub as_before : (st : SharedStore) → IsSameStore p.store st → IsAsBefore queue_of c p (record p { store = st })
-  as_before st is = record { same = same_shown st is; queue = refl; good = good_there st is }
-
   pub told_as : (st : SharedStore) (after : Walk) (cancelled : Bool) (told same : Turned) → cancelled ≡ has_cancel p.cancels job → told ≡ same →
       TellsJob (around_in profile p.units job plan a cancelled p.store) plan (seen job (world_store_of p.store)) walk (seen job (world_store_of st)) after told →
       TellsJob its_around plan (seen job (world_store_of p.store)) walk (seen job (world_store_of st)) after same
@@ -121,10 +111,9 @@ module _ {Q : Type 0} (queue_of : Q → RecordQueue) (profile : Profile) (p : Pa
       subst (λ x. TellsJob its_around plan (seen job (world_store_of p.store)) walk (seen job (world_store_of st)) after x) is
       (subst (λ b. TellsJob (around_in profile p.units job plan a b p.store) plan (seen job (world_store_of p.store)) walk (seen job (world_store_of st)) after told) due t)
 
-  pub ended_err : (r : Result Progress Running) (st : SharedStore) (new : Parts Q) → IsSameStore p.store st → OnErr r (new ≡ record p { store = st }) →
-      OnErr r (IsAsBefore queue_of c p new)
+  pub ended_err : (r : Result Progress Running) (st : SharedStore) (new : Parts Q) → st ≡ p.store → OnErr r (new ≡ record p { store = st }) → OnErr r (new ≡ p)
   ended_err (Ok came) st new is same = tt
-  ended_err (Err back) st new is same = subst (IsAsBefore queue_of c p) (sym same) (as_before st is)
+  ended_err (Err back) st new is same = same ∙ ap (λ s. record p { store = s }) is
 
   module _ (some : job ≢ 0) (at : IsAt c p.names job walk (stage.Admitted plan held a)) where
     -- where the job's sets are, and its operation starts
@@ -137,7 +126,7 @@ module _ {Q : Type 0} (queue_of : Q → RecordQueue) (profile : Profile) (p : Pa
         OneEach p.units → IfSome told.starts (IsRoomFor p.units)
     room st after told t each = room_if c.volumes p.units told.starts g.few each g.operations (moved_on st after told t).1
 
-    pub waits : WaitsAdvance → (st : SharedStore) (after : Walk) → IsSameStore p.store st → after ≡ walk →
+    pub waits : WaitsAdvance → (st : SharedStore) (after : Walk) → st ≡ p.store → after ≡ walk →
         Waits its_around (undone plan c.programs walk.todo) (seen job (world_store_of p.store)) walk.course.own (count_at plan c.programs walk.todo) →
         Went queue_of c p its (record p { store = st }) (GoesOn (at_walk after) from)
     waits law st after is same w =
@@ -146,17 +135,18 @@ module _ {Q : Type 0} (queue_of : Q → RecordQueue) (profile : Profile) (p : Pa
         subst (λ ls. chosen_to ls (shown queue_of p) (Some (shown_running c its)))
         (sym (lines_behind walk.course.lines walk.course.lines [] (sym (nothing_behind walk.course.lines))))
         (here.0, subst (IsChosenByVolumes c p.store) (sym here.1) tt) in
-        subst (λ x. Went queue_of c p its (record p { store = st }) (GoesOn (at_walk x) from)) (sym same) (record {
+        subst (λ x. Went queue_of c p its (record p { store = st }) (GoesOn (at_walk x) from)) (sym same)
+        (subst (λ x. Went queue_of c p its (record p { store = x }) (GoesOn (at_walk walk) from)) (sym is) (record {
           middle = shown queue_of p;
           goes = goes.0;
-          reopened = subst (λ s. Reopened c.layout (shown queue_of p) s) (sym (same_shown st is)) (unopened c.layout (shown queue_of p));
+          reopened = unopened c.layout (shown queue_of p);
           chosen = goes.1;
           few = none_told (drop from walk.course.lines) (length walk.course.own.dds)
               (lines_behind walk.course.lines walk.course.lines [] (sym (nothing_behind walk.course.lines)));
-          good = good_there st is;
+          good = g;
           left = record { same = refl; ready = record { some = some; at = at } };
           rest = record { waiting = refl; others = λ other apart none. none };
-        })
+        }))
 
     module _ (st : SharedStore) (after : Walk) (told : Acted) (is : IsWritten job p.store st)
         (t : JobActs its_around plan (seen job (world_store_of p.store)) (seen job (world_store_of st)) walk after told) where
@@ -210,23 +200,21 @@ module _ {Q : Type 0} (queue_of : Q → RecordQueue) (profile : Profile) (p : Pa
           }
 
     -- its last line: what it held is given back
-    module _ (st : SharedStore) (is : IsSameStore p.store st) (new : Parts Q) (e : IsEnded queue_of job walk plan (record p { store = st }) new) where
+    module _ (new : Parts Q) (e : IsEnded queue_of job walk plan p new) where
       abbrev pub mid : Parts Q
-      mid = with_spool job walk plan (record p { store = st })
+      mid = with_spool job walk plan p
 
       abbrev pub ended_shared : Shared
       ended_shared = shared_ended c (shown queue_of p) job plan walk.course.lines walk.course.own.outputs (shown queue_of p).free
 
       released_there : released c (shown queue_of mid) job (shown queue_of mid).free ≡ ended_shared
       released_there = λ i. released c (record (shown queue_of p) {
-        store = (is.world ∙ sym (put_same job (world_store_of p.store))) i;
-        free = λ serial. is.free serial i;
+        store = sym (put_same job (world_store_of p.store)) i;
         spool = with_sets p.spool (sets_of job plan.message_class (walk.course.lines ++ line.End ∷ []) walk.course.own.outputs);
-      }) job (λ serial. is.free serial i)
+      }) job (shown queue_of p).free
 
       back_good : IsGood queue_of c mid
-      back_good = let h : IsGood queue_of c (record p { store = st }) = good_there st is in
-          record { kept = h.kept; volumes = h.volumes; layout = h.layout; fields = h.fields; operations = h.operations; few = h.few }
+      back_good = record { kept = g.kept; volumes = g.volumes; layout = g.layout; fields = g.fields; operations = g.operations; few = g.few }
 
       pub ended : EndsAdvance → JobEnds its_around plan (seen job (world_store_of p.store)) walk → Went queue_of c p its new (Over line.End)
       ended law h =
@@ -246,11 +234,15 @@ module _ {Q : Type 0} (queue_of : Q → RecordQueue) (profile : Profile) (p : Pa
             };
           }
 
-    pub ended_by : (r : Result Progress Running) (st : SharedStore) (after : Walk) (is : IsSameStore p.store st) (new : Parts Q) → after ≡ walk →
+    pub ended_by : (r : Result Progress Running) (st : SharedStore) (after : Walk) → st ≡ p.store → (new : Parts Q) → after ≡ walk →
         IfOk r (λ came. came ≡ Over line.End) → OnOk r (IsEnded queue_of job after plan (record p { store = st }) new) → EndsAdvance →
         JobEnds its_around plan (seen job (world_store_of p.store)) walk → IfOk r (Went queue_of c p its new)
     ended_by (Ok came) st after is new same over e law h =
-        subst (Went queue_of c p its new) (sym over) (ended st is new (subst (λ w. IsEnded queue_of job w plan (record p { store = st }) new) same e) law h)
+        subst (Went queue_of c p its new) (sym over)
+        (ended new
+        (subst (λ s. IsEnded queue_of job walk plan (record p { store = s }) new) is
+        (subst (λ w. IsEnded queue_of job w plan (record p { store = st }) new) same e))
+        law h)
     ended_by (Err back) st after is new same over e law h = tt
 
     pub acted_so : (st : SharedStore) (after : Walk) (told : Acted) (is : IsWritten job p.store st)

@@ -9,7 +9,7 @@ use Rattle.world_meaning.specs.Tracks.{Conserves}
 use Rattle.world_meaning.specs.Worlds.{Config, Shared}
 use Rattle.shared_core.specs.Rooms.{grants_growth, grants_new}
 use Rattle.shared_core.specs.Shown.{world_store_of}
-use Rattle.shared_core.specs.Tracks.{IsShown, NothingKept, free_on}
+use Rattle.shared_core.specs.Tracks.{IsShown, NothingKept}
 use Rattle.shared_core.specs.declared.store.SharedStore.{SharedStore}
 use Rattle.place_core.specs.Placings.{serials_of}
 use Rattle.admission_core.specs.Admitted.{fixed_for}
@@ -18,11 +18,9 @@ use Rattle.turn_core.specs.Performing.{StoreAnswers}
 use Rattle.turn_core.specs.Turning.{Around}
 use Rattle.machine_core.specs.declared.parts.Parts.{Parts}
 use Rattle.machine_core.specs.Released.{GivesBack, IsReleased}
-use Rattle.machine_core.specs.Shown.{shown}
 use Rattle.machine_meaning.specs.Spools.{sets_of, with_sets}
 use Rattle.turn_core.specs.declared.walk.Walk.{Walk}
 use Rattle.init_core.specs.declared.running.Profile.{Profile}
-use Rattle.init_core.specs.Running.{IsGood}
 
 -- what the store answers a job
 abbrev pub answers_of : ℕ → SharedStore → StoreAnswers
@@ -49,19 +47,6 @@ pub record IsWritten (job : ℕ) (old new : SharedStore) : Type 0 where
   pub kept : NothingKept new
   pub volumes : serials_of new.volumes ≡ serials_of old.volumes
   pub conserves : (before after : Shared) → IsShown old before → IsShown new after → Conserves before after
-
--- The store is as it was: its sets and its catalog, and its free tracks; nothing is kept, and the volumes are the same.
-pub record IsSameStore (old new : SharedStore) : Type 0 where
-  pub world : world_store_of new ≡ world_store_of old
-  pub free : (serial : List ℕ) → free_on new.volumes serial ≡ free_on old.volumes serial
-  pub kept : NothingKept new
-  pub volumes : serials_of new.volumes ≡ serials_of old.volumes
-
--- The parts are as they were: what is shown of them, and the queue; and what holds between two events holds again.
-pub record IsAsBefore {Q : Type 0} (queue_of : Q → RecordQueue) (c : Config) (old new : Parts Q) : Type 0 where
-  pub same : shown queue_of new ≡ shown queue_of old
-  pub queue : queue_of new.queue ≡ queue_of old.queue
-  pub good : IsGood queue_of c new
 
 -- The spool took over the job's listing, with its last line, and its outputs.
 abbrev pub with_spool : {Q : Type 0} → ℕ → Walk → JobPlan → Parts Q → Parts Q

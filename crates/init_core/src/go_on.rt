@@ -2,7 +2,6 @@
 ghost use Rattle.std.specs.Prelude.{◌≡◌, IfErr, IfOk, OnErr};
 ghost use Rattle.init_core.specs.Going.{Went};
 ghost use Rattle.init_core.specs.Running.{IsGood, IsReady, config_of};
-ghost use Rattle.init_core.specs.Turning.{IsAsBefore};
 
 use crate::admission::admit_job;
 use crate::names::want;
@@ -14,7 +13,7 @@ use machine_core::parts::Parts;
 use std::alloc::Global;
 
 /// A turn of a job at an initiator: what it leaves of the parts, and the job, where it is not over, with the lines that it wrote. Where memory is wanting
-/// the job is given back as it was, and the parts are as before.
+/// the job is given back as it was, and the parts are as they were.
 pub fn go_on<Q: RecordStore>(
     alloc: Global,
     parts: &mut Parts<Q>,
@@ -25,7 +24,7 @@ pub fn go_on<Q: RecordStore>(
     requires ready { IsReady (config_of profile.now (Q.queue parts.old.queue).layout) parts.old.names running }
     ensures ok { IfOk result (Went Q.queue (config_of profile.now (Q.queue parts.old.queue).layout) parts.old running parts.new) }
     ensures err { IfErr result (λ r. r ≡ running) }
-    ensures same { OnErr result (IsAsBefore Q.queue (config_of profile.now (Q.queue parts.old.queue).layout) parts.old parts.new) }
+    ensures same { OnErr result (parts.new ≡ parts.old) }
 {
     let Running { job, walk, stage } = running;
     match stage {

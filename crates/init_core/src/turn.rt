@@ -12,7 +12,7 @@ ghost use Rattle.turn_core.specs.Standing.{Stands, TellsJob};
 ghost use Rattle.turn_core.specs.Turning.{acts, operations_by};
 ghost use Rattle.init_core.specs.Going.{Went};
 ghost use Rattle.init_core.specs.Running.{IsAt, IsGood, config_of};
-ghost use Rattle.init_core.specs.Turning.{IsAsBefore, IsEnded, IsSameStore, IsWritten, around_in};
+ghost use Rattle.init_core.specs.Turning.{IsEnded, IsWritten, around_in};
 ghost use Rattle.init_core.specs.declared.running.Progress.TheVariants as progress;
 ghost use Rattle.init_core.specs.declared.running.Stage.TheVariants as stage;
 
@@ -66,8 +66,8 @@ fn take_turn(
     ensures ok { IfOk result (TellsJob (around_in profile.now units.now job plan.now admission.now cancelled store.old) plan.now
         (seen job (world_store_of store.old)) walk.old (seen job (world_store_of store.new)) walk.new) }
     ensures written { IsWritten job store.old store.new }
-    ensures same { IfOk result (λ told. acts told ≡ false → IsSameStore store.old store.new × (walk.new ≡ walk.old)) }
-    ensures err { OnErr result (IsSameStore store.old store.new × (walk.new ≡ walk.old)) }
+    ensures same { IfOk result (λ told. acts told ≡ false → (store.new ≡ store.old) × (walk.new ≡ walk.old)) }
+    ensures err { OnErr result ((store.new ≡ store.old) × (walk.new ≡ walk.old)) }
 {
     sets_of_others_stay();
     nothing_kept_stays();
@@ -175,7 +175,7 @@ pub(crate) fn advance<Q: RecordStore>(
     ensures ok { IfOk result (Went Q.queue (config_of profile.now (Q.queue parts.old.queue).layout) parts.old
         (record { job = job; walk = walk; stage = stage.Admitted plan held admission }) parts.new) }
     ensures err { IfErr result (λ r. r ≡ record { job = job; walk = walk; stage = stage.Admitted plan held admission }) }
-    ensures same { OnErr result (IsAsBefore Q.queue (config_of profile.now (Q.queue parts.old.queue).layout) parts.old parts.new) }
+    ensures same { OnErr result (parts.new ≡ parts.old) }
 {
     waits_advance();
     acts_advance();

@@ -133,6 +133,7 @@ impl Mounted {
         ensures made { OnOk result (WasMade (map.get self.old.kept place.now) self.old place.now key tracks expires self.new) }
         ensures granted { OnOk result (holds (map.get self.old.kept place.now) self.old.volume tracks ≡ true) }
         ensures space { result ≡ Err VolumeFault.NoSpace → holds (map.get self.old.kept place.now) self.old.volume tracks ≡ false }
+        ensures no_room { map.get self.old.volume.sets key ≡ None → holds (map.get self.old.kept place.now) self.old.volume tracks ≡ false → result ≡ Err VolumeFault.NoSpace }
         ensures there { (result ≡ Err VolumeFault.NameThere) → IsSome (map.get self.old.volume.sets key) }
         ensures others { IfErr result (λ fault. (fault ≢ VolumeFault.NameMissing) × (fault ≢ VolumeFault.TooManyExtents)) }
         ensures err { OnErr result (self.new ≡ self.old) }

@@ -1,5 +1,5 @@
 //! Tracks set aside on the volume of a serial, and given back.
-ghost use Rattle.std.specs.Prelude.{◌≡◌, ℕ, ◌<◌, None, IfNone, IfOk, IfSome, OnErr, OnOk};
+ghost use Rattle.std.specs.Prelude.{◌≡◌, ℕ, ◌<◌, None, true, IsErr, IfNone, IfOk, IfSome, OnErr, OnOk};
 ghost use Rattle.shared_core.specs.Rooms.{kept_place};
 ghost use Rattle.shared_core.specs.Shown.{kept_extents, mounted_in};
 ghost use Rattle.place_core.specs.Placings.{chosen};
@@ -32,6 +32,7 @@ fn set_aside(
     requires clear { kept_extents (mounted_in volumes.old serial) at ≡ None }
     ensures room { IfOk result (λ room. room ≡ has_room tracks (mounted_in volumes.old serial)) }
     ensures ok { OnOk result (volumes.new ≡ changed_on (aside_on at tracks) serial volumes.old) }
+    ensures memory { IsErr result → has_room tracks (mounted_in volumes.old serial) ≡ true }
     ensures err { OnErr result (volumes.new ≡ volumes.old) }
 {
     let Some(place) = place_of(volumes, serial) else {

@@ -6,7 +6,6 @@ use Rattle.jcl_job.specs.Jobs.{job_of}
 use Rattle.jcl_plan.specs.declared.entry.Entry.{Entry}
 use Rattle.input_core.specs.declared.event.Event.{Event}
 use Rattle.world_meaning.specs.Transitions.{Runs}
-use Rattle.world_meaning.specs.Worlds.{World}
 use Rattle.sched_core.specs.Systems.{Drives, IsDriven, IsSameFixed, Machine, Steps, denoting, meant_by, world_of}
 use Rattle.run_laws.specs.Promises.{ArePromises, PromisesAreKept}
 use Rattle.world_meaning.specs.Starts.{IsStart}
@@ -58,20 +57,15 @@ pub record DrivenTo (old : Machine) (events : List Event) (entries : List (List 
 pub driven_none : (m : Machine) (events : List Event) → DrivenTo m events [] 0 m
 driven_none m events = record { within = omega arith; drives = refl }
 
--- that is what was done, where nothing that is shown changed since
-pub driven_still : (old mid new : Machine) (events : List Event) (entries : List (List Entry)) (done : ℕ) →
-    DrivenTo old events entries done mid → world_of new ≡ world_of mid → IsSameFixed mid new → IsDriven old events entries done new
-driven_still old mid new events entries done d same fixed = record {
+-- that is what was done
+pub driven_now : (old new : Machine) (events : List Event) (entries : List (List Entry)) (done : ℕ) →
+    DrivenTo old events entries done new → IsDriven old events entries done new
+driven_now old new events entries done d = record {
   within = d.within;
-  reached = mid;
   drives = d.drives;
-  shown = same;
-  runs = subst (λ w. Runs (denoting old) (world_of old) (map meant_by (take done events)) entries w) (sym same) (drives_run old mid (take done events) entries d.drives);
-  fixed = IsSameFixed-twice old mid new (drives_fixed old mid (take done events) entries d.drives) fixed;
+  runs = drives_run old new (take done events) entries d.drives;
+  fixed = drives_fixed old new (take done events) entries d.drives;
 }
-
-pub driven_now : (old new : Machine) (events : List Event) (entries : List (List Entry)) (done : ℕ) → DrivenTo old events entries done new → IsDriven old events entries done new
-driven_now old new events entries done d = driven_still old new new events entries done d refl (IsSameFixed-none new)
 
 -- the next event of a list
 pub driven_more : (old mid new : Machine) (events : List Event) (entries : List (List Entry)) (done : ℕ) (e : Event) (lines : List Entry) →

@@ -1,7 +1,7 @@
 -- What happens at an event is a case of the table.
 use Rattle.std.proofs.Common.{◌≡◌, ◌≢◌, ◌≤◌, ◌<◌, ◌+◌, ℕ, zero, suc, Bool, true, false, is_some, List, [], ◌∷◌, ◌++◌, All, map, Option, Some, None, slice_get, refl, sym, ap, ◌∙◌, subst, arith}
 use Rattle.std.specs.Option.{option_map}
-use Rattle.std.specs.Prelude.{Result, Ok, Err, IfOk, get_or}
+use Rattle.std.specs.Prelude.{Result, Ok, Err, get_or}
 use Rattle.std.proofs.lemmas.Option.{get_or_from_slice_get}
 use Rattle.std.proofs.lemmas.List.Elements.{All-head, All-map, All-tail}
 use Rattle.cb_queue.specs.RecordQueues.{RecordQueue}

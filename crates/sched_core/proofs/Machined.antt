@@ -1,5 +1,5 @@
 -- The machine's value, and the state that it stands for.
-use Rattle.std.proofs.Common.{◌≡◌, ℕ, List, length, sym, subst}
+use Rattle.std.proofs.Common.{◌≡◌, ℕ, List, length, sym, ◌∙◌, subst}
 use Rattle.std.specs.Prelude.{Result}
 use Rattle.cb_queue.specs.RecordQueues.{RecordQueue}
 use Rattle.jcl_plan.specs.declared.entry.Entry.{Entry}
@@ -9,7 +9,7 @@ use Rattle.init_core.specs.Running.{config_of}
 use Rattle.init_core.specs.declared.running.Profile.{Profile}
 use Rattle.sched_core.specs.Fits.{IsKept}
 use Rattle.sched_core.specs.Machines.{config_in, world_in}
-use Rattle.sched_core.specs.Systems.{Applies, IsSystem, KeepsIfRefused, Machine, machine_in, world_of}
+use Rattle.sched_core.specs.Systems.{Applies, IsSystem, Machine, machine_in, world_of}
 use Rattle.sched_core.specs.declared.fault.ApplyFault.{ApplyFault}
 use Rattle.sched_core.specs.declared.state.State.{State}
 
@@ -28,9 +28,14 @@ module _ {Q : Type 0} (queue_of : Q → RecordQueue) (p : Profile) (names : List
         Applies result (world_of before) (world_in queue_of (config_in queue_of p s) new) allows → Applies result (world_of before) (world_of after) allows
     applied result allows h = subst (λ w. Applies result (world_of before) w allows) (sym same_world) h
 
-    pub kept_if : (result : Result (List Entry) ApplyFault) → KeepsIfRefused result (world_of before) (world_in queue_of (config_in queue_of p s) new) →
-        KeepsIfRefused result (world_of before) (world_of after)
-    kept_if result h = subst (KeepsIfRefused result (world_of before)) (sym same_world) h
-
     pub system_again : IsKept queue_of (config_in queue_of p s) new → length names ≡ length p.units.now → IsSystem queue_of p names new
     system_again k named = record { kept = subst (λ l. IsKept queue_of (config_of p l) new) (sym layout) k; named = named }
+
+-- a machine of which the count of events alone changed
+module _ {Q : Type 0} (queue_of : Q → RecordQueue) (p : Profile) (names : List (List ℕ)) (library : List LibraryProcedure) (s new : State Q) (n : ℕ)
+    (same : machine_in queue_of p names library new ≡ machine_in queue_of p names library (record s { events = n })) where
+  pub counted_alone : machine_in queue_of p names library new ≡ record (machine_in queue_of p names library s) { events = new.events }
+  counted_alone = same ∙ (λ i. record (machine_in queue_of p names library s) { events = (sym same i).events })
+
+  pub counted_back : (m : ℕ) → m ≡ s.events → machine_in queue_of p names library (record new { events = m }) ≡ machine_in queue_of p names library s
+  counted_back m is = (λ i. record (same i) { events = m }) ∙ (λ i. record (machine_in queue_of p names library s) { events = is i })

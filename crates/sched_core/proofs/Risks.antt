@@ -1,5 +1,5 @@
 -- No turn writes RISK, as long as nothing analyses a job.
-use Rattle.std.proofs.Common.{◌≡◌, ◌||◌, ℕ, Bool, true, false, List, [], ◌∷◌, All, Option, Some, refl, ap, ◌∙◌}
+use Rattle.std.proofs.Common.{◌≡◌, ◌||◌, ℕ, Bool, true, false, List, All, Option, Some, refl, ap, ◌∙◌}
 use Rattle.std.specs.List.{list_any}
 use Rattle.cb_queue.specs.RecordQueues.{RecordQueue}
 use Rattle.jcl_plan.specs.declared.entry.JobLine.{JobLine}
@@ -10,7 +10,6 @@ use Rattle.jcl_meaning.specs.Agendas.{agenda}
 use Rattle.run_laws.proofs.Over.{advance_stands, riskless}
 use Rattle.run_laws.proofs.PlainLines.{is_risk}
 use Rattle.shared_core.specs.declared.store.SharedStore.{SharedStore}
-use Rattle.turn_core.specs.declared.walk.Walk.{Walk}
 use Rattle.world_meaning.specs.Admissions.{names_a_set}
 use Rattle.world_meaning.specs.Holdings.{Holds, ReadsRecords, blocked, broken, held, read}
 use Rattle.world_meaning.specs.Transitions.{GoesOn}

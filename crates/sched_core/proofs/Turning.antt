@@ -13,13 +13,11 @@ use Rattle.machine_meaning.specs.declared.machine.TheConstants.{MOST_EVENTS, MOS
 use Rattle.run_laws.specs.Soundness.{IsThereAlone}
 use Rattle.world_laws.proofs.Beside.{one_there, set_elsewhere, set_here}
 use Rattle.world_meaning.specs.Worlds as world
-use Rattle.world_meaning.specs.Worlds.{Config, IsAt, Shared, World, with_running}
+use Rattle.world_meaning.specs.Worlds.{Config, IsAt, World, with_running}
 use Rattle.admit_core.specs.Listed.{AreListed, waiting_in}
 use Rattle.machine_core.specs.Shown.{shown}
-use Rattle.machine_core.specs.declared.parts.Parts.{Parts}
-use Rattle.init_core.specs.Turning.{IsAsBefore}
 use Rattle.init_core.specs.Going.{IsLeft}
-use Rattle.init_core.specs.Running.{IsGood, IsReady, lines_told, runs_after, shown_running}
+use Rattle.init_core.specs.Running.{IsReady, lines_told, runs_after, shown_running}
 use Rattle.init_core.specs.Running as running
 use Rattle.init_core.specs.declared.running.Running.{Running}
 use Rattle.init_core.specs.declared.running.Stage.{Stage}
@@ -156,34 +154,6 @@ module _ {Q : Type 0} (queue_of : Q → RecordQueue) (c : Config) (s : State Q) 
     listed = subst (λ (q : List Queued). AreListed q new.backlog) (sym t.turns.went.rest.waiting) (subst (AreListed (queue_of s.parts.queue).waiting) (sym backlog) kept.fit.listed);
     ready = ready;
     unnamed = unnamed;
-    steps = kept.fit.steps;
-    few_jobs = subst (λ n. n ≤ MOST_JOBS) (sym jobs) kept.fit.few_jobs;
-    few_events = subst (λ n. n ≤ MOST_EVENTS) (sym events) kept.fit.few_events;
-  }
-
--- where memory was wanting what is shown is as it was
-module _ {Q : Type 0} (queue_of : Q → RecordQueue) (c : Config) (s : State Q) (kept : IsKept queue_of c s) (p : Parts Q) (b : IsAsBefore queue_of c s.parts p)
-    (new : State Q) (parts : new.parts ≡ p) (items : new.initiators.items ≡ s.initiators.items) (backlog : new.backlog ≡ s.backlog) (jobs : new.jobs ≡ s.jobs)
-    (events : new.events ≡ s.events) where
-  names : new.parts.names ≡ s.parts.names
-  names = ap (λ (q : Parts Q). q.names) parts ∙ ap (λ (z : Shared). z.holds) b.same
-
-  ran : (place : ℕ) (r : Running) → RunsIn new.initiators.items place r → RunsIn s.initiators.items place r
-  ran place r h = record { it = h.it; at = ap (λ (xs : List Initiator). slice_get xs place) (sym items) ∙ h.at; running = h.running }
-
-  runs_still : (place : ℕ) (r : Running) → RunsIn s.initiators.items place r → RunsIn new.initiators.items place r
-  runs_still place r h = record { it = h.it; at = ap (λ (xs : List Initiator). slice_get xs place) items ∙ h.at; running = h.running }
-
-  pub fit_before : IsFit queue_of c new
-  fit_before = record {
-    good = subst (IsGood queue_of c) (sym parts) b.good;
-    holds = kept.fit.holds;
-    listed =
-        let queue : (queue_of new.parts.queue).waiting ≡ (queue_of s.parts.queue).waiting =
-        ap (λ (q : Parts Q). (queue_of q.queue).waiting) parts ∙ ap (λ (q : RecordQueue). q.waiting) b.queue in
-        subst (λ (q : List Queued). AreListed q new.backlog) (sym queue) (subst (AreListed (queue_of s.parts.queue).waiting) (sym backlog) kept.fit.listed);
-    ready = λ place r h. ready_still c s.parts.names new.parts.names r (λ none. subst (λ hs. HoldsNone hs r.job) (sym names) none) (kept.fit.ready place r (ran place r h));
-    unnamed = λ job none. subst (λ hs. HoldsNone hs job) (sym names) (kept.fit.unnamed job (λ place r h. none place r (runs_still place r h)));
     steps = kept.fit.steps;
     few_jobs = subst (λ n. n ≤ MOST_JOBS) (sym jobs) kept.fit.few_jobs;
     few_events = subst (λ n. n ≤ MOST_EVENTS) (sym events) kept.fit.few_events;

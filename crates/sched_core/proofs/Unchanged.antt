@@ -13,10 +13,12 @@ use Rattle.place_core.specs.Placings.{serials_of}
 use Rattle.admit_core.specs.Listed.{AreListed, waiting_in}
 use Rattle.machine_core.specs.Shown.{shown}
 use Rattle.machine_core.specs.declared.parts.Parts.{Parts}
-use Rattle.init_core.specs.Running.{IsGood, IsReady}
+use Rattle.init_core.specs.Running.{IsGood, IsReady, config_of}
+use Rattle.init_core.specs.declared.running.Profile.{Profile}
 use Rattle.init_core.specs.declared.running.Running.{Running}
 use Rattle.sched_core.specs.Fits.{IsAtNone, IsFit}
 use Rattle.sched_core.specs.Machines.{RunsIn, shown_initiator, world_in}
+use Rattle.sched_core.specs.Systems.{IsSameMachine, parts_of}
 use Rattle.sched_core.specs.declared.state.Initiator.{Initiator}
 use Rattle.sched_core.specs.declared.state.State.{State}
 
@@ -83,6 +85,20 @@ module _ {Q : Type 0} (queue_of : Q → RecordQueue) (c : Config) (s new : State
     few_jobs = subst (λ n. n ≤ MOST_JOBS) (sym jobs) f.few_jobs;
     few_events = subst (λ n. n ≤ MOST_EVENTS) (sym events) f.few_events;
   }
+
+-- the machine is the same
+pub same_machine : {Q : Type 0} (queue_of : Q → RecordQueue) (p : Profile) (s new : State Q) → parts_of queue_of new.parts ≡ parts_of queue_of s.parts →
+    new.initiators.items ≡ s.initiators.items → new.backlog ≡ s.backlog → new.jobs ≡ s.jobs → new.events ≡ s.events → IsSameMachine queue_of p s new
+same_machine queue_of p s new parts after backlog jobs events = λ names library i. record {
+  config = config_of p (parts i).queue.layout;
+  unit_names = names;
+  library = library;
+  parts = parts i;
+  initiators = after i;
+  backlog = backlog i;
+  jobs = jobs i;
+  events = events i;
+}
 
 -- parts that are the same, with their queue
 pub queue_alone : {Q : Type 0} (old new : Parts Q) → new ≡ old → new ≡ record old { queue = new.queue }

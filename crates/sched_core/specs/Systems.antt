@@ -61,6 +61,11 @@ machine_in queue_of p names library s = record {
   events = s.events;
 }
 
+-- the machine is the same, whatever its units and its library are
+abbrev pub IsSameMachine : {Q : Type 0} → (Q → RecordQueue) → Profile → State Q → State Q → Type 0
+IsSameMachine queue_of p old new = (names : List (List ℕ)) (library : List LibraryProcedure) →
+    machine_in queue_of p names library new ≡ machine_in queue_of p names library old
+
 abbrev pub itself : RecordQueue → RecordQueue
 itself q = q
 
@@ -94,7 +99,7 @@ Applies (Err (Refused cause)) old new allows = allows (entry.Refused cause ∷ [
 Applies (Err Memory) old new allows = new ≡ old
 
 -- a refusal changes the count of events alone
-abbrev pub KeepsIfRefused : Result (List Entry) ApplyFault → World → World → Type 0
+abbrev pub KeepsIfRefused : Result (List Entry) ApplyFault → Machine → Machine → Type 0
 KeepsIfRefused (Ok lines) old new = Unit {0}
 KeepsIfRefused (Err (Refused cause)) old new = new ≡ record old { events = new.events }
 KeepsIfRefused (Err Memory) old new = Unit {0}
@@ -116,13 +121,11 @@ Drives old (e ∷ es) (lines ∷ more) new = (mid : Machine) × Steps old e line
 Drives old [] (lines ∷ more) new = ⊥
 Drives old (e ∷ es) [] new = ⊥
 
--- The events that were done, each with its lines, lead to a machine that shows what the machine shows now: by the table, and as the volumes of the
--- machine before each decide it.
+-- The events that were done, each with its lines, lead to the machine as it is now: by the table, and as the volumes of the machine before each decide
+-- it.
 pub record IsDriven (old : Machine) (events : List Event) (entries : List (List Entry)) (done : ℕ) (new : Machine) : Type 0 where
   pub within : done ≤ length events
-  pub reached : Machine
-  pub drives : Drives old (take done events) entries reached
-  pub shown : world_of new ≡ world_of reached
+  pub drives : Drives old (take done events) entries new
   pub runs : Runs (denoting old) (world_of old) (map meant_by (take done events)) entries (world_of new)
   pub fixed : IsSameFixed old new
 

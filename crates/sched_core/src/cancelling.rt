@@ -11,6 +11,7 @@ ghost use Rattle.sched_core.specs.Cancelling.{CancelsAt, CancelsRunning, GivesUp
 ghost use Rattle.sched_core.specs.Events.{Answers, RefusesFirst};
 ghost use Rattle.sched_core.specs.Fits.{IsFit, IsKept};
 ghost use Rattle.sched_core.specs.Machines.{RunsIn, config_in, world_in};
+ghost use Rattle.sched_core.specs.Systems.{IsSameMachine};
 ghost use Rattle.sched_core.specs.declared.state.Initiator.{Initiator};
 
 use crate::fault::ApplyFault;
@@ -186,6 +187,7 @@ fn cancel_there<Q: RecordStore>(
         (CancelsJob (world_in Q.queue (config_in Q.queue profile.now state.old) state.old) job) }
     ensures refusal { RefusesFirst result (CancelsJob (world_in Q.queue (config_in Q.queue profile.now state.old) state.old) job) }
     ensures fit { IsFit Q.queue (config_in Q.queue profile.now state.old) state.new }
+    ensures same { OnErr result (IsSameMachine Q.queue profile.now state.old state.new) }
 {
     match cancel_at(alloc, &mut state.parts, &mut state.initiators, place, job) {
         Ok(lines) => Ok(lines),
@@ -206,6 +208,7 @@ pub(crate) fn cancel<Q: RecordStore>(
         (CancelsJob (world_in Q.queue (config_in Q.queue profile.now state.old) state.old) job) }
     ensures refusal { RefusesFirst result (CancelsJob (world_in Q.queue (config_in Q.queue profile.now state.old) state.old) job) }
     ensures fit { IsFit Q.queue (config_in Q.queue profile.now state.old) state.new }
+    ensures same { OnErr result (IsSameMachine Q.queue profile.now state.old state.new) }
 {
     if state.backlog.has(job) {
         return match cancel_waiting(alloc, &mut state.parts, &mut state.backlog, job) {

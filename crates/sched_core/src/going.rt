@@ -4,13 +4,13 @@ ghost use Rattle.std.specs.Vec.{vec_capacity, vec_len};
 ghost use Rattle.jcl_plan.specs.declared.fault.Cause.{Cause};
 ghost use Rattle.world_meaning.specs.Worlds.{of_job};
 ghost use Rattle.init_core.specs.Running.{IsGood, IsReady, config_of};
-ghost use Rattle.init_core.specs.Turning.{IsAsBefore};
 ghost use Rattle.init_core.specs.declared.running.Running.{Running};
 ghost use Rattle.sched_core.specs.Copies.{unless_risk};
 ghost use Rattle.sched_core.specs.Events.{ActsAt, Answers};
 ghost use Rattle.sched_core.specs.Fits.{IsFit, IsKept};
 ghost use Rattle.sched_core.specs.Going.{TurnsAt, TurnsJob};
 ghost use Rattle.sched_core.specs.Machines.{RunsIn, config_in, world_in};
+ghost use Rattle.sched_core.specs.Systems.{IsSameMachine};
 ghost use Rattle.sched_core.specs.declared.fault.ApplyFault.TheVariants.{Refused};
 
 use crate::copies::copied;
@@ -59,7 +59,7 @@ fn room_for(alloc: Global, running: &Running) -> Result<Vec<Entry>, AllocError>
     Vec::with_capacity(alloc, count)
 }
 
-/// A turn of the job of an initiator. Where memory is wanting nothing that is shown has changed.
+/// A turn of the job of an initiator. An `Err` changes nothing.
 fn turn_of<Q: RecordStore>(
     alloc: Global,
     parts: &mut Parts<Q>,
@@ -69,7 +69,7 @@ fn turn_of<Q: RecordStore>(
     requires good { IsGood Q.queue (config_of profile.now (Q.queue parts.old.queue).layout) parts.old }
     requires runs { (r : Running) × (x.old.running ≡ Some r) × IsReady (config_of profile.now (Q.queue parts.old.queue).layout) parts.old.names r }
     ensures ok { IfOk result (TurnsJob Q.queue (config_of profile.now (Q.queue parts.old.queue).layout) parts.old x.old parts.new x.new) }
-    ensures err { OnErr result (IsAsBefore Q.queue (config_of profile.now (Q.queue parts.old.queue).layout) parts.old parts.new × (x.new ≡ x.old)) }
+    ensures err { OnErr result ((parts.new ≡ parts.old) × (x.new ≡ x.old)) }
 {
     let Some(running) = mem::replace(&mut x.running, None) else {
         unreachable!();
@@ -96,7 +96,7 @@ fn turn_of<Q: RecordStore>(
     }
 }
 
-/// A turn of the job of the initiator at a place.
+/// A turn of the job of the initiator at a place. An `Err` changes nothing.
 fn turn_at<Q: RecordStore>(
     alloc: Global,
     parts: &mut Parts<Q>,
@@ -108,8 +108,7 @@ fn turn_at<Q: RecordStore>(
     requires runs { (r : Running) × RunsIn initiators.old.items place r × IsReady (config_of profile.now (Q.queue parts.old.queue).layout) parts.old.names r }
     ensures ok { IfOk result (TurnsAt Q.queue (config_of profile.now (Q.queue parts.old.queue).layout) place parts.old initiators.old.items
         parts.new initiators.new.items) }
-    ensures err { OnErr result (IsAsBefore Q.queue (config_of profile.now (Q.queue parts.old.queue).layout) parts.old parts.new
-        × (initiators.new.items ≡ initiators.old.items)) }
+    ensures err { OnErr result ((parts.new ≡ parts.old) × (initiators.new.items ≡ initiators.old.items)) }
 {
     let x = &mut initiators[place];
     turn_of(alloc, parts, profile, x)
@@ -128,6 +127,7 @@ pub(crate) fn go_on_at<Q: RecordStore>(
         (world_in Q.queue (config_in Q.queue profile.now state.old) state.new) (ActsAt state.old.parts.store (world_in Q.queue (config_in Q.queue profile.now state.old) state.old) place) }
     ensures never_refused { (cause : Cause) → result ≢ Err (Refused cause) }
     ensures fit { IsFit Q.queue (config_in Q.queue profile.now state.old) state.new }
+    ensures same { OnErr result (IsSameMachine Q.queue profile.now state.old state.new) }
 {
     match turn_at(
         alloc,

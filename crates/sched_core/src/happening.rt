@@ -1,5 +1,5 @@
 //! What happens at an event.
-ghost use Rattle.std.specs.Prelude.{◌≡◌, ◌≢◌, ◌+◌, ◌<◌, ◌≤◌, All, IfNone, IfOk, IfSome, length};
+ghost use Rattle.std.specs.Prelude.{◌≡◌, ◌≢◌, ◌+◌, ◌<◌, ◌≤◌, All, Err, IfNone, IfOk, IfSome, OnErr, length};
 ghost use Rattle.jcl_job.specs.Jobs.{job_of};
 ghost use Rattle.machine_meaning.specs.declared.machine.TheConstants.{MOST_EVENTS};
 ghost use Rattle.world_meaning.specs.Transitions.{Does, Transition, Turns};
@@ -7,7 +7,7 @@ ghost use Rattle.sched_core.specs.Events.{Answers, DoesSo, FollowsSo, RefusesFir
 ghost use Rattle.sched_core.specs.Fits.{IsFit, IsKept};
 ghost use Rattle.sched_core.specs.Happening.{IsSeat};
 ghost use Rattle.sched_core.specs.Machines.{config_in, world_in};
-ghost use Rattle.sched_core.specs.Systems.{Applies, KeepsIfRefused, meant_by};
+ghost use Rattle.sched_core.specs.Systems.{Applies, IsSameMachine, KeepsIfRefused, machine_in, meant_by};
 
 use crate::cancelling::cancel;
 use crate::fault::ApplyFault;
@@ -54,6 +54,7 @@ fn turn<Q: RecordStore>(
         (TurnsSo state.old.parts.store (world_in Q.queue (config_in Q.queue profile.now state.old) state.old) number) }
     ensures refusal { RefusesFirst result (Turns (world_in Q.queue (config_in Q.queue profile.now state.old) state.old) number) }
     ensures fit { IsFit Q.queue (config_in Q.queue profile.now state.old) state.new }
+    ensures same { OnErr result (IsSameMachine Q.queue profile.now state.old state.new) }
 {
     let Some(place) = place_of(state.initiators.as_slice(), number) else {
         return Err(ApplyFault::Refused(Cause::A(EventFault::NoSuchInitiator)));
@@ -83,6 +84,7 @@ fn happen<Q: RecordStore>(
     ensures refusal { RefusesFirst result
         (Does (job_of units.now library.now) (world_in Q.queue (config_in Q.queue profile.now state.old) state.old) (meant_by event.now)) }
     ensures fit { IsFit Q.queue (config_in Q.queue profile.now state.old) state.new }
+    ensures same { OnErr result (IsSameMachine Q.queue profile.now state.old state.new) }
 {
     match event {
         Event::Read(deck) => read(alloc, state, profile, units, library, deck.as_slice()),
@@ -94,7 +96,7 @@ fn happen<Q: RecordStore>(
     }
 }
 
-/// One event. A refusal changes the count of events alone and takes no memory; want of memory changes nothing that is shown.
+/// One event. A refusal changes the count of events alone and takes no memory; want of memory changes nothing.
 pub(crate) fn apply_in<Q: RecordStore>(
     alloc: Global,
     state: &mut State<Q>,
@@ -111,8 +113,10 @@ pub(crate) fn apply_in<Q: RecordStore>(
         (meant_by event.now)) }
     ensures refusal { RefusesFirst result
         (Transition (job_of units.now library.now) (world_in Q.queue (config_in Q.queue profile.now state.old) state.old) (meant_by event.now)) }
-    ensures unless_refused { KeepsIfRefused result (world_in Q.queue (config_in Q.queue profile.now state.old) state.old)
-        (world_in Q.queue (config_in Q.queue profile.now state.old) state.new) }
+    ensures unless_refused { KeepsIfRefused result (machine_in Q.queue profile.now units.now library.now state.old)
+        (machine_in Q.queue profile.now units.now library.now state.new) }
+    ensures memory { result ≡ Err ApplyFault.Memory →
+        machine_in Q.queue profile.now units.now library.now state.new ≡ machine_in Q.queue profile.now units.now library.now state.old }
     ensures kept { IsKept Q.queue (config_in Q.queue profile.now state.old) state.new }
 {
     soundness_is_kept();

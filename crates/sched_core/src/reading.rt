@@ -12,6 +12,7 @@ ghost use Rattle.sched_core.specs.Events.{Answers, RefusesFirst};
 ghost use Rattle.sched_core.specs.Fits.{IsFit, IsKept};
 ghost use Rattle.sched_core.specs.Machines.{config_in, world_in};
 ghost use Rattle.sched_core.specs.Reading.{ReadsPlan, TakesIn, listing_of};
+ghost use Rattle.sched_core.specs.Systems.{IsSameMachine};
 ghost use Rattle.sched_core.specs.declared.fault.ApplyFault.TheVariants.{Refused};
 
 use crate::fault::ApplyFault;
@@ -110,6 +111,7 @@ fn accept<Q: RecordStore>(
         (ReadsPlan (world_in Q.queue (config_in Q.queue profile.now state.old) state.old) plan.now) }
     ensures never_refused { (cause : Cause) → result ≢ Err (Refused cause) }
     ensures fit { IsFit Q.queue (config_in Q.queue profile.now state.old) state.new }
+    ensures same { OnErr result (IsSameMachine Q.queue profile.now state.old state.new) }
 {
     let job = state.jobs + 1;
     match take_in(alloc, &mut state.parts.queue, &mut state.backlog, job, plan) {
@@ -138,6 +140,7 @@ pub(crate) fn read<Q: RecordStore>(
     ensures refusal { RefusesFirst result
         (Reads (job_of units.now library.now) (world_in Q.queue (config_in Q.queue profile.now state.old) state.old) deck.now) }
     ensures fit { IsFit Q.queue (config_in Q.queue profile.now state.old) state.new }
+    ensures same { OnErr result (IsSameMachine Q.queue profile.now state.old state.new) }
 {
     if MOST_JOBS <= state.jobs {
         return Err(ApplyFault::Refused(Cause::A(EventFault::PastLimit)));

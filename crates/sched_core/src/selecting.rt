@@ -11,6 +11,7 @@ ghost use Rattle.sched_core.specs.Events.{Answers, SelectsAt};
 ghost use Rattle.sched_core.specs.Fits.{IsFit, IsKept};
 ghost use Rattle.sched_core.specs.Machines.{config_in, world_in};
 ghost use Rattle.sched_core.specs.Selecting.{IsIdleAt, Seats, queue_without, selected_as};
+ghost use Rattle.sched_core.specs.Systems.{IsSameMachine};
 ghost use Rattle.sched_core.specs.declared.fault.ApplyFault.TheVariants.{Refused};
 
 use crate::fault::ApplyFault;
@@ -84,7 +85,7 @@ fn seat_next<Q: RecordStore>(
     Ok(lines)
 }
 
-/// The initiator at a place selects a job, if one waits for it.
+/// The initiator at a place selects a job, if one waits for it. An `Err` changes nothing.
 pub(crate) fn select_at<Q: RecordStore>(
     alloc: Global,
     state: &mut State<Q>,
@@ -98,6 +99,7 @@ pub(crate) fn select_at<Q: RecordStore>(
         (SelectsAt (world_in Q.queue (config_in Q.queue profile.now state.old) state.old) place) }
     ensures never_refused { (cause : Cause) → result ≢ Err (Refused cause) }
     ensures fit { IsFit Q.queue (config_in Q.queue profile.now state.old) state.new }
+    ensures same { OnErr result (IsSameMachine Q.queue profile.now state.old state.new) }
 {
     let _layout = state.parts.queue.layout();
     match seat_next(

@@ -1,11 +1,12 @@
 //! The events that change no job at an initiator: a device's end, a writer's line, and what is shown.
-ghost use Rattle.std.specs.Prelude.{◌≡◌, ◌≢◌, ◌≤◌, Err, filter, is_some, length};
+ghost use Rattle.std.specs.Prelude.{◌≡◌, ◌≢◌, ◌≤◌, Err, OnErr, filter, is_some, length};
 ghost use Rattle.jcl_plan.specs.declared.fault.Cause.{Cause};
 ghost use Rattle.world_meaning.specs.Devices.{EndsDevice, Writes};
 ghost use Rattle.world_meaning.specs.Transitions.{Shows};
 ghost use Rattle.sched_core.specs.Events.{Answers, RefusesFirst};
 ghost use Rattle.sched_core.specs.Fits.{IsFit, IsKept};
 ghost use Rattle.sched_core.specs.Machines.{config_in, world_in};
+ghost use Rattle.sched_core.specs.Systems.{IsSameMachine};
 ghost use Rattle.sched_core.specs.declared.fault.ApplyFault.TheVariants.{Refused};
 
 use crate::fault::ApplyFault;
@@ -33,6 +34,7 @@ pub(crate) fn end_device<Q: RecordStore>(
         (EndsDevice (world_in Q.queue (config_in Q.queue profile.now state.old) state.old) serial) }
     ensures refusal { RefusesFirst result (EndsDevice (world_in Q.queue (config_in Q.queue profile.now state.old) state.old) serial) }
     ensures fit { IsFit Q.queue (config_in Q.queue profile.now state.old) state.new }
+    ensures same { OnErr result (IsSameMachine Q.queue profile.now state.old state.new) }
 {
     match events::end_device(&mut state.parts, profile.volumes, serial) {
         Ok(()) => Ok(Listed::empty(alloc)),
@@ -53,6 +55,7 @@ pub(crate) fn write<Q: RecordStore>(
         (Writes (world_in Q.queue (config_in Q.queue profile.now state.old) state.old) class) }
     ensures never_refused { (cause : Cause) → result ≢ Err (Refused cause) }
     ensures fit { IsFit Q.queue (config_in Q.queue profile.now state.old) state.new }
+    ensures same { OnErr result (IsSameMachine Q.queue profile.now state.old state.new) }
 {
     let mut lines = Vec::with_capacity(alloc, 1)?;
     let Some((job, written)) = events::write(&mut state.parts, class) else {

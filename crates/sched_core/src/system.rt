@@ -1,5 +1,5 @@
 //! The machine.
-ghost use Rattle.std.specs.Prelude.{◌≡◌, IfOk, OnErr, map, take};
+ghost use Rattle.std.specs.Prelude.{◌≡◌, Err, IfOk, OnErr, map, take};
 ghost use Rattle.cb_queue.specs.RecordQueues.{empty_queue};
 ghost use Rattle.config_core.specs.Configs.{Configuration};
 ghost use Rattle.config_core.specs.Configured.{IsConfigured};
@@ -101,11 +101,12 @@ impl<'c, Q: RecordStore> System<'c, Q> {
     }
 
     /// One event: a case of the table, decided by the volumes as they were. A refusal changes the count of events alone and takes no memory; want of
-    /// memory changes nothing that is shown.
+    /// memory changes nothing.
     pub fn apply(&mut self, event: &Event<'_>) -> Result<Listed<Entry>, ApplyFault>
         ensures answer { Applies result (world_of self.old) (world_of self.new) (Steps self.old event.now) }
         ensures refusal { RefusesFirst result (Transition (denoting self.old) (world_of self.old) (meant_by event.now)) }
-        ensures unless_refused { KeepsIfRefused result (world_of self.old) (world_of self.new) }
+        ensures unless_refused { KeepsIfRefused result self.old self.new }
+        ensures memory { result ≡ Err ApplyFault.Memory → self.new ≡ self.old }
         ensures fixed { IsSameFixed self.old self.new }
     {
         apply_in(
@@ -118,10 +119,10 @@ impl<'c, Q: RecordStore> System<'c, Q> {
         )
     }
 
-    /// One event, and a refusal as its line. Want of memory changes nothing that is shown.
+    /// One event, and a refusal as its line. Want of memory changes nothing.
     fn apply_shown(&mut self, event: &Event<'_>) -> Result<Listed<Entry>, AllocError>
         ensures step { IfOk result (λ lines. Steps self.old event.now lines (world_of self.new)) }
-        ensures err { OnErr result (world_of self.new ≡ world_of self.old) }
+        ensures err { OnErr result (self.new ≡ self.old) }
         ensures fixed { IsSameFixed self.old self.new }
     {
         let mut line = Vec::with_capacity(self.alloc, 1)?;

@@ -1,5 +1,5 @@
 //! The volume of a serial, and what is done to its sets.
-ghost use Rattle.std.specs.Prelude.{◌≡◌, None, Some, Err, IfNone, IfSome, OnErr, OnOk, true, false};
+ghost use Rattle.std.specs.Prelude.{◌≡◌, ◌↔◌, None, Some, Err, IfNone, IfSome, OnErr, OnOk, true, false};
 ghost use Rattle.std.specs.List.{position};
 ghost use Rattle.jcl_meaning.specs.Programs.{appended, emptied, grown_by};
 ghost use Rattle.jcl_meaning.specs.Stores.{cut};
@@ -155,7 +155,7 @@ fn make_on(
     requires { set_on (Some mounted.old) key.now ≡ None }
     ensures ok { OnOk result (WritesOn mounted.old mounted.new key.now (Some (new_set_of tracks expires)) × KeepsOthersOn mounted.old mounted.new place.now
         × (holds_new (Some key.now) (Some mounted.old) place.now tracks ≡ true)) }
-    ensures refused { result ≡ Err RoomFault.NotGranted → holds_new (Some key.now) (Some mounted.old) place.now tracks ≡ false }
+    ensures refused { result ≡ Err RoomFault.NotGranted ↔ holds_new (Some key.now) (Some mounted.old) place.now tracks ≡ false }
     ensures err { OnErr result (mounted.new ≡ mounted.old) }
 {
     match mounted.make(alloc, place, *key, tracks, expires) {
@@ -179,7 +179,7 @@ pub(crate) fn make_set(
     requires { set_on (mounted_in volumes.old serial) key.now ≡ None }
     ensures ok { OnOk result (Writes volumes.old volumes.new key.now serial (Some (new_set_of tracks expires)) × KeepsOthers volumes.old volumes.new serial place.now
         × (holds_new (Some key.now) (mounted_in volumes.old serial) place.now tracks ≡ true)) }
-    ensures refused { result ≡ Err RoomFault.NotGranted → holds_new (Some key.now) (mounted_in volumes.old serial) place.now tracks ≡ false }
+    ensures refused { result ≡ Err RoomFault.NotGranted ↔ holds_new (Some key.now) (mounted_in volumes.old serial) place.now tracks ≡ false }
     ensures err { OnErr result (volumes.new ≡ volumes.old) }
 {
     let Some(at) = place_of(volumes.as_slice(), serial) else {
@@ -195,7 +195,7 @@ pub(crate) fn make_set(
 fn grow_on(mounted: &mut Mounted, key: &SetKey, tracks: u16) -> Result<(), RoomFault>
     ensures ok { OnOk result (ChangesOn (grown_by tracks) mounted.old mounted.new key.now
         × (holds_more (Some key.now) (Some mounted.old) tracks ≡ true)) }
-    ensures refused { result ≡ Err RoomFault.NotGranted → holds_more (Some key.now) (Some mounted.old) tracks ≡ false }
+    ensures refused { result ≡ Err RoomFault.NotGranted ↔ holds_more (Some key.now) (Some mounted.old) tracks ≡ false }
     ensures err { OnErr result (mounted.new ≡ mounted.old) }
 {
     match mounted.grow(key, tracks) {
@@ -217,7 +217,7 @@ pub(crate) fn grow_set(
 ) -> Result<(), RoomFault>
     ensures ok { OnOk result (Changes (grown_by tracks) volumes.old volumes.new key.now serial
         × (holds_more (Some key.now) (mounted_in volumes.old serial) tracks ≡ true)) }
-    ensures refused { result ≡ Err RoomFault.NotGranted → holds_more (Some key.now) (mounted_in volumes.old serial) tracks ≡ false }
+    ensures refused { result ≡ Err RoomFault.NotGranted ↔ holds_more (Some key.now) (mounted_in volumes.old serial) tracks ≡ false }
     ensures err { OnErr result (volumes.new ≡ volumes.old) }
 {
     let Some(at) = place_of(volumes.as_slice(), serial) else {

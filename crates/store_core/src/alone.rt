@@ -182,7 +182,7 @@ pub(crate) fn grow_set(
     tracks: u16,
 ) -> Result<(), AllocError>
     ensures ok { OnOk result (store_of store.new ≡ changed_at (grown_by tracks) (store_of store.old) key.now serial) }
-    ensures err { OnErr result (store_of store.new ≡ store_of store.old) }
+    ensures err { OnErr result (store.new ≡ store.old) }
     ensures volumes { store.new.volumes ≡ store.old.volumes }
 {
     let Some(at) = place_of(store.sets.as_slice(), key, serial) else {
@@ -220,7 +220,7 @@ pub(crate) fn append_to(
     text: &Record,
 ) -> Result<(), AllocError>
     ensures ok { OnOk result (store_of store.new ≡ changed_at (appended text.now) (store_of store.old) key.now serial) }
-    ensures err { OnErr result (store_of store.new ≡ store_of store.old) }
+    ensures err { OnErr result (store.new ≡ store.old) }
     ensures volumes { store.new.volumes ≡ store.old.volumes }
 {
     let Some(at) = place_of(store.sets.as_slice(), key, serial) else {
@@ -341,7 +341,7 @@ pub(crate) fn make_in(
 ) -> Result<(), AllocError>
     requires { set_in store.old.sets key.now serial ≡ None }
     ensures ok { OnOk result (store_of store.new ≡ with_set (store_of store.old) key.now serial (Some set)) }
-    ensures err { OnErr result (store_of store.new ≡ store_of store.old) }
+    ensures err { OnErr result (store.new ≡ store.old) }
     ensures volumes { store.new.volumes ≡ store.old.volumes }
 {
     store.sets.push(SoloSet {

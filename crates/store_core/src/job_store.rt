@@ -1,5 +1,5 @@
 //! The store as a job sees it, and what the job's actions ask of it.
-ghost use Rattle.std.specs.Prelude.{◌≡◌, ◌<◌, ◌≤◌, ℕ, Bool, List, [], ◌∷◌, Err, Some, None, IfOk, OnErr, OnOk, true, false, slice_get};
+ghost use Rattle.std.specs.Prelude.{◌≡◌, ◌<◌, ◌≤◌, ◌↔◌, ℕ, Bool, List, [], ◌∷◌, Err, Some, None, IfOk, OnErr, OnOk, true, false, slice_get};
 ghost use Rattle.std.specs.Option.{option_copied, option_map};
 ghost use Rattle.group_core.specs.Groups.{RollsInRange};
 ghost use Rattle.group_core.specs.declared.entry.CatEntry.TheVariants as entry;
@@ -86,15 +86,15 @@ pub trait JobStore {
         requires { (seen job self.old).set key.now place.now.serial ≡ None }
         ensures ok { OnOk result ((seen job self.new ≡ with_set (seen job self.old) key.now place.now.serial (Some (new_set_of tracks expires)))
             × (rest job self.new ≡ spent job (place.now ∷ []) (rest job self.old)) × (grants_new job self.old key.now place.now tracks ≡ true)) }
-        ensures refused { result ≡ Err RoomFault.NotGranted → grants_new job self.old key.now place.now tracks ≡ false }
-        ensures err { OnErr result ((seen job self.new ≡ seen job self.old) × (rest job self.new ≡ rest job self.old)) };
+        ensures refused { result ≡ Err RoomFault.NotGranted ↔ grants_new job self.old key.now place.now tracks ≡ false }
+        ensures err { OnErr result (self.new ≡ self.old) };
 
     /// Adds tracks to a set.
     fn grow(&mut self, job: u16, key: &Key, serial: Serial, tracks: u16) -> Result<(), RoomFault>
         ensures ok { OnOk result ((seen job self.new ≡ changed_at (grown_by tracks) (seen job self.old) key.now serial)
             × (grants_growth job self.old key.now serial tracks ≡ true)) }
-        ensures refused { result ≡ Err RoomFault.NotGranted → grants_growth job self.old key.now serial tracks ≡ false }
-        ensures err { OnErr result (seen job self.new ≡ seen job self.old) }
+        ensures refused { result ≡ Err RoomFault.NotGranted ↔ grants_growth job self.old key.now serial tracks ≡ false }
+        ensures err { OnErr result (self.new ≡ self.old) }
         ensures rest { rest job self.new ≡ rest job self.old };
 
     /// Takes the records of a set away.
@@ -111,7 +111,7 @@ pub trait JobStore {
         text: &Record,
     ) -> Result<(), AllocError>
         ensures ok { OnOk result (seen job self.new ≡ changed_at (appended text.now) (seen job self.old) key.now serial) }
-        ensures err { OnErr result (seen job self.new ≡ seen job self.old) }
+        ensures err { OnErr result (self.new ≡ self.old) }
         ensures rest { rest job self.new ≡ rest job self.old };
 
     /// Cuts a set to the tracks that its records fill.
@@ -127,7 +127,7 @@ pub trait JobStore {
     /// Enters a name for a volume, in place of what is there. The error is want of memory.
     fn enter(&mut self, job: u16, name: &DsName, serial: Serial) -> Result<(), AllocError>
         ensures ok { OnOk result (seen job self.new ≡ with_entry (seen job self.old) name.now (Some (entry.Volume serial))) }
-        ensures err { OnErr result (seen job self.new ≡ seen job self.old) }
+        ensures err { OnErr result (self.new ≡ self.old) }
         ensures rest { rest job self.new ≡ rest job self.old };
 
     /// Takes a name out of the catalog: of a group's generation the number.

@@ -214,7 +214,7 @@ pub(crate) fn put_entry(
     entry: CatEntry,
 ) -> Result<(), AllocError>
     ensures entry { OnOk result (store_of store.new ≡ with_entry (store_of store.old) name.now (Some entry)) }
-    ensures err { OnErr result (store_of store.new ≡ store_of store.old) }
+    ensures err { OnErr result (store.new ≡ store.old) }
     ensures others { store.new.volumes ≡ store.old.volumes }
 {
     let mut entries = mem::replace(&mut store.catalog, Listed::empty(alloc)).into_vec();

@@ -30,7 +30,7 @@ pub(crate) fn perform<S: JobStore>(
         Performs programs.now steps (record { new = S.grants_new job store.old; growth = S.grants_growth job store.old }) cancelled (fixed_by given.now)
         (action_of task.now) (S.seen job store.old) course.old (S.seen job store.new) course.new made) }
     ensures rest { IfOk result (λ made. S.rest job store.new ≡ S.spent job (made_of made) (S.rest job store.old)) }
-    ensures err { OnErr result ((S.seen job store.new ≡ S.seen job store.old) × (S.rest job store.new ≡ S.rest job store.old) × (course.new ≡ course.old)) }
+    ensures err { OnErr result ((store.new ≡ store.old) × (course.new ≡ course.old)) }
 {
     match task {
         Task::Start { n, step } => {

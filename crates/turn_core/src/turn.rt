@@ -44,10 +44,9 @@ fn turn_at<S: JobStore>(
         (around_of programs.now steps given.now units.now job cancelled (record { new = S.grants_new job store.old; growth = S.grants_growth job store.old }))
         (action_of task.now ∷ actions) (S.seen job store.old) walk.old.course (S.seen job store.new) walk.new.course actions told) }
     ensures place { IfOk result (λ told. acts told ≡ true → walk.new.todo ≡ behind) }
-    ensures kept { IfOk result (λ told. acts told ≡ false →
-        (S.seen job store.new ≡ S.seen job store.old) × (S.rest job store.new ≡ S.rest job store.old) × (walk.new ≡ walk.old)) }
+    ensures kept { IfOk result (λ told. acts told ≡ false → (store.new ≡ store.old) × (walk.new ≡ walk.old)) }
     ensures rest { IfOk result (λ told. S.rest job store.new ≡ S.spent job (made_of (made_in told)) (S.rest job store.old)) }
-    ensures err { OnErr result ((S.seen job store.new ≡ S.seen job store.old) × (S.rest job store.new ≡ S.rest job store.old) × (walk.new ≡ walk.old)) }
+    ensures err { OnErr result ((store.new ≡ store.old) × (walk.new ≡ walk.old)) }
 {
     if must_wait(&*store, units, job, &walk.course.own, task, cancelled) {
         return Ok(Turned::Waits);
@@ -97,10 +96,9 @@ fn turn_from<S: JobStore>(
         (around_of programs.now plan.now.steps given.now units.now job cancelled (record { new = S.grants_new job store.old; growth = S.grants_growth job store.old }))
         (agenda_at (moves_of programs.now) plan.now.steps walk.old.todo) (S.seen job store.old) walk.old.course (S.seen job store.new) walk.new.course
         (agenda_at (moves_of programs.now) plan.now.steps walk.new.todo)) }
-    ensures kept { IfOk result (λ told. acts told ≡ false →
-        (S.seen job store.new ≡ S.seen job store.old) × (S.rest job store.new ≡ S.rest job store.old) × (walk.new ≡ walk.old)) }
+    ensures kept { IfOk result (λ told. acts told ≡ false → (store.new ≡ store.old) × (walk.new ≡ walk.old)) }
     ensures rest { IfOk result (λ told. S.rest job store.new ≡ S.spent job (made_of (made_in told)) (S.rest job store.old)) }
-    ensures err { OnErr result ((S.seen job store.new ≡ S.seen job store.old) × (S.rest job store.new ≡ S.rest job store.old) × (walk.new ≡ walk.old)) }
+    ensures err { OnErr result ((store.new ≡ store.old) × (walk.new ≡ walk.old)) }
 {
     match find(plan.steps.as_slice(), programs, &walk.course.own, walk.todo) {
         Next::Over => Ok(Turned::Ends),
@@ -152,10 +150,9 @@ pub fn turn<S: JobStore>(
     ensures ok { IfOk result (TellsJob
         (around_of programs.now plan.now.steps given.now units.now job cancelled (record { new = S.grants_new job store.old; growth = S.grants_growth job store.old }))
         plan.now (S.seen job store.old) walk.old (S.seen job store.new) walk.new) }
-    ensures kept { IfOk result (λ told. acts told ≡ false →
-        (S.seen job store.new ≡ S.seen job store.old) × (S.rest job store.new ≡ S.rest job store.old) × (walk.new ≡ walk.old)) }
+    ensures kept { IfOk result (λ told. acts told ≡ false → (store.new ≡ store.old) × (walk.new ≡ walk.old)) }
     ensures rest { IfOk result (λ told. S.rest job store.new ≡ S.spent job (made_of (made_in told)) (S.rest job store.old)) }
-    ensures err { OnErr result ((S.seen job store.new ≡ S.seen job store.old) × (S.rest job store.new ≡ S.rest job store.old) × (walk.new ≡ walk.old)) }
+    ensures err { OnErr result ((store.new ≡ store.old) × (walk.new ≡ walk.old)) }
 {
     turn_from(
         alloc, plan, programs, store, units, job, given, walk, cancelled,

@@ -20,9 +20,9 @@ returns-in-Err-NotGranted-clause-ok g c =
     (subst
     (λ course. IfOk c.take_refused.result (λ told.
     Carried (λ s. refused c.args.n c.args.dd F6 s) (g.S.JobStore.seen c.args.job c.args.store.now) course after c.take_refused.new.course told.meets (made_of told.made)))
-    same.2
+    same.1
     (subst
     (λ seen. IfOk c.take_refused.result (λ told.
     Carried (λ s. refused c.args.n c.args.dd F6 s) seen c.accept.new.course after c.take_refused.new.course told.meets (made_of told.made)))
-    same.0
+    (ap (λ store. g.S.JobStore.seen c.args.job store) same.0)
     c.take_refused.ensures.ok))

@@ -5,7 +5,7 @@ use Rattle.init_core.specs.Going.{Went}
 use Rattle.init_core.specs.Running.{config_of}
 use Rattle.init_core.specs.declared.running.Progress.TheVariants as progress
 use Rattle.init_core.specs.declared.running.Stage.TheVariants as stage
-use Rattle.init_core.proofs.Advancing.{acted_so, as_before, ended_by, ended_err, room, told_as, waits}
+use Rattle.init_core.proofs.Advancing.{acted_so, ended_by, ended_err, room, told_as, waits}
 use Rattle.init_core.proofs.turn.advance.Goals as goal
 
 pub enter_acted-requires-clause-room : goal.enter_acted-requires-clause-room
@@ -67,8 +67,3 @@ returns-in-Ok-Ends-clause-same g c =
     let same = c.in-Ok-Ends.ensures.same (ap acts c.in-Ok-Ends.field-0-is) in
     ended_err g.Q.RecordStore.queue c.args.profile.now c.args.parts.now c.args.job c.args.walk c.args.plan c.args.held c.args.admission c.requires.good
     c.end.result c.take_turn.new.store c.end.new.parts same.0 c.end.ensures.same
-
-pub returns-in-Err-clause-same : goal.returns-in-Err-clause-same
-returns-in-Err-clause-same g c =
-    as_before g.Q.RecordStore.queue c.args.profile.now c.args.parts.now c.args.job c.args.walk c.args.plan c.args.held c.args.admission c.requires.good
-    c.take_turn.new.store c.in-Err.ensures.err.0

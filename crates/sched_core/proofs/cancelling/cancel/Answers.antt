@@ -5,9 +5,10 @@ use Rattle.machine_core.specs.declared.parts.Parts.{Parts}
 use Rattle.world_meaning.specs.Cancels as table
 use Rattle.sched_core.specs.Cancelling.{has_job}
 use Rattle.sched_core.specs.Machines.{config_in, world_in}
+use Rattle.sched_core.specs.Systems.{parts_of}
 use Rattle.sched_core.specs.declared.fault.ApplyFault.TheVariants.{Memory}
 use Rattle.sched_core.proofs.Cancelled.{fit_waiting, leads_waiting, never_refused, no_job, some_waiting}
-use Rattle.sched_core.proofs.Unchanged.{queue_alone, same_fit}
+use Rattle.sched_core.proofs.Unchanged.{queue_alone, same_fit, same_machine}
 use Rattle.sched_core.proofs.Waits.{found_waiting, nameless, numbered}
 use Rattle.sched_core.proofs.cancelling.cancel.Goals as goal
 
@@ -71,3 +72,9 @@ returns-in_default-clause-answer g c =
           (sym c.if-has.ensures) none) refl refl,
       refl,
     )
+
+pub returns-in-Err-clause-same : goal.returns-in-Err-clause-same
+returns-in-Err-clause-same g c =
+    let s = c.args.state.now in
+    same_machine g.Q.RecordStore.queue c.args.profile.now s (record s { parts = c.cancel_waiting.new.parts; backlog = c.cancel_waiting.new.backlog })
+    (ap (parts_of g.Q.RecordStore.queue) c.in-Err.ensures.err.0) refl c.in-Err.ensures.err.1 refl refl

@@ -1,9 +1,10 @@
 use Rattle.std.proofs.Common.{Ok, Err, ap, refl}
 use Rattle.machine_core.specs.declared.parts.Parts.{Parts}
 use Rattle.sched_core.specs.Machines.{config_in, world_in}
+use Rattle.sched_core.specs.Systems.{parts_of}
 use Rattle.sched_core.specs.declared.fault.ApplyFault.TheVariants.{Memory}
 use Rattle.sched_core.proofs.Cancelled.{fit_running, leads_running, never_refused, some_running}
-use Rattle.sched_core.proofs.Unchanged.{queue_alone, same_fit}
+use Rattle.sched_core.proofs.Unchanged.{queue_alone, same_fit, same_machine}
 use Rattle.sched_core.proofs.cancelling.cancel_there.Goals as goal
 
 pub cancel_at-requires : goal.cancel_at-requires
@@ -58,3 +59,9 @@ returns-in-Err-clause-fit g c =
     (record s { parts = c.cancel_at.new.parts; initiators = c.cancel_at.new.initiators })
     (queue_alone s.parts c.cancel_at.new.parts same)
     (ap (λ (p : Parts _). g.Q.RecordStore.queue p.queue) same) refl c.in-Err.ensures.err.1 refl refl c.requires.kept.fit
+
+pub returns-in-Err-clause-same : goal.returns-in-Err-clause-same
+returns-in-Err-clause-same g c =
+    let s = c.args.state.now in
+    same_machine g.Q.RecordStore.queue c.args.profile.now s (record s { parts = c.cancel_at.new.parts; initiators = c.cancel_at.new.initiators })
+    (ap (parts_of g.Q.RecordStore.queue) c.in-Err.ensures.err.0) c.in-Err.ensures.err.1 refl refl refl

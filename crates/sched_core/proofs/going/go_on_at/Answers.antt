@@ -1,6 +1,9 @@
-use Rattle.std.proofs.Common.{refl}
+use Rattle.std.proofs.Common.{ap, refl}
+use Rattle.machine_core.specs.declared.parts.Parts.{Parts}
 use Rattle.sched_core.specs.Machines.{config_in}
-use Rattle.sched_core.proofs.Turning.{fit, fit_before, leads}
+use Rattle.sched_core.specs.Systems.{parts_of}
+use Rattle.sched_core.proofs.Turning.{fit, leads}
+use Rattle.sched_core.proofs.Unchanged.{queue_alone, same_fit, same_machine}
 use Rattle.sched_core.proofs.going.go_on_at.Goals as goal
 
 pub turn_at-requires-clause-runs : goal.turn_at-requires-clause-runs
@@ -22,5 +25,13 @@ returns-in-Ok-clause-fit g c =
 pub returns-in-Err-clause-fit : goal.returns-in-Err-clause-fit
 returns-in-Err-clause-fit g c =
     let s = c.args.state.now in
-    fit_before g.Q.RecordStore.queue (config_in g.Q.RecordStore.queue c.args.profile.now s) s c.requires.kept c.turn_at.new.parts c.in-Err.ensures.err.0
-    (record s { parts = c.turn_at.new.parts; initiators = c.turn_at.new.initiators }) refl c.in-Err.ensures.err.1 refl refl refl
+    let same = c.in-Err.ensures.err.0 in
+    same_fit g.Q.RecordStore.queue (config_in g.Q.RecordStore.queue c.args.profile.now s) s
+    (record s { parts = c.turn_at.new.parts; initiators = c.turn_at.new.initiators }) (queue_alone s.parts c.turn_at.new.parts same)
+    (ap (λ (p : Parts _). g.Q.RecordStore.queue p.queue) same) refl c.in-Err.ensures.err.1 refl refl c.requires.kept.fit
+
+pub returns-in-Err-clause-same : goal.returns-in-Err-clause-same
+returns-in-Err-clause-same g c =
+    let s = c.args.state.now in
+    same_machine g.Q.RecordStore.queue c.args.profile.now s (record s { parts = c.turn_at.new.parts; initiators = c.turn_at.new.initiators })
+    (ap (parts_of g.Q.RecordStore.queue) c.in-Err.ensures.err.0) c.in-Err.ensures.err.1 refl refl refl

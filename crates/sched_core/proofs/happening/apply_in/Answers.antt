@@ -6,9 +6,10 @@ use Rattle.world_meaning.specs.Transitions.{Transition}
 use Rattle.world_meaning.specs.Worlds.{World, counted}
 use Rattle.sched_core.specs.Events.{Answers, DoesSo, RefusesFirst}
 use Rattle.sched_core.specs.Machines.{config_in, world_in}
-use Rattle.sched_core.specs.Systems.{meant_by}
+use Rattle.sched_core.specs.Systems.{Machine, meant_by}
 use Rattle.sched_core.proofs.Counting.{kept_at}
 use Rattle.sched_core.proofs.Happened.{done, kept_before, kept_done, kept_refused, refuses, refuses_first}
+use Rattle.sched_core.proofs.Machined.{counted_alone, counted_back}
 use Rattle.sched_core.proofs.happening.apply_in.Goals as goal
 
 pub happen-requires-clause-kept : goal.happen-requires-clause-kept
@@ -100,3 +101,20 @@ returns-in-Err-Memory-clause-kept g c =
     let same : c.happen.new.state.events ≡ s.events + 1 = ap (λ (w : World). w.events) answered in
     kept_before queue_of config s c.requires.kept job e c.if-state-ge-MOST_EVENTS.false c.soundness_is_kept.ensures c.happen.new.state
     c.in-Err-Memory.ensures.fit (c.happen.new.state.events - 1) (omega (arith, same)) answered
+
+pub returns-in-Err-Refused-clause-unless_refused : goal.returns-in-Err-Refused-clause-unless_refused
+returns-in-Err-Refused-clause-unless_refused g c =
+    let s = c.args.state.now in
+    let names = c.args.units.now in
+    let library = c.args.library.now in
+    counted_alone g.Q.RecordStore.queue c.args.profile.now names library s c.happen.new.state (s.events + 1) (c.in-Err-Refused.ensures.same names library)
+
+pub returns-in-Err-Memory-clause-memory : goal.returns-in-Err-Memory-clause-memory
+returns-in-Err-Memory-clause-memory g c =
+    let s = c.args.state.now in
+    let names = c.args.units.now in
+    let library = c.args.library.now in
+    let same = c.in-Err-Memory.ensures.same names library in
+    let counted : c.happen.new.state.events ≡ s.events + 1 = ap (λ (m : Machine). m.events) same in
+    λ _. counted_back g.Q.RecordStore.queue c.args.profile.now names library s c.happen.new.state (s.events + 1) same
+    (c.happen.new.state.events - 1) (omega (arith, counted))

@@ -1,8 +1,10 @@
-use Rattle.std.proofs.Common.{refl, sym, subst}
+use Rattle.std.proofs.Common.{ap, refl, sym, subst}
 use Rattle.world_meaning.specs.Devices.{EndsDevice}
 use Rattle.sched_core.specs.Events.{LeadsTo}
 use Rattle.sched_core.specs.Machines.{config_in, world_in}
+use Rattle.sched_core.specs.Systems.{parts_of}
 use Rattle.sched_core.proofs.Shows.{ended_so, fit_ended, fit_same, is_refused, never_refused_ended, refused_first, world_same}
+use Rattle.sched_core.proofs.Unchanged.{same_machine}
 use Rattle.sched_core.proofs.showing.end_device.Goals as goal
 
 pub returns-in-Ok-clause-answer : goal.returns-in-Ok-clause-answer
@@ -44,3 +46,9 @@ returns-in-Err-clause-fit g c =
     let queue_of = g.Q.RecordStore.queue in
     let s = c.args.state.now in
     fit_same queue_of (config_in queue_of c.args.profile.now s) s c.requires c.end_device.new.parts c.in-Err.ensures.err
+
+pub returns-in-Err-clause-same : goal.returns-in-Err-clause-same
+returns-in-Err-clause-same g c =
+    let s = c.args.state.now in
+    same_machine g.Q.RecordStore.queue c.args.profile.now s (record s { parts = c.end_device.new.parts })
+    (ap (parts_of g.Q.RecordStore.queue) c.in-Err.ensures.err) refl refl refl refl

@@ -1,4 +1,4 @@
-use Rattle.std.proofs.Common.{◌++◌, ap}
+use Rattle.std.proofs.Common.{◌++◌, ap, refl}
 use Rattle.jcl_meaning.specs.Programs.{grown_by}
 use Rattle.vtoc_core.specs.Entries.{with_extents}
 use Rattle.vtoc_core.specs.Volumes.{VolumeState}
@@ -19,4 +19,4 @@ returns-in-Ok-clause-ok c =
 pub returns-in-Err-NoSpace-clause-refused : goal.returns-in-Err-NoSpace-clause-refused
 returns-in-Err-NoSpace-clause-refused c =
     let refused = rw c.in-Err-NoSpace.field-0-is at c.in-Err-NoSpace.ensures.answer in
-    λ _. grows_not c.args.mounted.now.volume c.args.key.now c.args.tracks refused.0 refused.1
+    (λ _. grows_not c.args.mounted.now.volume c.args.key.now c.args.tracks refused.0 refused.1, λ _. refl)

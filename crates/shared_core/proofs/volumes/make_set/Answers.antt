@@ -18,5 +18,7 @@ returns-clause-ok c =
 
 pub returns-clause-refused : goal.returns-clause-refused
 returns-clause-refused c =
-    let at = its_state c.args.volumes.now _ _ _ c.args.serial c.in-Some.at _ _ c.args.key.now c.as_slice.ensures (c.into_vec-all.ensures ∙ c.replace.ensures.value) c.index_mut.ensures.value c.new.ensures c.in-Some.ensures.there in
-    λ h. subst (λ o. holds_new (Some c.args.key.now) o c.args.place.now c.args.tracks ≡ false) (sym at) (c.make_on-made.ensures.refused h)
+    let at = its_state c.args.volumes.now _ _ _ c.args.serial c.in-Some.at _ _ c.args.key.now c.as_slice.ensures (c.into_vec-all.ensures ∙ c.replace.ensures.value) c.index_mut.ensures.value c.new.ensures c.in-Some.ensures.there in (
+      λ h. subst (λ o. holds_new (Some c.args.key.now) o c.args.place.now c.args.tracks ≡ false) (sym at) (c.make_on-made.ensures.refused.0 h),
+      λ h. c.make_on-made.ensures.refused.1 (subst (λ o. holds_new (Some c.args.key.now) o c.args.place.now c.args.tracks ≡ false) at h),
+    )

@@ -1,8 +1,9 @@
-use Rattle.std.proofs.Common.{subst}
+use Rattle.std.proofs.Common.{◌≡◌, Err, subst}
 use Rattle.world_meaning.specs.Transitions.{Transition}
 use Rattle.sched_core.specs.Events.{RefusesFirst}
 use Rattle.sched_core.specs.Systems.{Applies, KeepsIfRefused, Steps, denoting, machine_in, meant_by, world_of}
-use Rattle.sched_core.proofs.Machined.{applied, kept_if}
+use Rattle.sched_core.specs.declared.fault.ApplyFault.TheVariants.{Memory}
+use Rattle.sched_core.proofs.Machined.{applied}
 use Rattle.sched_core.proofs.system.System.apply.Goals as goal
 
 pub returns-clause-answer : goal.returns-clause-answer
@@ -23,8 +24,12 @@ returns-clause-refusal g c =
 
 pub returns-clause-unless_refused : goal.returns-clause-unless_refused
 returns-clause-unless_refused g c =
-    let queue_of = g.Q.RecordStore.queue in
     let x = c.self.inside in
-    let new = c.apply_in.new.state in
-    subst (λ m. KeepsIfRefused c.apply_in.result (world_of m) (world_of (machine_in queue_of x.profile x.units.now x.library.now new))) c.self.view_is
-    (kept_if queue_of x.profile x.units.now x.library.now x.state new c.apply_in.ensures.kept.fit.good.layout c.apply_in.result c.apply_in.ensures.unless_refused)
+    subst (λ m. KeepsIfRefused c.apply_in.result m (machine_in g.Q.RecordStore.queue x.profile x.units.now x.library.now c.apply_in.new.state)) c.self.view_is
+    c.apply_in.ensures.unless_refused
+
+pub returns-clause-memory : goal.returns-clause-memory
+returns-clause-memory g c =
+    let x = c.self.inside in
+    subst (λ m. c.apply_in.result ≡ Err Memory → machine_in g.Q.RecordStore.queue x.profile x.units.now x.library.now c.apply_in.new.state ≡ m) c.self.view_is
+    c.apply_in.ensures.memory

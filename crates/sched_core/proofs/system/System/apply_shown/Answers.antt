@@ -1,6 +1,5 @@
-use Rattle.std.proofs.Common.{◌≡◌, ◌++◌, ◌∷◌, List, [], sym, ap, ◌∙◌, subst}
+use Rattle.std.proofs.Common.{◌≡◌, ◌∷◌, [], sym, subst}
 use Rattle.std.specs.Prelude.{Err}
-use Rattle.jcl_plan.specs.declared.entry.Entry.{Entry}
 use Rattle.jcl_plan.specs.declared.entry.Entry.TheVariants as entry
 use Rattle.sched_core.specs.Systems.{Applies, Steps, world_of}
 use Rattle.sched_core.proofs.system.System.apply_shown.Goals as goal

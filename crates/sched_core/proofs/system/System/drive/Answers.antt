@@ -1,6 +1,6 @@
-use Rattle.std.proofs.Common.{◌<◌, ◌+◌, length, List, [], ◌∷◌, ◌++◌, sym, ap, ◌∙◌, subst}
+use Rattle.std.proofs.Common.{◌<◌, ◌+◌, length, [], ◌∷◌, ◌++◌, sym, ap, ◌∙◌, subst}
 use Rattle.std.specs.Prelude.{get_or}
-use Rattle.sched_core.proofs.Driving.{DrivenTo, driven_more, driven_now, driven_still, promises_so}
+use Rattle.sched_core.proofs.Driving.{DrivenTo, driven_more, driven_now, promises_so}
 use Rattle.sched_core.specs.Systems.{IsDriven}
 use Rattle.sched_core.proofs.system.System.drive.Goals as goal
 
@@ -32,9 +32,9 @@ returns-in_default-clause-promised g c =
 
 pub returns-in_default-apply_shown-clause-done : goal.returns-in_default-apply_shown-clause-done
 returns-in_default-apply_shown-clause-done g c =
-    subst (λ ys. IsDriven c.args.self.now c.args.events.now ys c.loop-event.done c.apply_shown.new.self) (sym c.reserve.ensures.items)
-    (driven_still c.args.self.now c.loop-event.self c.apply_shown.new.self c.args.events.now c.loop-event.entries.items c.loop-event.done
-    c.loop-event.invariant.1 c.in_default-apply_shown.ensures.err c.apply_shown.ensures.fixed)
+    subst (λ m. IsDriven c.args.self.now c.args.events.now c.reserve.new.self.items c.loop-event.done m) (sym c.in_default-apply_shown.ensures.err)
+    (subst (λ ys. IsDriven c.args.self.now c.args.events.now ys c.loop-event.done c.loop-event.self) (sym c.reserve.ensures.items)
+    (driven_now c.args.self.now c.loop-event.self c.args.events.now c.loop-event.entries.items c.loop-event.done c.loop-event.invariant.1))
 
 pub returns-in_default-apply_shown-clause-promised : goal.returns-in_default-apply_shown-clause-promised
 returns-in_default-apply_shown-clause-promised g c =

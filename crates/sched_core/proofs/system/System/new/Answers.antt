@@ -42,4 +42,5 @@ returns g c = λ config configured apart.
           config apart;
       unit_names = c.names.ensures ∙ ap unit_names apart.units;
       library = apart.library;
+      volumes = ap (λ x. x.store.volumes) c.started.ensures.parts ∙ apart.volumes;
     }

@@ -1,11 +1,10 @@
-use Rattle.std.proofs.Common.{◌≡◌, Some, true, subst, ap}
+use Rattle.std.proofs.Common.{◌≡◌, Some, true, subst}
 use Rattle.store_core.specs.Actions.{new_set_of}
-use Rattle.world_meaning.specs.Lenses.{seen}
-use Rattle.shared_core.specs.Rooms.{holds_new, kept_place, others_of}
+use Rattle.shared_core.specs.Rooms.{holds_new, kept_place}
 use Rattle.shared_core.specs.Writes.{KeepsOthers}
-use Rattle.shared_core.specs.Shown.{mounted_in, world_store_of}
-use Rattle.shared_core.proofs.Entries.{err_by, ok_by}
-use Rattle.shared_core.proofs.SeenSets.{others_made, seen_written, with_volumes}
+use Rattle.shared_core.specs.Shown.{mounted_in}
+use Rattle.shared_core.proofs.Entries.{ok_by}
+use Rattle.shared_core.proofs.SeenSets.{others_made, seen_written}
 use Rattle.shared_core.proofs.store.SharedStoreJobStore.make.Goals as goal
 
 pub returns-in-Some-clause-ok : goal.returns-in-Some-clause-ok
@@ -18,9 +17,3 @@ returns-in-Some-clause-ok c =
           (subst (λ at. holds_new (Some c.in-Some.key) (mounted_in c.args.self.now.volumes c.args.place.now.serial) at c.args.tracks ≡ true) c.kept_place.ensures w.2),
     ))
     c.make_set.ensures.ok
-
-pub returns-in-Some-clause-err : goal.returns-in-Some-clause-err
-returns-in-Some-clause-err c =
-    err_by c.make_set.result (λ e.
-    (ap (λ l. seen c.args.job (world_store_of (with_volumes c.args.self.now l))) e, ap (λ l. others_of c.args.job (with_volumes c.args.self.now l)) e))
-    c.make_set.ensures.err
