@@ -1,10 +1,10 @@
 -- Why a statement of the configuration changed nothing.
-use Rattle.std.specs.Prelude.{◌≡◌, Option, Some}
+use Rattle.std.specs.Prelude.{◌≡◌, Option, None, Some}
 use Rattle.machine_meaning.specs.declared.config.ConfigFault.{ConfigFault}
 use Rattle.config_core.specs.declared.config.ConfigError.{ConfigError}
 use Rattle.config_core.specs.declared.config.ConfigError.TheVariants.{Refused, Memory}
 
--- it has this fault, or memory was wanting
+-- it has this fault, or it has none and memory was wanting: what is refused is told as that, whether or not memory is wanting
 abbrev pub IsRefusal : Option ConfigFault → ConfigError → Type 0
 IsRefusal fault (Refused f) = fault ≡ Some f
-IsRefusal fault Memory = Unit {0}
+IsRefusal fault Memory = fault ≡ None
