@@ -138,3 +138,24 @@ zero_part f within =
 -- the other way round
 pub turned : (f g : Field) → AreApart f g → AreApart g f
 turned f g h = elim h [ inl a ↦ inr a | inr b ↦ inl b ]
+
+-- a field that is apart from all that was entered
+apart_from_last : (f g : Field) (fields : List Field) → list_all (λ h. is_apart g h) (fields ++ f ∷ []) ≡ true → is_apart g f ≡ true
+apart_from_last f g [] h = (and_parts (is_apart g f) true h).0
+apart_from_last f g (k ∷ fields) h =
+    apart_from_last f g fields (and_parts (is_apart g k) (list_all (λ h. is_apart g h) (fields ++ f ∷ [])) h).1
+
+pub untouched : (f : Field) (entries : List Entry) (old new : List ℕ) → AreEntered old entries new → all_apart (places entries ++ f ∷ []) ≡ true →
+    part new f.at f.width ≡ part old f.at f.width
+untouched f [] old new made away = ap (λ r. part r f.at f.width) made
+untouched f (e ∷ entries) old new made away =
+    let both = and_parts (list_all (λ g. is_apart (place e) g) (places entries ++ f ∷ [])) (all_apart (places entries ++ f ∷ [])) away in
+    untouched f entries made.0 new made.3 both.1
+    ∙ part_stays (place e) f old made.0 made.1 (turned f (place e) (apart (place e) f (apart_from_last f (place e) (places entries) both.0)))
+
+-- of fields that are apart those behind the first three are
+pub behind_three : (f g h : Field) (fields : List Field) → all_apart (f ∷ g ∷ h ∷ fields) ≡ true → all_apart fields ≡ true
+behind_three f g h fields away =
+    let two = (and_parts (list_all (λ k. is_apart f k) (g ∷ h ∷ fields)) (all_apart (g ∷ h ∷ fields)) away).1 in
+    let one = (and_parts (list_all (λ k. is_apart g k) (h ∷ fields)) (all_apart (h ∷ fields)) two).1 in
+    (and_parts (list_all (λ k. is_apart h k) fields) (all_apart fields) one).1

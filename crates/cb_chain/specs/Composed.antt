@@ -15,6 +15,7 @@ use Rattle.cb_meaning.specs.Spelled.{kind_code, name_bytes, of_set, of_space, se
 use Rattle.cb_queue.specs.RecordQueues.{unlinked}
 use Rattle.std.specs.List.{flat_map}
 use Rattle.cb_chain.specs.Entries.{Byte, Entry, Number, Text}
+use Rattle.cb_chain.specs.Written.{HasNoStatus}
 
 -- a whole record of a kind and a job, with zeros in its link
 pub record IsOf (l : Layout) (job kind : ℕ) (r : List ℕ) : Type 0 where
@@ -23,27 +24,31 @@ pub record IsOf (l : Layout) (job kind : ℕ) (r : List ℕ) : Type 0 where
   pub of_job : number_at r (field 2 2) ≡ job
   pub link : unlinked l r ≡ r
 
--- what it spells, and the number of each record that it leads to
+-- what it spells, the number of each record that it leads to, and no status
 pub record IsJct (l : Layout) (job : ℕ) (plan : JobPlan) (first_step : ℕ) (r : List ℕ) : Type 0 where
   pub head : IsOf l job jct r
   pub spells : SpellsJct l plan r
   pub to_step : number_at r l.first_step ≡ first_step
+  pub status : HasNoStatus r
 
 pub record IsSct (l : Layout) (job : ℕ) (step : StepPlan) (first_dd next : ℕ) (r : List ℕ) : Type 0 where
   pub head : IsOf l job sct r
   pub spells : SpellsSct l step r
   pub to_dd : number_at r l.first_dd ≡ first_dd
   pub to_next : number_at r l.next_step ≡ next
+  pub status : HasNoStatus r
 
 pub record IsSiot (l : Layout) (job : ℕ) (dd : DdPlan) (below next : ℕ) (r : List ℕ) : Type 0 where
   pub head : IsOf l job siot r
   pub spells : SpellsSiot l dd r
   pub to_below : number_at r l.below ≡ below
   pub to_next : number_at r l.next_dd ≡ next
+  pub status : HasNoStatus r
 
 pub record IsJfcb (l : Layout) (job : ℕ) (p : SetPlan) (r : List ℕ) : Type 0 where
   pub head : IsOf l job jfcb r
   pub spells : SpellsJfcb l p r
+  pub status : HasNoStatus r
 
 pub record IsCards (l : Layout) (job : ℕ) (cards : List (List ℕ)) (next : ℕ) (r : List ℕ) : Type 0 where
   pub head : IsOf l job card_record r

@@ -1,6 +1,8 @@
 use Rattle.std.proofs.Common.{◌≡◌, ℕ, ◌+◌, ◌≤◌, List, ◌++◌, length, take, drop, min, suc, arith, ap, ◌∙◌, sym, refl, length-drop}
 use Rattle.std.proofs.lemmas.List.{take-append-drop}
 use Rattle.cb_chain.specs.Taking.{CardsFrom, cards_needed}
+use Rattle.std.proofs.lemmas.List.Elements.{All-nil}
+use Rattle.cb_chain.specs.Written.{IsUnmarked}
 use Rattle.cb_chain.proofs.SoFar.{begins, ends, goes_on, ready_now, room_now, some_more}
 use Rattle.cb_chain.proofs.cards.write_cards.Goals as goal
 
@@ -51,4 +53,5 @@ pub returns : goal.returns
 returns g c =
     ends c.args.job cards_needed (CardsFrom c.args.layout.now c.args.job) c.args.cards.now (g.S.RecordStore.queue c.args.store.now) c.take_if-first.result
     (g.S.RecordStore.queue c.loop-rest.store) c.loop-rest.here c.loop-rest.rest.now (sym c.is_more-in-loop-rest.ensures ∙ c.loop-rest-test.false) refl
-    c.take_if-first.ensures.most (λ later. (refl, refl)) c.loop-rest.invariant
+    c.take_if-first.ensures.most
+    (λ later. ((refl, refl), All-nil (λ n. IsUnmarked (later.at n)))) c.loop-rest.invariant

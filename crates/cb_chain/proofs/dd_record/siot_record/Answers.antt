@@ -1,9 +1,9 @@
-use Rattle.std.proofs.Common.{◌≡◌, ℕ, List, [], ◌∷◌, ◌++◌, length, replicate, arith, refl, ◌∙◌, true}
+use Rattle.std.proofs.Common.{◌≡◌, ℕ, List, [], ◌∷◌, ◌++◌, length, replicate, arith, refl, ◌∙◌, true, inr}
 use Rattle.cb_meaning.specs.Fields.{field, filled_or_blank, is_zero_but, part}
 use Rattle.cb_meaning.specs.Spelled.{cards_of, class_of, common, marks_of, status_bytes}
 use Rattle.cb_chain.specs.Entries.{AreEntered, Byte, Entry, Number, Text, places, zeros}
 use Rattle.cb_chain.specs.Composed.{head_entries}
-use Rattle.cb_chain.proofs.Entered.{InNone, all_stand, append_entered, narrow, no_link, nothing_changed, size_stays, unused_zero}
+use Rattle.cb_chain.proofs.Entered.{InNone, all_stand, append_entered, behind_three, narrow, no_link, nothing_changed, size_stays, untouched, unused_zero}
 use Rattle.cb_chain.specs.Composed.{set_entries, word_entries}
 use Rattle.cb_chain.proofs.Small.{small_power}
 use Rattle.cb_chain.proofs.dd_record.siot_record.Goals as goal
@@ -16,50 +16,54 @@ returns c =
     let head = c.headed-rec.result in
     let link = c.headed-rec.ensures.rest l.link own.fits.link.within own.kind own.owner in
     let dd = c.args.dd.now in
-    let last : List Entry = Text status_bytes (part r 168 8) ∷ [] in
     let later : List Entry = Text (field 16 8) (filled_or_blank 8 dd.name) ∷ Byte 24 (marks_of dd) ∷ Byte 25 (class_of dd.kind)
-    ∷ Number l.cards (length (cards_of dd.kind)) ∷ (set_entries dd.kind ++ last) in
-    let behind : List Entry = Text l.link (replicate l.link.width 0) ∷ Number l.next_dd c.args.next ∷ Number l.below c.args.below
-    ∷ (word_entries dd.kind ++ later) in
+    ∷ Number l.cards (length (cards_of dd.kind)) ∷ set_entries dd.kind in
+    let body : List Entry = Number l.next_dd c.args.next ∷ Number l.below c.args.below ∷ (word_entries dd.kind ++ later) in
+    let ending : List Entry = Text status_bytes (part r 168 8) ∷ [] in
+    let behind : List Entry = Text l.link (replicate l.link.width 0) ∷ (body ++ ending) in
     let entries : List Entry = head_entries 3 c.args.job ++ behind in
+    let body_made : AreEntered head body r = (
+      c.write_number.new.self,
+      c.write_number.ensures.others,
+      c.write_number.ensures.value,
+      (
+        c.write_number-2.new.self,
+        c.write_number-2.ensures.others,
+        c.write_number-2.ensures.value,
+        (append_entered (word_entries dd.kind) later c.write_number-2.new.self c.write_words.new.rec r c.write_words.ensures (
+          c.write_text.new.self,
+          c.write_text.ensures.others,
+          c.write_text.ensures.value ∙ c.name_text.ensures.text,
+          (
+            c.write_byte.new.self,
+            c.write_byte.ensures.others,
+            c.write_byte.ensures.value ∙ c.marks_of.ensures,
+            (
+              c.write_byte-2.new.self,
+              c.write_byte-2.ensures.others,
+              c.write_byte-2.ensures.value ∙ c.class_of.ensures,
+              (
+                c.write_number-3.new.self,
+                c.write_number-3.ensures.others,
+                c.write_number-3.ensures.value ∙ c.card_count.ensures,
+                c.write_set.ensures,
+              ),
+            ),
+          ),
+        )),
+      ),
+    ) in
     let made : AreEntered zeros entries r =
     (append_entered (head_entries 3 c.args.job) behind zeros head r c.headed-rec.ensures.entered (
       head,
       nothing_changed l.link head,
       link,
-      (
-        c.write_number.new.self,
-        c.write_number.ensures.others,
-        c.write_number.ensures.value,
-        (
-          c.write_number-2.new.self,
-          c.write_number-2.ensures.others,
-          c.write_number-2.ensures.value,
-          (append_entered (word_entries dd.kind) later c.write_number-2.new.self c.write_words.new.rec r c.write_words.ensures (
-            c.write_text.new.self,
-            c.write_text.ensures.others,
-            c.write_text.ensures.value ∙ c.name_text.ensures.text,
-            (
-              c.write_byte.new.self,
-              c.write_byte.ensures.others,
-              c.write_byte.ensures.value ∙ c.marks_of.ensures,
-              (
-                c.write_byte-2.new.self,
-                c.write_byte-2.ensures.others,
-                c.write_byte-2.ensures.value ∙ c.class_of.ensures,
-                (
-                  c.write_number-3.new.self,
-                  c.write_number-3.ensures.others,
-                  c.write_number-3.ensures.value ∙ c.card_count.ensures,
-                  (append_entered (set_entries dd.kind) last c.write_number-3.new.self c.write_set.new.rec r c.write_set.ensures
-                      (r, nothing_changed status_bytes r, refl, refl)),
-                ),
-              ),
-            ),
-          )),
-        ),
-      ),
+      (append_entered body ending head r r body_made (r, nothing_changed status_bytes r, refl, refl)),
     )) in
+    let blank = c.headed-rec.ensures.rest status_bytes (omega arith) (inr (omega arith)) (inr (omega arith)) in
+    let status : part r 168 8 ≡ replicate 8 0 =
+    untouched status_bytes body head r body_made
+    (behind_three (field 0 1) (field 2 2) l.link (places body ++ status_bytes ∷ []) c.requires.holds.siot) ∙ blank in
     let whole : length r ≡ 176 = size_stays entries zeros r made in
     let stand = all_stand entries zeros r c.requires.holds.siot made in
     let fields = common l ++ l.next_dd ∷ l.below ∷ field 12 4 ∷ field 16 10 ∷ l.cards ∷ field 28 1 ∷ field 30 10 ∷ status_bytes ∷ [] in
@@ -136,6 +140,7 @@ returns c =
       };
       to_below = stand.1.1.1.1.0;
       to_next = stand.1.1.1.0;
+      status = status;
     }
 
 pub overflow_cast-card_count : goal.overflow_cast-card_count

@@ -1,7 +1,9 @@
 use Rattle.std.proofs.Common.{◌≡◌, ◌≤◌, [], ◌∷◌, false, refl, subst, sym, ap, ◌∙◌}
 use Rattle.cb_meaning.specs.Spelled.{SpellsJfcb, jfcb}
 use Rattle.cb_chain.specs.Taking.{IsTaken}
-use Rattle.cb_chain.proofs.Chains.{owned}
+use Rattle.std.proofs.lemmas.List.Elements.{All-nil}
+use Rattle.cb_chain.specs.Written.{IsUnmarked}
+use Rattle.cb_chain.proofs.Chains.{behind_it, owned}
 use Rattle.cb_chain.proofs.Linked.{filled_took, none_after, nothing_taken, stepped}
 use Rattle.cb_chain.proofs.Stored.{ready_after}
 use Rattle.cb_chain.proofs.dds.write_set.Goals as goal
@@ -28,8 +30,12 @@ returns g c =
       took = filled_took here [] old q new took step.filled;
       most = c.take_if-here.ensures.most;
       spells = λ later kept. (
-        refl,
-        owned l later job here r (step.here_is later kept) taken.from_one within (step.here_used later kept) jfcb c.jfcb_record.ensures.head,
-        subst (SpellsJfcb l c.args.set.now) (sym (step.here_is later kept)) c.jfcb_record.ensures.spells,
+        (
+          refl,
+          owned l later job here r (step.here_is later kept) taken.from_one within (step.here_used later kept) jfcb c.jfcb_record.ensures.head,
+          subst (SpellsJfcb l c.args.set.now) (sym (step.here_is later kept)) c.jfcb_record.ensures.spells,
+        ),
+        behind_it l later job here r (step.here_is later kept) taken.from_one within (step.here_used later kept) [] c.jfcb_record.ensures.status
+            (All-nil (λ n. IsUnmarked (later.at n))),
       );
     }

@@ -1,9 +1,9 @@
-use Rattle.std.proofs.Common.{◌≡◌, ℕ, List, [], ◌∷◌, ◌++◌, length, replicate, arith, refl, ◌∙◌, true}
-use Rattle.cb_meaning.specs.Fields.{field, filled_or_blank, is_zero_but}
-use Rattle.cb_meaning.specs.Spelled.{jfcb_fields, key_code, name_referred, relative_bytes, serial_coded}
+use Rattle.std.proofs.Common.{◌≡◌, ℕ, List, [], ◌∷◌, ◌++◌, length, replicate, arith, refl, ◌∙◌, true, inr}
+use Rattle.cb_meaning.specs.Fields.{field, filled_or_blank, is_zero_but, part}
+use Rattle.cb_meaning.specs.Spelled.{jfcb_fields, key_code, name_referred, relative_bytes, serial_coded, status_bytes}
 use Rattle.cb_chain.specs.Entries.{AreEntered, Byte, Entry, Text, places, zeros}
 use Rattle.cb_chain.specs.Composed.{head_entries}
-use Rattle.cb_chain.proofs.Entered.{InNone, all_stand, append_entered, narrow, no_link, nothing_changed, size_stays, unused_zero}
+use Rattle.cb_chain.proofs.Entered.{InNone, all_stand, append_entered, narrow, no_link, nothing_changed, size_stays, untouched, unused_zero}
 use Rattle.cb_chain.specs.Composed.{key_entries}
 use Rattle.cb_chain.proofs.set_record.jfcb_record.Goals as goal
 
@@ -17,36 +17,35 @@ returns c =
     let p = c.args.set.now in
     let last : List Entry = Text (field 56 6) (filled_or_blank 6 (serial_coded p.volume))
     ∷ Text (field 62 44) (filled_or_blank 44 (name_referred p.volume)) ∷ [] in
-    let later : List Entry = Text l.link (replicate l.link.width 0) ∷ Byte 8 (key_code p.key) ∷ Text (field 9 3) (relative_bytes p.key)
-    ∷ (key_entries p.key ++ last) in
+    let body : List Entry = Byte 8 (key_code p.key) ∷ Text (field 9 3) (relative_bytes p.key) ∷ (key_entries p.key ++ last) in
+    let later : List Entry = Text l.link (replicate l.link.width 0) ∷ body in
     let entries : List Entry = head_entries 4 c.args.job ++ later in
-    let made : AreEntered zeros entries r =
-    (append_entered (head_entries 4 c.args.job) later zeros head r c.headed-rec.ensures.entered (
-      head,
-      nothing_changed l.link head,
-      link,
+    let body_made : AreEntered head body r = (
+      c.write_byte.new.self,
+      c.write_byte.ensures.others,
+      c.write_byte.ensures.value ∙ c.key_code.ensures,
       (
-        c.write_byte.new.self,
-        c.write_byte.ensures.others,
-        c.write_byte.ensures.value ∙ c.key_code.ensures,
-        (
-          c.write_part.new.self,
-          c.write_part.ensures.others,
-          c.write_part.ensures.value ∙ c.relative_bytes.ensures,
-          (append_entered (key_entries p.key) last c.write_part.new.self c.write_name.new.rec r c.write_name.ensures (
-            c.write_text.new.self,
-            c.write_text.ensures.others,
-            c.write_text.ensures.value ∙ c.serial_text.ensures.text,
-            (
-              c.write_text-2.new.self,
-              c.write_text-2.ensures.others,
-              c.write_text-2.ensures.value ∙ c.referred_text.ensures.text,
-              refl,
-            ),
-          )),
-        ),
+        c.write_part.new.self,
+        c.write_part.ensures.others,
+        c.write_part.ensures.value ∙ c.relative_bytes.ensures,
+        (append_entered (key_entries p.key) last c.write_part.new.self c.write_name.new.rec r c.write_name.ensures (
+          c.write_text.new.self,
+          c.write_text.ensures.others,
+          c.write_text.ensures.value ∙ c.serial_text.ensures.text,
+          (
+            c.write_text-2.new.self,
+            c.write_text-2.ensures.others,
+            c.write_text-2.ensures.value ∙ c.referred_text.ensures.text,
+            refl,
+          ),
+        )),
       ),
-    )) in
+    ) in
+    let made : AreEntered zeros entries r =
+    (append_entered (head_entries 4 c.args.job) later zeros head r c.headed-rec.ensures.entered
+    (head, nothing_changed l.link head, link, body_made)) in
+    let blank = c.headed-rec.ensures.rest status_bytes (omega arith) (inr (omega arith)) (inr (omega arith)) in
+    let status : part r 168 8 ≡ replicate 8 0 = untouched status_bytes body head r body_made refl ∙ blank in
     let whole : length r ≡ 176 = size_stays entries zeros r made in
     let stand = all_stand entries zeros r c.requires.jfcb made in
     let fields = jfcb_fields l in
@@ -83,4 +82,5 @@ returns c =
         reference = stand.1.1.1.1.1.1.1.0;
         unused = unused;
       };
+      status = status;
     }
