@@ -1,8 +1,9 @@
 -- How far the configuration has come.
-use Rattle.std.proofs.Common.{◌≡◌, Bool, false, true, ◌||◌, List, [], ◌∷◌, ◌++◌, Some, None, Err, refl, sym, ap, ◌∙◌}
+use Rattle.std.proofs.Common.{◌≡◌, Bool, false, true, ◌||◌, List, [], ◌∷◌, ◌++◌, Some, None, Err, refl, sym, ap, subst, ◌∙◌}
 use Rattle.machine_meaning.specs.declared.config.ConfigFault.{ConfigFault}
 use Rattle.input_core.specs.declared.statement.ConfigStatement.{ConfigStatement}
 use Rattle.config_core.specs.Configs.{Configuration, config_fault, configured}
+use Rattle.sched_core.specs.Systems.{Machine}
 use Rattle.session_text.specs.declared.fault.Fault.{Fault}
 use Rattle.session_text.specs.declared.fault.Fault.TheVariants.{NoEnd}
 use Rattle.session_text.specs.declared.statement.Says.TheVariants.{Config}
@@ -11,7 +12,8 @@ use Rattle.session_core.specs.declared.SessionEnd.{SessionEnd}
 use Rattle.session_core.specs.declared.SessionFault.TheVariants.{Stopped}
 use Rattle.session_core.specs.Listings.{Lists}
 use Rattle.session_core.specs.Outcomes.{IsOutcome}
-use Rattle.session_core.specs.Sessions.{configuration_of, configured_by, events_of, fault_behind, has_begun, has_events, session_behind, told, unless_late, world_at_start}
+use Rattle.session_core.specs.Sessions.{configuration_of, configured_by, events_of, fault_behind, has_begun, has_events, session_behind, told, unless_late}
+use Rattle.session_core.proofs.Started.{IsFirst, configured_run}
 use Rattle.session_core.proofs.Standing.{config_of-more, goes_on, has_begun-more, no_events, stops_at}
 
 -- these statements are configuration, and all of them stand
@@ -36,14 +38,24 @@ Configured-more all before rest s statement c new p says none is =
     }
 
 -- nothing is listed
-pub lists_nothing : (before : List Statement) → has_begun before ≡ false → Lists before (events_of before) []
-lists_nothing before none = record { entries = []; world = world_at_start before; run = rw (no_events before none) refl; text = refl }
+lists_nothing : (before : List Statement) (first : Machine) → has_begun before ≡ false → IsFirst (configuration_of before) first
+    → Lists before (events_of before) []
+lists_nothing before first none started = record {
+  first = first;
+  last = first;
+  started = started;
+  entries = [];
+  drives = rw (no_events before none) refl;
+  run = configured_run before first first (events_of before) [] started (rw (no_events before none) refl);
+  text = refl;
+}
 
-pub Configured-stops : (all before rest : List Statement) (s : Statement) (c : Configuration) (f : Fault) → Configured all before (s ∷ rest) c → fault_behind before s.says ≡ Some f
-    → IsOutcome {T = SessionEnd} (session_behind [] all) (Err (Stopped f s.line)) []
-Configured-stops all before rest s c f p some =
+pub Configured-stops : (all before rest : List Statement) (s : Statement) (c : Configuration) (f : Fault) → ((first : Machine) × IsFirst c first)
+    → Configured all before (s ∷ rest) c → fault_behind before s.says ≡ Some f → IsOutcome {T = SessionEnd} (session_behind [] all) (Err (Stopped f s.line)) []
+Configured-stops all before rest s c f begun p some =
     let is = p.session ∙ stops_at before rest s f some in
-    rw is (refl, lists_nothing before p.not_begun)
+    let started = subst (λ x. IsFirst x begun.0) p.configured begun.1 in
+    rw is (refl, lists_nothing before begun.0 p.not_begun started)
 
 -- one that is refused, or whose block has no END
 pub refused_config : (all before rest : List Statement) (s : Statement) (statement : ConfigStatement) (has_end : Bool) (c : Configuration) (fault : ConfigFault)

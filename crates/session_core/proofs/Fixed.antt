@@ -1,7 +1,6 @@
 -- A machine of which what is fixed stays.
-use Rattle.std.proofs.Common.{◌≡◌, refl, ap, ◌∙◌}
-use Rattle.jcl_job.specs.Jobs.{job_of}
-use Rattle.sched_core.specs.Systems.{IsSameFixed, Machine, denoting}
+use Rattle.std.proofs.Common.{refl, ◌∙◌}
+use Rattle.sched_core.specs.Systems.{IsSameFixed, Machine}
 
 pub IsSameFixed-none : (m : Machine) → IsSameFixed m m
 IsSameFixed-none m = record { config = refl; unit_names = refl; library = refl }
@@ -12,7 +11,3 @@ IsSameFixed-twice a b c first then = record {
   unit_names = then.unit_names ∙ first.unit_names;
   library = then.library ∙ first.library;
 }
-
--- decks denote the same jobs in it
-pub same_denoting : (a b : Machine) → IsSameFixed a b → denoting b ≡ denoting a
-same_denoting a b same = ap (λ names. job_of names b.library) same.unit_names ∙ ap (job_of a.unit_names) same.library

@@ -1,13 +1,12 @@
 -- How far a session has come behind its configuration.
-use Rattle.std.proofs.Common.{◌≡◌, ◌⊎◌, ℕ, ◌+◌, ◌<◌, Bool, true, false, ◌||◌, List, [], ◌∷◌, ◌++◌, length, take, drop, get_or, replicate, Option, Some, None, is_some, Result, Ok, Err, refl, sym, ap, ◌∙◌, inl, inr, ⊎_elim, append_assoc, arith, length-append}
+use Rattle.std.proofs.Common.{◌≡◌, ◌⊎◌, ℕ, ◌+◌, ◌<◌, Bool, true, false, ◌||◌, List, [], ◌∷◌, ◌++◌, length, take, drop, get_or, replicate, Option, Some, None, is_some, Result, Ok, Err, refl, sym, ap, subst, ◌∙◌, inl, inr, ⊎_elim, append_assoc, arith, length-append}
 use Rattle.std.proofs.lemmas.List.{append-nil, length-replicate, take-replicate}
 use Rattle.std.specs.Io.KnownBytes.{Appends}
 use Rattle.config_core.specs.Configs.{Configuration, config_fault}
 use Rattle.input_core.specs.declared.event.Event.{Event}
 use Rattle.input_core.specs.declared.statement.ConfigStatement.{ConfigStatement}
 use Rattle.machine_meaning.specs.declared.config.ConfigFault.{ConfigFault}
-use Rattle.world_meaning.specs.Readings.{Denoting}
-use Rattle.world_meaning.specs.Worlds.{World}
+use Rattle.sched_core.specs.Systems.{Machine}
 use Rattle.session_text.specs.declared.fault.Fault.{Fault}
 use Rattle.session_text.specs.declared.statement.Says.{Says}
 use Rattle.session_text.specs.declared.statement.Says.TheVariants.{Config, Events, Refused}
@@ -21,10 +20,11 @@ use Rattle.session_core.specs.Listings.{Lists, text_of_all}
 use Rattle.session_core.specs.Marks.{AreMarks, IsListedLast}
 use Rattle.session_core.specs.Outcomes.{IsOutcome, WritesOutcome}
 use Rattle.session_core.specs.Running.{AreApplied, AreAppliedInPart, StatementRuns, mark_at}
-use Rattle.session_core.specs.Sessions.{Session, configuration_of, configured_by, denoting_in, denoting_of, events_in, events_of, fault_behind, has_begun, has_events, session_behind, start_in, unless_late, world_at_start}
+use Rattle.session_core.specs.Sessions.{Session, configuration_of, configured_by, events_in, events_of, fault_behind, has_begun, has_events, session_behind, unless_late}
 use Rattle.session_core.specs.Streams.{SinkState}
 use Rattle.session_core.proofs.Applied.{AreApplied-append, AreApplied-behind, AreApplied-none}
 use Rattle.session_core.proofs.Marked.{AreMarks-more}
+use Rattle.session_core.proofs.Started.{IsFirst, configured_run}
 use Rattle.session_core.proofs.Streams.{appended_twice}
 use Rattle.session_core.proofs.Standing.{config_of-more, events_of-more, front, goes_on, has_begun-more, no_events, rest_at, stops_at}
 
@@ -38,15 +38,15 @@ pub record LastIsEvent (before : List Statement) : Type 0 where
 abbrev pub HasBegun : List Statement → List Statement → Type 0
 HasBegun before rest = LastIsEvent before ⊎ (begins_with_event rest ≡ true)
 
--- The statements before these ran: of their lines the first are written out, and the others held. What is told of the next that is configuration
--- is what was found before the first event.
-pub record Progress (all before rest : List Statement) (late : Option Fault) (job : Denoting) (world : World) (out : List ℕ) (marks : List Mark)
-    (text : List ℕ) : Type 0 where
+-- The statements before these ran, from a first machine to this one: of their lines the first are written out, and the others held. What is told of
+-- the next that is configuration is what was found before the first event.
+pub record Progress (all before rest : List Statement) (late : Option Fault) (now : Machine) (out : List ℕ) (marks : List Mark) (text : List ℕ) : Type 0 where
   pub session : session_behind [] all ≡ session_behind before rest
   pub found : late ≡ late_in (configuration_of before) rest
-  pub denotes : job ≡ denoting_of before
   pub begun : HasBegun before rest
-  pub applied : AreApplied job (world_at_start before) (events_of before) world [] (out ++ text)
+  pub first : Machine
+  pub started : IsFirst (configuration_of before) first
+  pub applied : AreApplied first (events_of before) now [] (out ++ text)
   pub marked : AreMarks (session_behind [] all).stands (length out) out marks text
 
 -- what a session comes to, with the lines that are written out and those that are held
@@ -63,40 +63,48 @@ written_behind s a b c result out first more = record {
   outcome = more.outcome;
 }
 
-Lists-applied : (before : List Statement) (events : List Event) (job : Denoting) (world : World) (text : List ℕ) → job ≡ denoting_of before
-    → AreApplied job (world_at_start before) events world [] text → Lists before events text
-Lists-applied before events job world text denotes a = record { entries = a.entries; world = world; run = rw denotes at a.run; text = a.text }
+Lists-applied : (before : List Statement) (events : List Event) (first last : Machine) (text : List ℕ) → IsFirst (configuration_of before) first
+    → AreApplied first events last [] text → Lists before events text
+Lists-applied before events first last text started a = record {
+  first = first;
+  last = last;
+  started = started;
+  entries = a.entries;
+  drives = a.drives;
+  run = configured_run before first last events a.entries started a.drives;
+  text = a.text_so;
+}
 
-pub Progress-start : (all : List Statement) (from : ℕ) (c : Configuration) (late : Option Fault) (job : Denoting) (world : World) (marks : List Mark)
-    (text : List ℕ) → IsConfiguredBy all from c → late ≡ late_in c (drop from all) → world ≡ start_in c → job ≡ denoting_in c → marks ≡ [] → text ≡ []
-    → Progress all (take from all) (drop from all) late job world [] marks text
-Progress-start all from c late job world marks text p found is denotes no_marks no_text =
-    let start : world ≡ world_at_start (take from all) = is ∙ ap start_in p.configured in
-    record {
-      session = p.session;
-      found = found ∙ ap (λ x. late_in x (drop from all)) p.configured;
-      denotes = denotes ∙ ap denoting_in p.configured;
-      begun = inr p.next;
-      applied = rw (no_events (take from all) p.not_begun, start, no_text) (AreApplied-none job (world_at_start (take from all)) []);
-      marked = rw no_marks no_text;
-    }
+pub Progress-start : (all : List Statement) (from : ℕ) (c : Configuration) (late : Option Fault) (first : Machine) (marks : List Mark) (text : List ℕ)
+    → IsConfiguredBy all from c → late ≡ late_in c (drop from all) → IsFirst c first → marks ≡ [] → text ≡ []
+    → Progress all (take from all) (drop from all) late first [] marks text
+Progress-start all from c late first marks text p found started no_marks no_text = record {
+  session = p.session;
+  found = found ∙ ap (λ x. late_in x (drop from all)) p.configured;
+  begun = inr p.next;
+  first = first;
+  started = subst (λ x. IsFirst x first) p.configured started;
+  applied = rw (no_events (take from all) p.not_begun, no_text) (AreApplied-none first []);
+  marked = rw no_marks no_text;
+}
 
-pub Progress-ends : (all before : List Statement) (late : Option Fault) (job : Denoting) (world : World) (out : List ℕ) (marks : List Mark)
-    (text : List ℕ) (end : SessionEnd) → Progress all before [] late job world out marks text → ComesTo all (Ok end) out marks text
-Progress-ends all before late job world out marks text end p = record {
-  outcome = rw p.session (refl, Lists-applied before (events_of before) job world (out ++ text) p.denotes p.applied);
+pub Progress-ends : (all before : List Statement) (late : Option Fault) (now : Machine) (out : List ℕ) (marks : List Mark) (text : List ℕ) (end : SessionEnd)
+    → Progress all before [] late now out marks text → ComesTo all (Ok end) out marks text
+Progress-ends all before late now out marks text end p = record {
+  outcome = rw p.session (refl, Lists-applied before (events_of before) p.first now (out ++ text) p.started p.applied);
   marked = p.marked;
 }
 
 -- what was held is written out
-pub Progress-written : (all before rest : List Statement) (late : Option Fault) (job : Denoting) (world : World) (out : List ℕ) (marks new_marks : List Mark)
-    (text new : List ℕ) → Progress all before rest late job world out marks text
-    → new_marks ≡ [] → new ≡ [] → Progress all before rest late job world (out ++ text) new_marks new
-Progress-written all before rest late job world out marks new_marks text new p no_marks none = record {
+pub Progress-written : (all before rest : List Statement) (late : Option Fault) (now : Machine) (out : List ℕ) (marks new_marks : List Mark)
+    (text new : List ℕ) → Progress all before rest late now out marks text
+    → new_marks ≡ [] → new ≡ [] → Progress all before rest late now (out ++ text) new_marks new
+Progress-written all before rest late now out marks new_marks text new p no_marks none = record {
   session = p.session;
   found = p.found;
-  denotes = p.denotes;
   begun = p.begun;
+  first = p.first;
+  started = p.started;
   applied = rw (none, append-nil) p.applied;
   marked = rw no_marks none;
 }
@@ -117,12 +125,6 @@ same_config c (Refused f) is = absurd cc
 config_stays : (before : List Statement) (s : Statement) → has_events s.says ≡ true → configuration_of (before ++ s ∷ []) ≡ configuration_of before
 config_stays before s is = config_of-more before s ∙ same_config (configuration_of before) s.says is
 
-same_world : (before : List Statement) (s : Statement) → has_events s.says ≡ true → world_at_start (before ++ s ∷ []) ≡ world_at_start before
-same_world before s is = ap start_in (config_stays before s is)
-
-same_denoting : (before : List Statement) (s : Statement) → has_events s.says ≡ true → denoting_of (before ++ s ∷ []) ≡ denoting_of before
-same_denoting before s is = ap denoting_in (config_stays before s is)
-
 -- what is told of the next that is configuration is told behind an event too
 late_behind : (c : Configuration) (says : Says) (more : Option Fault) → has_events says ≡ true → late_by c says more ≡ more
 late_behind c (Events e times) more is = refl
@@ -142,16 +144,16 @@ late_some (Some own) has_end = refl
 late_some None true = refl
 late_some None false = refl
 
-module _ (all before rest : List Statement) (s : Statement) (late : Option Fault) (job : Denoting) (world : World) (out : List ℕ) (marks : List Mark)
-    (text : List ℕ) (p : Progress all before (s ∷ rest) late job world out marks text) where
+module _ (all before rest : List Statement) (s : Statement) (late : Option Fault) (now : Machine) (out : List ℕ) (marks : List Mark) (text : List ℕ)
+    (p : Progress all before (s ∷ rest) late now out marks text) where
   -- a fault of a statement
   stops : (f : Fault) → fault_behind before s.says ≡ Some f → ComesTo all (Err (Stopped f s.line)) out marks text
   stops f some =
       let is = p.session ∙ stops_at before rest s f some in
-      record { outcome = rw is (refl, Lists-applied before (events_of before) job world (out ++ text) p.denotes p.applied); marked = p.marked }
+      record { outcome = rw is (refl, Lists-applied before (events_of before) p.first now (out ++ text) p.started p.applied); marked = p.marked }
 
   -- the first times of an event
-  listed : (e : Event) (times : ℕ) (new : List ℕ) → s.says ≡ Events e times → AreAppliedInPart job world e times text new
+  listed : (e : Event) (times : ℕ) (new : List ℕ) → s.says ≡ Events e times → AreAppliedInPart now e times text new
       → IsListedLast (session_behind [] all).stands s.line (out ++ text) (out ++ new)
   listed e times new is a =
       let next = next_stands all before rest s p.session (ap (fault_behind before) is) in
@@ -165,27 +167,27 @@ module _ (all before rest : List Statement) (s : Statement) (late : Option Fault
         lists = record {
           done = a.done;
           in_statement = rw is (omega (arith, length-replicate times e, a.within));
-          lists = rw some (Lists-applied before (events_of before ++ replicate a.done e) job a.after (out ++ new) p.denotes
-              (AreApplied-append job (world_at_start before) world a.after (events_of before) (replicate a.done e) [] (out ++ text) (out ++ new) p.applied
-              (AreApplied-behind job world a.after (replicate a.done e) out text new a.applied)));
+          lists = rw some (Lists-applied before (events_of before ++ replicate a.done e) p.first a.reached (out ++ new) p.started
+              (AreApplied-append p.first now a.reached (events_of before) (replicate a.done e) [] (out ++ text) (out ++ new) p.applied
+              (AreApplied-behind now a.reached (replicate a.done e) out text new a.applied)));
         };
-        lists_earlier = Lists-applied before (events_of before) job world (out ++ text) p.denotes p.applied;
+        lists_earlier = Lists-applied before (events_of before) p.first now (out ++ text) p.started p.applied;
       }
 
-  marked_more : (e : Event) (times : ℕ) (new : List ℕ) (new_marks : List Mark) → s.says ≡ Events e times → AreAppliedInPart job world e times text new
+  marked_more : (e : Event) (times : ℕ) (new : List ℕ) (new_marks : List Mark) → s.says ≡ Events e times → AreAppliedInPart now e times text new
       → new_marks ≡ marks ++ mark_at s.line text ∷ []
       → AreMarks (session_behind [] all).stands (length out) out new_marks new
   marked_more e times new new_marks is a more =
       let stands = (session_behind [] all).stands in
       let part = text_of_all a.applied.entries in
-      let whole : out ++ new ≡ (out ++ text) ++ part = ap (λ x. out ++ x) a.applied.text ∙ sym (append_assoc out text part) in
+      let whole : out ++ new ≡ (out ++ text) ++ part = ap (λ x. out ++ x) a.applied.text_so ∙ sym (append_assoc out text part) in
       let last : IsListedLast stands s.line (out ++ text) ((out ++ text) ++ part) = rw whole at (listed e times new is a) in
-      rw (more, a.applied.text) (AreMarks-more stands (length out) out marks text part s.line (length text) (sym (length-append out text)) p.marked last)
+      rw (more, a.applied.text_so) (AreMarks-more stands (length out) out marks text part s.line (length text) (sym (length-append out text)) p.marked last)
 
   -- all of its times
-  Progress-more : (e : Event) (times : ℕ) (after : World) (new : List ℕ) (new_marks : List Mark) → s.says ≡ Events e times
+  Progress-more : (e : Event) (times : ℕ) (after : Machine) (new : List ℕ) (new_marks : List Mark) → s.says ≡ Events e times
       → new_marks ≡ marks ++ mark_at s.line text ∷ []
-      → AreApplied job world (replicate times e) after text new → Progress all (before ++ s ∷ []) rest late job after out new_marks new
+      → AreApplied now (replicate times e) after text new → Progress all (before ++ s ∷ []) rest late after out new_marks new
   Progress-more e times after new new_marks is more a =
       let event : has_events s.says ≡ true = ap has_events is in
       let events : events_of (before ++ s ∷ []) ≡ events_of before ++ replicate times e = events_of-more before s
@@ -194,16 +196,16 @@ module _ (all before rest : List Statement) (s : Statement) (late : Option Fault
         session = p.session ∙ goes_on before rest s (ap (fault_behind before) is);
         found = p.found ∙ late_behind (configuration_of before) s.says (late_in (configuration_of before) rest) event ∙
             ap (λ x. late_in x rest) (sym (config_stays before s event));
-        denotes = p.denotes ∙ sym (same_denoting before s event);
         begun = inl (record { earlier = before; last = s; is = refl; event = event });
-        applied = rw (same_world before s event, events) (AreApplied-append job (world_at_start before) world after (events_of before) (replicate times e) []
-            (out ++ text) (out ++ new) p.applied
-            (AreApplied-behind job world after (replicate times e) out text new a));
-        marked = marked_more e times new new_marks is (record { done = times; within = omega arith; after = after; applied = a }) more;
+        first = p.first;
+        started = rw (config_stays before s event) p.started;
+        applied = rw events (AreApplied-append p.first now after (events_of before) (replicate times e) [] (out ++ text) (out ++ new) p.applied
+            (AreApplied-behind now after (replicate times e) out text new a));
+        marked = marked_more e times new new_marks is (record { done = times; within = omega arith; reached = after; applied = a }) more;
       }
 
   wants : (e : Event) (times : ℕ) (new : List ℕ) (new_marks : List Mark) → s.says ≡ Events e times → new_marks ≡ marks ++ mark_at s.line text ∷ []
-      → AreAppliedInPart job world e times text new → ComesTo all (Err Memory) out new_marks new
+      → AreAppliedInPart now e times text new → ComesTo all (Err Memory) out new_marks new
   wants e times new new_marks is more a =
       let last = listed e times new is a in
       record {
@@ -213,7 +215,7 @@ module _ (all before rest : List Statement) (s : Statement) (late : Option Fault
 
   wants_first : (e : Event) (times : ℕ) → s.says ≡ Events e times → ComesTo all (Err Memory) out marks text
   wants_first e times is =
-      let last = listed e times text is (record { done = 0; within = omega arith; after = world; applied = AreApplied-none job world text }) in
+      let last = listed e times text is (record { done = 0; within = omega arith; reached = now; applied = AreApplied-none now text }) in
       record {
         outcome = inl (record {
           before = last.before;
@@ -246,8 +248,8 @@ module _ (all before rest : List Statement) (s : Statement) (late : Option Fault
       ∙ sym (found_here statement has_end is) ∙ told in
       stops f some
 
-  fails_by : (says : Says) (fault : SessionFault) (after : World) (new_marks : List Mark) (new : List ℕ) → s.says ≡ says
-      → StatementRuns {T = Unit {0}} late job s.line says world marks text (Err fault) after new_marks new
+  fails_by : (says : Says) (fault : SessionFault) (after : Machine) (new_marks : List Mark) (new : List ℕ) → s.says ≡ says
+      → StatementRuns {T = Unit {0}} late now s.line says marks text (Err fault) after new_marks new
       → ComesTo all (Err fault) out new_marks new
   fails_by (Events e times) Memory after new_marks new is h =
       ⊎_elim (λ a. wants e times new new_marks is a.0 a.1) (λ silent. rw (silent.marks_so, silent.text_so) (wants_first e times is)) h
@@ -257,47 +259,47 @@ module _ (all before rest : List Statement) (s : Statement) (late : Option Fault
   fails_by (Config statement has_end) fault after new_marks new is h =
       rw (h.2, h.3.marks_so, h.3.text_so) (stops_late statement has_end h.0 is h.1)
 
-  Progress-fails : (fault : SessionFault) (after : World) (new_marks : List Mark) (new : List ℕ)
-      → StatementRuns {T = Unit {0}} late job s.line s.says world marks text (Err fault) after new_marks new → ComesTo all (Err fault) out new_marks new
+  Progress-fails : (fault : SessionFault) (after : Machine) (new_marks : List Mark) (new : List ℕ)
+      → StatementRuns {T = Unit {0}} late now s.line s.says marks text (Err fault) after new_marks new → ComesTo all (Err fault) out new_marks new
   Progress-fails fault after new_marks new h = fails_by s.says fault after new_marks new refl h
 
-  runs_by : (says : Says) (after : World) (new_marks : List Mark) (new : List ℕ) → s.says ≡ says
-      → StatementRuns {T = Unit {0}} late job s.line says world marks text (Ok tt) after new_marks new
-      → Progress all (before ++ s ∷ []) rest late job after out new_marks new
+  runs_by : (says : Says) (after : Machine) (new_marks : List Mark) (new : List ℕ) → s.says ≡ says
+      → StatementRuns {T = Unit {0}} late now s.line says marks text (Ok tt) after new_marks new
+      → Progress all (before ++ s ∷ []) rest late after out new_marks new
   runs_by (Events e times) after new_marks new is h = Progress-more e times after new new_marks is h.0 h.1
   runs_by (Refused own) after new_marks new is h = absurd h
   runs_by (Config statement has_end) after new_marks new is h = absurd h
 
-  Progress-runs : (after : World) (new_marks : List Mark) (new : List ℕ)
-      → StatementRuns {T = Unit {0}} late job s.line s.says world marks text (Ok tt) after new_marks new
-      → Progress all (before ++ s ∷ []) rest late job after out new_marks new
+  Progress-runs : (after : Machine) (new_marks : List Mark) (new : List ℕ)
+      → StatementRuns {T = Unit {0}} late now s.line s.says marks text (Ok tt) after new_marks new
+      → Progress all (before ++ s ∷ []) rest late after out new_marks new
   Progress-runs after new_marks new h = runs_by s.says after new_marks new refl h
 
 -- the statement at an index of the rest behind the configuration
 module _ (all rest : List Statement) (from index : ℕ) (s : Statement) (back : rest ≡ drop from all) (within : index < length rest)
     (item : s ≡ get_or rest index s) where
-  pub Progress-next : (late : Option Fault) (job next : Denoting) (world after : World) (out : List ℕ) (marks new_marks : List Mark) (text new : List ℕ)
-      → next ≡ job → Progress all (take (from + index) all) (drop (from + index) all) late job world out marks text
-      → StatementRuns {T = Unit {0}} late job s.line s.says world marks text (Ok tt) after new_marks new
-      → Progress all (take (from + (index + 1)) all) (drop (from + (index + 1)) all) late next after out new_marks new
-  Progress-next late job next world after out marks new_marks text new is p h =
+  pub Progress-next : (late : Option Fault) (now after : Machine) (out : List ℕ) (marks new_marks : List Mark) (text new : List ℕ)
+      → Progress all (take (from + index) all) (drop (from + index) all) late now out marks text
+      → StatementRuns {T = Unit {0}} late now s.line s.says marks text (Ok tt) after new_marks new
+      → Progress all (take (from + (index + 1)) all) (drop (from + (index + 1)) all) late after out new_marks new
+  Progress-next late now after out marks new_marks text new p h =
       let at = rest_at all rest from index s back within item in
       let here = rw at.0 at p in
-      rw (at.1, is)
-      (Progress-runs all (take (from + index) all) (drop (from + (index + 1)) all) s late job world out marks text here after new_marks new h)
+      rw at.1
+      (Progress-runs all (take (from + index) all) (drop (from + (index + 1)) all) s late now out marks text here after new_marks new h)
 
-  pub Progress-found : (late : Option Fault) (job : Denoting) (world : World) (out : List ℕ) (marks : List Mark) (text : List ℕ)
-      (statement : ConfigStatement) (has_end : Bool) → Progress all (take (from + index) all) (drop (from + index) all) late job world out marks text
+  pub Progress-found : (late : Option Fault) (now : Machine) (out : List ℕ) (marks : List Mark) (text : List ℕ)
+      (statement : ConfigStatement) (has_end : Bool) → Progress all (take (from + index) all) (drop (from + index) all) late now out marks text
       → s.says ≡ Config statement has_end → is_some late ≡ true
-  Progress-found late job world out marks text statement has_end p is =
+  Progress-found late now out marks text statement has_end p is =
       let at = rest_at all rest from index s back within item in
       let here = rw at.0 at p in
-      found_some all (take (from + index) all) (drop (from + (index + 1)) all) s late job world out marks text here statement has_end is
+      found_some all (take (from + index) all) (drop (from + (index + 1)) all) s late now out marks text here statement has_end is
 
-  pub Progress-last : (late : Option Fault) (job : Denoting) (world after : World) (out : List ℕ) (marks new_marks : List Mark) (text new : List ℕ)
-      (fault : SessionFault) → Progress all (take (from + index) all) (drop (from + index) all) late job world out marks text
-      → StatementRuns {T = Unit {0}} late job s.line s.says world marks text (Err fault) after new_marks new → ComesTo all (Err fault) out new_marks new
-  Progress-last late job world after out marks new_marks text new fault p h =
+  pub Progress-last : (late : Option Fault) (now after : Machine) (out : List ℕ) (marks new_marks : List Mark) (text new : List ℕ)
+      (fault : SessionFault) → Progress all (take (from + index) all) (drop (from + index) all) late now out marks text
+      → StatementRuns {T = Unit {0}} late now s.line s.says marks text (Err fault) after new_marks new → ComesTo all (Err fault) out new_marks new
+  Progress-last late now after out marks new_marks text new fault p h =
       let at = rest_at all rest from index s back within item in
       let here = rw at.0 at p in
-      Progress-fails all (take (from + index) all) (drop (from + (index + 1)) all) s late job world out marks text here fault after new_marks new h
+      Progress-fails all (take (from + index) all) (drop (from + (index + 1)) all) s late now out marks text here fault after new_marks new h

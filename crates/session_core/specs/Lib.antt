@@ -7,3 +7,4 @@ pub mod Marks
 pub mod Configuring
 pub mod Running
 pub mod Failures
+pub mod Promises

@@ -1,24 +1,30 @@
 -- What a session writes.
-use Rattle.std.specs.Prelude.{◌≡◌, ℕ, ◌≤◌, ◌<◌, List, ◌∷◌, ◌++◌, length, map, take}
+use Rattle.std.specs.Prelude.{◌≡◌, ℕ, ◌≤◌, ◌<◌, false, List, ◌∷◌, ◌++◌, length, map, take}
 use Rattle.std.specs.List.{flat_map}
 use Rattle.jcl_plan.specs.declared.entry.Entry.{Entry}
 use Rattle.jcl_plan.specs.Lines.{text_of}
+use Rattle.cb_meaning.specs.declared.layout.TheConstants.{LAYOUT_1}
 use Rattle.input_core.specs.declared.event.Event.{Event}
-use Rattle.sched_core.specs.Systems.{meant_by}
+use Rattle.sched_core.specs.Starting.{IsStarted}
+use Rattle.sched_core.specs.Systems.{Drives, Machine, meant_by, world_of}
 use Rattle.world_meaning.specs.Transitions.{Runs}
-use Rattle.world_meaning.specs.Worlds.{World}
 use Rattle.session_text.specs.declared.statement.Statement.{Statement}
-use Rattle.session_core.specs.Sessions.{denoting_of, events_in, events_of, world_at_start}
+use Rattle.session_core.specs.Sessions.{configuration_of, denoting_of, events_in, events_of, world_at_start}
+use Rattle.session_core.specs.declared.run.TheConstants.{MOST_VIEWS}
 
 -- the lines of events as text
 abbrev pub text_of_all : List (List Entry) → List ℕ
 text_of_all entries = flat_map (λ lines. flat_map text_of lines) entries
 
--- a run of these events, from the machine that these statements configure, writes this listing
+-- These events, from the machine that these statements configure, write this listing: a chain of machines, each event decided by the volumes of the
+-- machine before it. So it is a run of the table.
 pub record Lists (config : List Statement) (events : List Event) (listing : List ℕ) : Type 0 where
+  pub first : Machine
+  pub last : Machine
+  pub started : IsStarted (configuration_of config) false MOST_VIEWS LAYOUT_1 first
   pub entries : List (List Entry)
-  pub world : World
-  pub run : Runs (denoting_of config) (world_at_start config) (map meant_by events) entries world
+  pub drives : Drives first events entries last
+  pub run : Runs (denoting_of config) (world_at_start config) (map meant_by events) entries (world_of last)
   pub text : listing ≡ text_of_all entries
 
 -- the events of these statements, and of one more as many as were done

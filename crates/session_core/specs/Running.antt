@@ -1,13 +1,10 @@
 -- What events write, and what a statement behind the configuration does.
-use Rattle.std.specs.Prelude.{◌≡◌, ◌⊎◌, ℕ, ◌≤◌, List, [], ◌∷◌, ◌++◌, length, map, replicate, Option, Some, Result, Ok, Err}
+use Rattle.std.specs.Prelude.{◌≡◌, ◌⊎◌, ℕ, ◌≤◌, List, [], ◌∷◌, ◌++◌, length, replicate, Option, Some, Result, Ok, Err}
 use Rattle.std.specs.List.{flat_map}
 use Rattle.jcl_plan.specs.declared.entry.Entry.{Entry}
 use Rattle.jcl_plan.specs.Lines.{text_of}
 use Rattle.input_core.specs.declared.event.Event.{Event}
-use Rattle.sched_core.specs.Systems.{Machine, Steps, meant_by}
-use Rattle.world_meaning.specs.Readings.{Denoting}
-use Rattle.world_meaning.specs.Transitions.{Runs}
-use Rattle.world_meaning.specs.Worlds.{World}
+use Rattle.sched_core.specs.Systems.{Drives, Machine, Steps, world_of}
 use Rattle.session_text.specs.declared.fault.Fault.{Fault}
 use Rattle.session_text.specs.declared.statement.Says.{Says}
 use Rattle.session_text.specs.declared.statement.Says.TheVariants as says
@@ -16,23 +13,24 @@ use Rattle.session_core.specs.declared.SessionFault.TheVariants.{Stopped, WriteF
 use Rattle.session_core.specs.declared.listing.Mark.{Mark}
 use Rattle.session_core.specs.Listings.{text_of_all}
 
--- an event, which is a step of the machine, and the text before and after it
-pub record IsApplied (machine : Machine) (event : Event) (after : World) (old new : List ℕ) : Type 0 where
+-- an event, which is a step from one machine to the next, and the text before and after it
+pub record IsApplied (old : Machine) (event : Event) (new : Machine) (text new_text : List ℕ) : Type 0 where
   pub lines : List Entry
-  pub step : Steps machine event lines after
-  pub text : new ≡ old ++ flat_map text_of lines
+  pub step : Steps old event lines (world_of new)
+  pub text_so : new_text ≡ text ++ flat_map text_of lines
 
-pub record AreApplied (job_of : Denoting) (world : World) (events : List Event) (after : World) (old new : List ℕ) : Type 0 where
+-- events, which are steps of machine after machine
+pub record AreApplied (old : Machine) (events : List Event) (new : Machine) (text new_text : List ℕ) : Type 0 where
   pub entries : List (List Entry)
-  pub run : Runs job_of world (map meant_by events) entries after
-  pub text : new ≡ old ++ text_of_all entries
+  pub drives : Drives old events entries new
+  pub text_so : new_text ≡ text ++ text_of_all entries
 
 -- the first times of an event that comes so many times
-pub record AreAppliedInPart (job_of : Denoting) (world : World) (event : Event) (times : ℕ) (old new : List ℕ) : Type 0 where
+pub record AreAppliedInPart (old : Machine) (event : Event) (times : ℕ) (text new_text : List ℕ) : Type 0 where
   pub done : ℕ
   pub within : done ≤ times
-  pub after : World
-  pub applied : AreApplied job_of world (replicate done event) after old new
+  pub reached : Machine
+  pub applied : AreApplied old (replicate done event) reached text new_text
 
 -- nothing is listed
 pub record IsSilent (marks : List Mark) (text : List ℕ) (new_marks : List Mark) (new_text : List ℕ) : Type 0 where
@@ -43,15 +41,16 @@ abbrev pub mark_at : ℕ → List ℕ → Mark
 mark_at line text = record { line = line; start = length text }
 
 -- with what is told of a statement that is configuration
-abbrev pub StatementRuns : {T : Type 0} → Option Fault → Denoting → ℕ → Says → World → List Mark → List ℕ → Result T SessionFault → World → List Mark → List ℕ → Type 0
-StatementRuns late job_of line (says.Events event times) world marks text (Ok x) after new_marks new_text =
-    (new_marks ≡ marks ++ mark_at line text ∷ []) × AreApplied job_of world (replicate times event) after text new_text
-StatementRuns late job_of line (says.Events event times) world marks text (Err Memory) after new_marks new_text =
-    ((new_marks ≡ marks ++ mark_at line text ∷ []) × AreAppliedInPart job_of world event times text new_text) ⊎ IsSilent marks text new_marks new_text
-StatementRuns late job_of line (says.Events event times) world marks text (Err (Stopped f at)) after new_marks new_text = ⊥
-StatementRuns late job_of line (says.Events event times) world marks text (Err (WriteFailed at)) after new_marks new_text = ⊥
-StatementRuns late job_of line (says.Refused own) world marks text (Ok x) after new_marks new_text = ⊥
-StatementRuns late job_of line (says.Refused own) world marks text (Err fault) after new_marks new_text = (fault ≡ Stopped own line) × IsSilent marks text new_marks new_text
-StatementRuns late job_of line (says.Config s has_end) world marks text (Ok x) after new_marks new_text = ⊥
-StatementRuns late job_of line (says.Config s has_end) world marks text (Err fault) after new_marks new_text =
+abbrev pub StatementRuns : {T : Type 0} → Option Fault → Machine → ℕ → Says → List Mark → List ℕ → Result T SessionFault → Machine → List Mark → List ℕ → Type 0
+StatementRuns late old line (says.Events event times) marks text (Ok x) new new_marks new_text =
+    (new_marks ≡ marks ++ mark_at line text ∷ []) × AreApplied old (replicate times event) new text new_text
+StatementRuns late old line (says.Events event times) marks text (Err Memory) new new_marks new_text =
+    ((new_marks ≡ marks ++ mark_at line text ∷ []) × AreAppliedInPart old event times text new_text) ⊎ IsSilent marks text new_marks new_text
+StatementRuns late old line (says.Events event times) marks text (Err (Stopped f at)) new new_marks new_text = ⊥
+StatementRuns late old line (says.Events event times) marks text (Err (WriteFailed at)) new new_marks new_text = ⊥
+StatementRuns late old line (says.Refused own) marks text (Ok x) new new_marks new_text = ⊥
+StatementRuns late old line (says.Refused own) marks text (Err fault) new new_marks new_text =
+    (fault ≡ Stopped own line) × IsSilent marks text new_marks new_text
+StatementRuns late old line (says.Config s has_end) marks text (Ok x) new new_marks new_text = ⊥
+StatementRuns late old line (says.Config s has_end) marks text (Err fault) new new_marks new_text =
     (f : Fault) × (late ≡ Some f) × (fault ≡ Stopped f line) × IsSilent marks text new_marks new_text

@@ -7,6 +7,7 @@ ghost use Rattle.session_core.specs.Sessions.{session_behind, told, unless_late}
 ghost use Rattle.session_core.specs.declared.SessionEnd.{SessionEnd};
 
 use crate::SessionFault;
+use crate::laws::configuration_has_a_machine;
 use config_core::config::{Config, ConfigError};
 use input_core::statement::ConfigStatement;
 use machine_meaning::config::ConfigFault;
@@ -61,7 +62,9 @@ pub(crate) fn configure(
     ensures err { IfErr result (λ fault. IsOutcome {T = SessionEnd} (session_behind [] statements.now) (Err fault) []) }
     ensures writes_none { is_write_fault result ≡ false }
 {
+    configuration_has_a_machine();
     for (at, statement) in statements.iter().enumerate() {
+        config.is_configured();
         let line = statement.line;
         match &statement.says {
             Says::Events(_, _) => return Ok(at),

@@ -2,6 +2,7 @@
 #![tactic(auto)]
 
 mod configure;
+pub mod laws;
 mod listing;
 mod run;
 pub mod stream;

@@ -7,11 +7,12 @@ ghost use Rattle.config_core.specs.Configs.{Configuration};
 ghost use Rattle.session_core.specs.Configuring.{IsConfiguredBy, late_in};
 ghost use Rattle.session_core.specs.Outcomes.{WritesOutcome, is_write_fault};
 ghost use Rattle.session_core.specs.Running.{AreApplied, AreAppliedInPart, IsApplied, StatementRuns};
-ghost use Rattle.session_core.specs.Sessions.{denoting_in, session_behind, start_in};
+ghost use Rattle.session_core.specs.Sessions.{session_behind};
+ghost use Rattle.session_core.specs.declared.run.TheConstants.{MOST_VIEWS};
 ghost use Rattle.session_core.specs.Streams.{sink_state};
 ghost use Rattle.session_text.specs.declared.statement.Says.TheVariants as says;
-ghost use Rattle.sched_core.specs.Starting.{IsForMachine};
-ghost use Rattle.sched_core.specs.Systems.{IsSameFixed, denoting, world_of};
+ghost use Rattle.sched_core.specs.Starting.{IsForMachine, IsStarted};
+ghost use Rattle.sched_core.specs.Systems.{IsSameFixed};
 
 use crate::configure::{configure, late_in};
 use crate::listing::{Listing, MOST_HELD, Mark};
@@ -39,7 +40,7 @@ fn run_event(
     event: &Event<'_>,
     listing: &mut Listing,
 ) -> Result<(), AllocError>
-    ensures ok { OnOk result (IsApplied system.old event.now (world_of system.new) listing.old.text.kept listing.new.text.kept) }
+    ensures ok { OnOk result (IsApplied system.old event.now system.new listing.old.text.kept listing.new.text.kept) }
     ensures err { OnErr result (listing.new.text.kept ≡ listing.old.text.kept) }
     ensures fixed { IsSameFixed system.old system.new }
     ensures marks { listing.new.marks.items ≡ listing.old.marks.items }
@@ -58,9 +59,8 @@ fn run_events(
     times: u16,
     listing: &mut Listing,
 ) -> Result<(), AllocError>
-    ensures ok { OnOk result (AreApplied (denoting system.old) (world_of system.old) (replicate times event.now) (world_of system.new)
-        listing.old.text.kept listing.new.text.kept) }
-    ensures err { OnErr result (AreAppliedInPart (denoting system.old) (world_of system.old) event.now times listing.old.text.kept listing.new.text.kept) }
+    ensures ok { OnOk result (AreApplied system.old (replicate times event.now) system.new listing.old.text.kept listing.new.text.kept) }
+    ensures err { OnErr result (AreAppliedInPart system.old event.now times listing.old.text.kept listing.new.text.kept) }
     ensures fixed { IsSameFixed system.old system.new }
     ensures marks { listing.new.marks.items ≡ listing.old.marks.items }
 {
@@ -79,8 +79,8 @@ fn run_statement(
     listing: &mut Listing,
 ) -> Result<(), SessionFault>
     requires late { (s : ConfigStatement) (has_end : Bool) → statement.now.says ≡ says.Config s has_end → is_some late ≡ true }
-    ensures runs { StatementRuns late (denoting system.old) statement.now.line statement.now.says (world_of system.old) listing.old.marks.items
-        listing.old.text.kept result (world_of system.new) listing.new.marks.items listing.new.text.kept }
+    ensures runs { StatementRuns late system.old statement.now.line statement.now.says listing.old.marks.items listing.old.text.kept
+        result system.new listing.new.marks.items listing.new.text.kept }
     ensures fixed { IsSameFixed system.old system.new }
     ensures writes_none { is_write_fault result ≡ false }
 {
@@ -114,7 +114,7 @@ fn run_from<W: Write>(
     sink: &mut Sink<'_, W>,
 ) -> Result<SessionEnd, SessionFault>
     requires configured { (c : Configuration) × IsConfiguredBy statements.now from c × (late ≡ late_in c (drop from statements.now))
-        × (world_of system.old ≡ start_in c) × (denoting system.old ≡ denoting_in c) }
+        × IsStarted c false MOST_VIEWS LAYOUT_1 system.old }
     requires unfailed { sink.old.failed ≡ false }
     ensures outcome { WritesOutcome (sink_state W.contents sink.old) (sink_state W.contents sink.new) [] (session_behind [] statements.now) result }
     ensures failed { sink.new.failed ≡ is_write_fault result }

@@ -11,7 +11,8 @@ returns-in-Refused-clause-err c =
     let all = c.args.statements.now in
     let s = c.index-statements-at.result in
     let p = rw (drop_at all c.loop-at.at s c.loop-at-test.true c.index-statements-at.is) at c.loop-at.invariant in
-    Configured-stops all (take c.loop-at.at all) (drop (c.loop-at.at + 1) all) s c.loop-at.config c.in-Refused.fault p (ap (fault_behind (take c.loop-at.at all)) c.in-Refused.is)
+    Configured-stops all (take c.loop-at.at all) (drop (c.loop-at.at + 1) all) s c.loop-at.config c.in-Refused.fault
+    (c.configuration_has_a_machine.ensures _ c.is_configured.ensures) p (ap (fault_behind (take c.loop-at.at all)) c.in-Refused.is)
 
 pub returns-in-Err-Refused-clause-err : goal.returns-in-Err-Refused-clause-err
 returns-in-Err-Refused-clause-err c =
@@ -21,7 +22,8 @@ returns-in-Err-Refused-clause-err c =
     let own = rw c.in-Err-Refused.field-0-is at c.in-Err-Refused.ensures.refused in
     let is : c.told.result ≡ told c.in-Err-Refused.fault = c.told.ensures ∙ ap told c.in-Err-Refused.fault-is in
     let fault = refused_config all (take c.loop-at.at all) (drop (c.loop-at.at + 1) all) s _ _ c.loop-at.config c.in-Err-Refused.fault p c.in-Config.is own in
-    rw is (Configured-stops all (take c.loop-at.at all) (drop (c.loop-at.at + 1) all) s c.loop-at.config (told c.in-Err-Refused.fault) p fault)
+    rw is (Configured-stops all (take c.loop-at.at all) (drop (c.loop-at.at + 1) all) s c.loop-at.config (told c.in-Err-Refused.fault)
+    (c.configuration_has_a_machine.ensures _ c.is_configured.ensures) p fault)
 
 -- a block without END
 pub returns-in-Ok-2-clause-err : goal.returns-in-Ok-2-clause-err
@@ -31,7 +33,8 @@ returns-in-Ok-2-clause-err c =
     let p = rw (drop_at all c.loop-at.at s c.loop-at-test.true c.index-statements-at.is) at c.loop-at.invariant in
     let says : s.says ≡ Config c.in-Config.says false = c.in-Config.is ∙ ap (Config c.in-Config.says) c.if-has_end.false in
     let fault = open_config all (take c.loop-at.at all) (drop (c.loop-at.at + 1) all) s c.in-Config.says c.loop-at.config p says c.in-Ok.ensures.sound in
-    Configured-stops all (take c.loop-at.at all) (drop (c.loop-at.at + 1) all) s c.loop-at.config NoEnd p fault
+    Configured-stops all (take c.loop-at.at all) (drop (c.loop-at.at + 1) all) s c.loop-at.config NoEnd
+    (c.configuration_has_a_machine.ensures _ c.is_configured.ensures) p fault
 
 pub loop-at-preserved : goal.loop-at-preserved
 loop-at-preserved c =

@@ -1,8 +1,6 @@
 use Rattle.std.proofs.Common.{[], ◌++◌, Err, add-zero, rules}
-use Rattle.sched_core.specs.Systems.{world_of}
 use Rattle.session_core.specs.declared.SessionEnd.{SessionEnd}
 use Rattle.session_core.specs.Sessions.{session_behind}
-use Rattle.session_core.proofs.Fixed.{same_denoting}
 use Rattle.session_core.proofs.Progress.{Progress-ends, Progress-found, Progress-last, Progress-next, Progress-start, Progress-written, written_behind}
 use Rattle.session_core.proofs.Standing.{rest_done}
 use Rattle.session_core.proofs.Streams.{appended_none, appended_twice}
@@ -14,7 +12,7 @@ loop-statement-init g c =
     let none = c.empty-listing.ensures in
     let p = c.requires.configured in
     record {
-      so_far = ([], appended_none _, rw add-zero (Progress-start all c.args.from _ _ _ _ _ _ p.1 p.2 p.3 p.4 none.marks none.text));
+      so_far = ([], appended_none _, rw add-zero (Progress-start all c.args.from _ _ _ _ _ p.1 p.2 p.3 none.marks none.text));
       unfailed = search rules;
       same = search rules;
     }
@@ -23,7 +21,7 @@ loop-statement-init g c =
 pub run_statement-requires : goal.run_statement-requires
 run_statement-requires g c = record {
   late = λ s has_end is.
-      Progress-found c.args.statements.now _ _ _ _ c.split_at.ensures.back c.loop-statement-test.true c.statement-item.is _ _ _ _ _ _ s has_end
+      Progress-found c.args.statements.now _ _ _ _ c.split_at.ensures.back c.loop-statement-test.true c.statement-item.is _ _ _ _ _ s has_end
       c.loop-statement.invariant.so_far.2 is;
 }
 
@@ -33,7 +31,7 @@ returns-in-Err-clause-outcome g c =
     let all = c.args.statements.now in
     let so_far = c.loop-statement.invariant.so_far in
     let new = c.run_statement.new in
-    let last = Progress-last all _ _ _ _ c.split_at.ensures.back c.loop-statement-test.true c.statement-item.is _ _ _ (world_of new.system) so_far.0 _
+    let last = Progress-last all _ _ _ _ c.split_at.ensures.back c.loop-statement-test.true c.statement-item.is _ _ new.system so_far.0 _
     new.listing.marks.items _ new.listing.text.kept c.in-Err.fault so_far.2 c.in-Err.ensures.runs in
     written_behind (session_behind [] all) _ _ _ c.end.result so_far.0 so_far.1 (c.end.ensures.outcome (session_behind [] all) so_far.0 last.outcome last.marked)
 
@@ -42,9 +40,8 @@ pub loop-statement-preserved-then-len-lt-MOST_HELD : goal.loop-statement-preserv
 loop-statement-preserved-then-len-lt-MOST_HELD g c =
     let so_far = c.loop-statement.invariant.so_far in
     let new = c.run_statement.new in
-    let next = Progress-next c.args.statements.now _ _ _ _ c.split_at.ensures.back c.loop-statement-test.true c.statement-item.is _ _ _ _
-    (world_of new.system) so_far.0 _ new.listing.marks.items _ new.listing.text.kept (same_denoting _ _ c.in-Ok.ensures.fixed) so_far.2
-    c.in-Ok.ensures.runs in
+    let next = Progress-next c.args.statements.now _ _ _ _ c.split_at.ensures.back c.loop-statement-test.true c.statement-item.is _ _
+    new.system so_far.0 _ new.listing.marks.items _ new.listing.text.kept so_far.2 c.in-Ok.ensures.runs in
     record { so_far = (so_far.0, so_far.1, next); unfailed = search rules; same = search rules }
 
 -- the held lines are not written whole
@@ -53,8 +50,8 @@ returns-in-Err-write_out-clause-outcome g c =
     let all = c.args.statements.now in
     let so_far = c.loop-statement.invariant.so_far in
     let new = c.run_statement.new in
-    let next = Progress-next all _ _ _ _ c.split_at.ensures.back c.loop-statement-test.true c.statement-item.is _ _ _ _ (world_of new.system) so_far.0 _
-    new.listing.marks.items _ new.listing.text.kept (same_denoting _ _ c.in-Ok.ensures.fixed) so_far.2 c.in-Ok.ensures.runs in
+    let next = Progress-next all _ _ _ _ c.split_at.ensures.back c.loop-statement-test.true c.statement-item.is _ _ new.system so_far.0 _
+    new.listing.marks.items _ new.listing.text.kept so_far.2 c.in-Ok.ensures.runs in
     written_behind {T = SessionEnd} (session_behind [] all) _ _ _ (Err c.in-Err-write_out.fault) so_far.0 so_far.1
     (c.in-Err-write_out.ensures.err (session_behind [] all) so_far.0 next.marked)
 
@@ -63,12 +60,11 @@ pub loop-statement-preserved : goal.loop-statement-preserved
 loop-statement-preserved g c =
     let so_far = c.loop-statement.invariant.so_far in
     let new = c.run_statement.new in
-    let next = Progress-next c.args.statements.now _ _ _ _ c.split_at.ensures.back c.loop-statement-test.true c.statement-item.is _ _ _ _
-    (world_of new.system) so_far.0 _ new.listing.marks.items _ new.listing.text.kept (same_denoting _ _ c.in-Ok.ensures.fixed) so_far.2
-    c.in-Ok.ensures.runs in
+    let next = Progress-next c.args.statements.now _ _ _ _ c.split_at.ensures.back c.loop-statement-test.true c.statement-item.is _ _
+    new.system so_far.0 _ new.listing.marks.items _ new.listing.text.kept so_far.2 c.in-Ok.ensures.runs in
     let out = c.in-Ok-write_out.ensures in
     record {
-      so_far = (so_far.0 ++ new.listing.text.kept, appended_twice _ _ _ _ _ so_far.1 out.ok, Progress-written _ _ _ _ _ _ _ _ _ _ _ next out.marks out.text);
+      so_far = (so_far.0 ++ new.listing.text.kept, appended_twice _ _ _ _ _ so_far.1 out.ok, Progress-written _ _ _ _ _ _ _ _ _ _ next out.marks out.text);
       unfailed = search rules;
       same = search rules;
     }
@@ -78,5 +74,5 @@ returns-clause-outcome g c =
     let all = c.args.statements.now in
     let so_far = c.loop-statement.invariant.so_far in
     let done = rest_done all _ _ _ c.split_at.ensures.back c.loop-statement-test.false in
-    let ends = Progress-ends all _ _ _ _ so_far.0 _ _ (record {}) (rw done at so_far.2) in
+    let ends = Progress-ends all _ _ _ so_far.0 _ _ (record {}) (rw done at so_far.2) in
     written_behind (session_behind [] all) _ _ _ c.end-2.result so_far.0 so_far.1 (c.end-2.ensures.outcome (session_behind [] all) so_far.0 ends.outcome ends.marked)
