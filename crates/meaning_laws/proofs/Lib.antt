@@ -1,4 +1,4 @@
 pub mod Compatible
 pub mod Parts
 pub mod Setless
-mod Splitting
+pub mod Splitting

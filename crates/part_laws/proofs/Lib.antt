@@ -1,18 +1,18 @@
 pub mod ActsFit
 pub mod ActsWithin
 pub mod ChangesWithin
-mod EndsAlike
+pub mod EndsAlike
 mod Generations
 mod MeaningsAlike
 pub mod Others
 pub mod PlansFit
 mod RequestsAlike
 pub mod RunsAlike
-mod SameReads
+pub mod SameReads
 pub mod SameWrites
-mod Taken
-mod TakesAlike
-mod TakesFit
+pub mod Taken
+pub mod TakesAlike
+pub mod TakesFit
 mod Wanted
 mod Within
 mod WordsWithin

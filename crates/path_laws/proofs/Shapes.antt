@@ -192,7 +192,7 @@ signs Minus Minus h = refl
 signs Plus Minus h = absurd cc
 signs Minus Plus h = absurd cc
 
-keys : (a b : Key) → same_key a b ≡ true → a ≡ b
+pub keys : (a b : Key) → same_key a b ≡ true → a ≡ b
 keys (Named a) (Named b) h = ap Named (same_bytes a b h)
 keys (Relative a s n) (Relative b t m) h =
     let p : (bytes_eq a b ≡ true) × ((same_sign s t && n == m) ≡ true) = and_parts (bytes_eq a b) (same_sign s t && n == m) h in

@@ -1,0 +1,9 @@
+pub mod Before
+pub mod Fates
+pub mod Faults
+pub mod Fewness
+pub mod Making
+pub mod OneAnswer
+pub mod Parts
+pub mod Rising
+pub mod Seeing

@@ -1,0 +1,3 @@
+pub mod Ending
+pub mod Showing
+pub mod Starting
