@@ -1,0 +1,10 @@
+pub mod Across
+pub mod Along
+pub mod Crossed
+pub mod Marking
+pub mod PartPlaces
+pub mod Putting
+pub mod Reaching
+pub mod Rising
+pub mod Risking
+pub mod Stopping
