@@ -1,0 +1,7 @@
+use Rattle.std.proofs.Common.{None, take}
+use Rattle.disp_core.specs.Courses.{fixed_by}
+use Rattle.view_core.specs.Walks.{DisposesAll}
+use Rattle.view_core.proofs.walk.dispose_all.Given as goal
+
+abbrev pub invariant-loop-i : goal.invariant-loop-i
+invariant-loop-i l = DisposesAll (fixed_by l.given) l.n (take l.i l.dds) l.fn.under None l.under

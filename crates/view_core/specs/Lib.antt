@@ -1,0 +1,4 @@
+pub mod PlainViews
+pub mod Same
+pub mod Scenes
+pub mod Walks

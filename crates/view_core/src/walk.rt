@@ -1,0 +1,175 @@
+//! A step carried out on a scene, from its start to its end.
+ghost use Rattle.std.specs.Prelude.{◌≡◌, ◌<◌, ◌++◌, IfOk, OnOk};
+ghost use Rattle.disp_core.specs.Courses.{fixed_by};
+ghost use Rattle.disp_core.specs.Grants.{made_of};
+ghost use Rattle.jcl_meaning.specs.declared.state.Own.{Own};
+ghost use Rattle.view_core.specs.Scenes.{IsBegun, state_on};
+ghost use Rattle.view_core.specs.Walks.{DisposesAll, TakesAll, WalksTo};
+
+use crate::scene::{Scene, course_of};
+use disp_core::course::{Course, Given};
+use disp_core::{dispose, step, take};
+use jcl_meaning::state::Place;
+use jcl_plan::outcome::Outcome;
+use jcl_plan::plan::{DdPlan, StepPlan};
+use std::alloc::{AllocError, Global};
+use store_core::alone::Alone;
+use view_domain::crossed::Stop;
+
+/// The number of a job that has its store alone.
+pub(crate) const JOB: u16 = 1;
+
+/// What a step did on a scene.
+#[derive(Drop)]
+pub enum Walked {
+    /// A take meets this fault, however the step would have ended.
+    Refused(Stop),
+    /// It ended: where it made sets, and the scene that it leaves, or the fault that a disposition meets.
+    Ended {
+        made: Vec<Place>,
+        end: Result<Scene, Stop>,
+    },
+}
+
+/// A step under way.
+#[derive(Drop)]
+pub(crate) struct Under {
+    pub(crate) store: Alone,
+    pub(crate) course: Course,
+}
+
+/// A step that begins to run on a scene.
+pub(crate) fn under_of(alloc: Global, scene: &Scene, abend: bool) -> Result<Under, AllocError>
+    ensures { IfOk result (λ under. (under.store.store ≡ scene.now.store) × IsBegun scene.now abend under.course.own) }
+{
+    Ok(Under {
+        store: Alone {
+            alloc,
+            store: scene.store.copy_of(alloc)?,
+            growth: true,
+        },
+        course: course_of(alloc, scene, abend)?,
+    })
+}
+
+/// The scene that a step leaves.
+fn scene_of(under: Under) -> Scene
+    ensures { result ≡ record { store = under.store.store; passed = under.course.own.passed; volumes = under.course.own.volumes } }
+{
+    let Under { store, course } = under;
+    let Alone {
+        alloc: _,
+        store,
+        growth: _,
+    } = store;
+    Scene {
+        store,
+        passed: course.own.passed,
+        volumes: course.own.volumes,
+    }
+}
+
+fn push_made(made: &mut Vec<Place>, taken: Option<Place>) -> Result<(), AllocError>
+    ensures { OnOk result (made.new.items ≡ made.old.items ++ made_of taken) }
+{
+    match taken {
+        Some(place) => {
+            made.push(place)?;
+            Ok(())
+        }
+        None => Ok(()),
+    }
+}
+
+/// Takes the DDs of step n, and tells where sets are made, or the first fault.
+fn take_all(
+    alloc: Global,
+    given: &Given<'_>,
+    n: usize,
+    dds: &[DdPlan],
+    under: &mut Under,
+    made: &mut Vec<Place>,
+) -> Result<Option<Stop>, AllocError>
+    requires { 0 < n }
+    ensures { IfOk result (λ stop. TakesAll (fixed_by given.now) n dds.now under.old made.old.items stop under.new made.new.items) }
+{
+    for (i, d) in dds.iter().enumerate() {
+        let taken = take::take(
+            alloc,
+            &mut under.store,
+            JOB,
+            given,
+            &mut under.course,
+            n,
+            i + 1,
+            d,
+        )?;
+        if let Some(fault) = taken.meets {
+            return Ok(Some(Stop {
+                at: i + 1,
+                step: n,
+                dd: i + 1,
+                ended: n - 1,
+                fault,
+            }));
+        }
+        push_made(made, taken.made)?;
+    }
+    Ok(None)
+}
+
+/// Does the dispositions of step n, and tells the first fault.
+fn dispose_all(
+    given: &Given<'_>,
+    n: usize,
+    dds: &[DdPlan],
+    under: &mut Under,
+) -> Result<Option<Stop>, AllocError>
+    ensures { IfOk result (λ stop. DisposesAll (fixed_by given.now) n dds.now under.old stop under.new) }
+{
+    for (i, d) in dds.iter().enumerate() {
+        let meets = dispose::dispose(&mut under.store, JOB, given, &mut under.course, n, i + 1, d)?;
+        if let Some(fault) = meets {
+            return Ok(Some(Stop {
+                at: dds.len() + 2 + i,
+                step: n,
+                dd: i + 1,
+                ended: n,
+                fault,
+            }));
+        }
+    }
+    Ok(None)
+}
+
+/// Carries out step n, which runs, on a scene, and ends it so.
+pub fn walk(
+    alloc: Global,
+    given: &Given<'_>,
+    n: usize,
+    step: &StepPlan,
+    scene: &Scene,
+    abend: bool,
+    outcome: &Outcome,
+) -> Result<Walked, AllocError>
+    requires { 0 < n }
+    ensures { IfOk result (λ walked. (own : Own) × IsBegun scene.now abend own × WalksTo (fixed_by given.now) n step.now (state_on scene.now own) outcome.now walked) }
+{
+    let mut under = under_of(alloc, scene, abend)?;
+    let mut made = Vec::new(alloc);
+    let dds = step.dds.as_slice();
+    if let Some(stop) = take_all(alloc, given, n, dds, &mut under, &mut made)? {
+        return Ok(Walked::Refused(stop));
+    }
+    step::finish(alloc, &mut under.course, n, outcome, false)?;
+    match dispose_all(given, n, dds, &mut under)? {
+        Some(stop) => Ok(Walked::Ended {
+            made,
+            end: Err(stop),
+        }),
+        None => Ok(Walked::Ended {
+            made,
+            end: Ok(scene_of(under)),
+        }),
+    }
+}
