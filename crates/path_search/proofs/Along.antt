@@ -5,7 +5,7 @@ use Rattle.std.specs.Prelude.{Contains, All}
 use Rattle.std.specs.List.{filter_map}
 use Rattle.std.proofs.Math.Seq.{drop-append_seam}
 use Rattle.std.proofs.lemmas.Bool.{eqb-true}
-use Rattle.std.proofs.lemmas.List.Elements.{All-push, Contains-append_left, Contains-append_right, filter_map-append}
+use Rattle.std.proofs.lemmas.List.Elements.{All-drop, All-head, All-push, Contains-append_left, Contains-append_right, filter_map-append}
 use Rattle.jcl_plan.specs.declared.outcome.Fate.{Fate}
 use Rattle.jcl_plan.specs.declared.outcome.Outcome.{Outcome}
 use Rattle.jcl_plan.specs.declared.outcome.Outcome.TheVariants as outcome
@@ -31,6 +31,14 @@ use Rattle.view_laws.specs.PathParts.{next_outcome}
 use Rattle.view_laws.specs.ViewLaws.{DidTheSame}
 use Rattle.path_search.specs.Crossings.{IsAlong, LeadsTo}
 use Rattle.path_search.specs.PathLaws.{PathLaws}
+
+-- the next of outcomes that steps may have is one
+next_within : (outcomes : List Outcome) → All IsStepOutcome outcomes → IsStepOutcome (next_outcome outcomes)
+next_within [] h = omega arith
+next_within (outcome.Code c ∷ os) h = All-head IsStepOutcome (outcome.Code c) os h
+next_within (outcome.Abend a ∷ os) h = tt
+next_within (outcome.Bypassed ∷ os) h = omega arith
+next_within (outcome.Flushed ∷ os) h = omega arith
 
 pub none_of : (faults : List Met) → (length faults == 0) ≡ true → faults ≡ []
 none_of [] h = refl
@@ -64,7 +72,8 @@ module _ (laws : PathLaws) (fixed : Fixed) (plan : JobPlan) (store : Store) (k :
   came_to meaning there view crossed is outcomes along =
       let fit = laws.fits fixed plan store k outcomes to_end fits in
       is.covered (ran_to fixed plan store k outcomes).state (drop k outcomes) fit.0 along.seen
-      (laws.stands fixed plan store k outcomes to_end along.clean) fit.1
+      (laws.stands fixed plan store k outcomes to_end along.clean)
+      (next_within (drop k outcomes) (All-drop IsStepOutcome k outcomes along.within)) fit.1
 
   pub comes_from : {V : Type 0} (meaning : V → View) (view : View) (move : Move V) → ComesFrom meaning plan fixed k view move →
       (outcomes : List Outcome) → IsAlong fixed plan store k view outcomes → next_outcome (drop k outcomes) ≡ move.outcome →

@@ -8,6 +8,7 @@ use Rattle.jcl_plan.specs.declared.outcome.Outcome.TheVariants as outcome
 use Rattle.jcl_plan.specs.declared.outcome.TheConstants.{GREATEST_CODE}
 use Rattle.jcl_plan.specs.declared.plan.JobPlan.{JobPlan}
 use Rattle.jcl_meaning.specs.Agendas.{Action}
+use Rattle.jcl_meaning.specs.History.{IsStepOutcome}
 use Rattle.jcl_meaning.specs.Names.{names_of}
 use Rattle.jcl_meaning.specs.Solo.{Met, Ran, run}
 use Rattle.jcl_meaning.specs.States.{Fixed, State}
@@ -56,10 +57,10 @@ CameTo meaning plan date k there o ran (crossed.Passes fate view) =
 CameTo meaning plan date k there o ran (crossed.Runs made by_code by_abend) =
     (fates_in ran.lines ≡ Run ∷ []) × (ran.made ≡ made.items) × IsBehindEnd meaning plan date k there ran (branch_of o by_code by_abend)
 
--- Each state with the view, between two parts, along each outcome, comes to what is said.
+-- Each state with the view, between two parts, along each outcome that a step may have, comes to what is said.
 abbrev pub IsCovered : {V : Type 0} → (V → View) → JobPlan → Fixed → ℕ → List View → View → Crossed V → Type 0
 IsCovered meaning plan fixed k there view crossed = (s : State) (outcomes : List Outcome) (rest : List Action) → view ≡ view_at plan k fixed.date s →
-    IsBefore s outcomes → Fits (names_of plan) fixed.meanings (path_part plan k ++ rest) s.own →
+    IsBefore s outcomes → IsStepOutcome (next_outcome outcomes) → Fits (names_of plan) fixed.meanings (path_part plan k ++ rest) s.own →
     CameTo meaning plan fixed.date k there (next_outcome outcomes) (run fixed (path_part plan k) s) crossed
 
 -- And each view that is told comes from the outcome with which it is told.
