@@ -1,3 +1,10 @@
+pub mod Crossing
+pub mod Leaving
+pub mod Numbered
 pub mod Runs
 pub mod SameViews
+pub mod Shown
+pub mod TestBits
+pub mod Told
+pub mod Walked
 pub mod Walking

@@ -1,7 +1,7 @@
 -- Actions carried out one after another, up to the first fault.
 use Rattle.std.proofs.Common.{◌≡◌, ◌+◌, ◌-◌, ◌++◌, ◌∷◌, ◌<◌, ℕ, suc, Bool, true, false, cond, List, [], Option, Some, None, length, map, take, drop, get_or, refl, sym, ap, ◌∙◌, subst, append_assoc, arith, drop-cons}
 use Rattle.std.specs.Prelude.{slice_get}
-use Rattle.std.proofs.lemmas.List.{append-nil, length-append, length-map, length-take-le, take-append-drop, take_more}
+use Rattle.std.proofs.lemmas.List.{append-nil, length-append, length-take-le, take-append-drop, take_more}
 use Rattle.jcl_plan.specs.declared.fault.Fault.{Fault}
 use Rattle.jcl_plan.specs.declared.outcome.Outcome.{Outcome}
 use Rattle.jcl_plan.specs.declared.plan.DdKind.{DdKind}

@@ -44,7 +44,7 @@ use Rattle.view_core.specs.declared.scene.PlainView.{PlainView}
 use Rattle.view_core.specs.declared.scene.Scene.{Scene}
 use Rattle.view_core.specs.PlainViews.{by_step, shown_by}
 use Rattle.view_core.specs.Same.{all_same_passed, entries_alike, entry_alike, same_bits, same_by_plan, same_by_step, same_for_kind, same_generation}
-use Rattle.view_core.specs.Same.{same_group, same_passed, same_scene, same_seen, same_serial, same_shown, same_view, same_volume, same_volumes, set_alike}
+use Rattle.view_core.specs.Same.{same_group, same_passed, same_scene, same_seen, same_serial, same_shown, same_view, same_volumes, set_alike}
 use Rattle.view_core.specs.Same.{sets_alike, shown_under}
 
 -- lists whose items are the same one by one

@@ -1,3 +1,7 @@
+pub mod Bits
+pub mod Domains
+pub mod Lefts
+pub mod Moves
 pub mod PlainViews
 pub mod Same
 pub mod Scenes

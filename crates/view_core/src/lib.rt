@@ -1,6 +1,12 @@
-//! A plain way to keep views: what is carried out on a state that shows a view, and whether two views are one.
+//! A plain way to keep views: a view is a state that shows it, and views are kept in a list.
 #![tactic(auto)]
 
-pub mod same;
+mod bits;
+mod cross;
+pub mod domain;
+mod keep;
+mod leave;
+mod moves;
+mod same;
 pub mod scene;
-pub mod walk;
+mod walk;

@@ -229,7 +229,7 @@ fn same_bits(a: &[bool], b: &[bool]) -> bool
 }
 
 /// The first of a list, so many.
-fn take_first<T>(list: &[T], count: usize) -> &[T]
+pub(crate) fn take_first<T>(list: &[T], count: usize) -> &[T]
     ensures { result.now ≡ take count list.now }
 {
     if count < list.len() {

@@ -5,7 +5,6 @@ use Rattle.jcl_meaning.specs.Solo.{run}
 use Rattle.jcl_meaning.specs.States.{Fixed}
 use Rattle.disp_core.specs.Courses.{fixed_by}
 use Rattle.step_laws.specs.Steps.{behind_start}
-use Rattle.view_core.specs.declared.scene.Scene.{Scene}
 use Rattle.view_core.specs.declared.walk.Under.{Under}
 use Rattle.view_core.specs.Scenes.{state_on}
 use Rattle.view_core.specs.Walks.{LeavesScene, TakesAll}

@@ -1,0 +1,145 @@
+//! A part of a job's path led over from a view.
+ghost use Rattle.std.specs.Prelude.{◌≡◌, ◌<◌, ◌≤◌, ◌∷◌, [], IfOk, drop, length};
+ghost use Rattle.jcl_plan.specs.declared.outcome.Fate.TheVariants as fate;
+ghost use Rattle.view_core.specs.Bits.{bits_kept, fate_shown};
+ghost use Rattle.view_core.specs.Domains.{IsLedOver};
+
+use crate::bits::{bits_kept, fate_of, kept_tests};
+use crate::domain::PlainDomain;
+use crate::leave::{leave_all, lefts_of};
+use crate::moves::{by_abend, by_code};
+use crate::same::drop_first;
+use crate::scene::PlainView;
+use crate::walk::{Walked, under_of, walk};
+use jcl_plan::outcome::{Abend, Code, Fate, Outcome};
+use jcl_plan::plan::StepPlan;
+use std::alloc::{AllocError, Global};
+use view_domain::crossed::Crossed;
+
+impl<'a> PlainDomain<'a> {
+    /// The step of part `part`, which runs, carried out twice on the scene that the view shows: by code 0, and by an ABEND.
+    fn cross_running(
+        &self,
+        alloc: Global,
+        part: usize,
+        step: &StepPlan,
+        later: &[StepPlan],
+        view: &PlainView,
+        bits: Vec<bool>,
+    ) -> Result<Crossed<PlainView>, AllocError>
+        requires part { part < usize.MAX }
+        requires step { drop part self.now.plan.now.steps ≡ step.now ∷ later.now }
+        requires runs { fate_shown (length self.now.plan.now.tests.items) step.now view.now ≡ fate.Run }
+        requires bits { bits.items ≡ bits_kept (length self.now.plan.now.tests.items) (length step.now.tests.items) view.now.met.items }
+        ensures { IfOk result (IsLedOver self.now part view.now) }
+    {
+        let n = part + 1;
+        let code = Outcome::Code(Code::zero());
+        let (made, end) = match walk(
+            alloc,
+            &self.given,
+            n,
+            step,
+            &view.scene,
+            view.abended,
+            &code,
+        )? {
+            Walked::Refused(stop) => return Ok(Crossed::Stops(stop)),
+            Walked::Ended { made, end } => (made, end),
+        };
+        let abend = Outcome::Abend(Abend::User(Code::zero()));
+        let abend_end = match walk(
+            alloc,
+            &self.given,
+            n,
+            step,
+            &view.scene,
+            view.abended,
+            &abend,
+        )? {
+            Walked::Refused(stop) => return Ok(Crossed::Stops(stop)),
+            Walked::Ended { made: _, end } => end,
+        };
+        let kept = kept_tests(alloc, self.plan.tests.as_slice(), later)?;
+        let by_code = by_code(
+            alloc,
+            n,
+            kept.as_slice(),
+            bits.as_slice(),
+            view.abended,
+            end,
+        )?;
+        let by_abend = by_abend(alloc, bits, abend_end)?;
+        Ok(Crossed::Runs {
+            made,
+            by_code,
+            by_abend,
+        })
+    }
+
+    /// A step.
+    fn cross_step(
+        &self,
+        alloc: Global,
+        part: usize,
+        step: &StepPlan,
+        later: &[StepPlan],
+        view: &PlainView,
+    ) -> Result<Crossed<PlainView>, AllocError>
+        requires part { part < usize.MAX }
+        requires step { drop part self.now.plan.now.steps ≡ step.now ∷ later.now }
+        ensures { IfOk result (IsLedOver self.now part view.now) }
+    {
+        let tests = self.plan.tests.as_slice().len();
+        let own = step.tests.as_slice().len();
+        let bits = bits_kept(alloc, tests, own, view.met.as_slice())?;
+        let fate = fate_of(tests, step, view);
+        match fate {
+            Fate::Run => self.cross_running(alloc, part, step, later, view, bits),
+            _ => Ok(Crossed::Passes {
+                fate,
+                view: PlainView {
+                    scene: view.scene.clone()?,
+                    abended: view.abended,
+                    met: bits,
+                },
+            }),
+        }
+    }
+
+    /// The job's end.
+    fn cross_end(
+        &self,
+        alloc: Global,
+        part: usize,
+        view: &PlainView,
+    ) -> Result<Crossed<PlainView>, AllocError>
+        requires { drop part self.now.plan.now.steps ≡ [] }
+        ensures { IfOk result (IsLedOver self.now part view.now) }
+    {
+        let steps = self.plan.steps.as_slice();
+        let lefts = lefts_of(alloc, steps)?;
+        let mut under = under_of(alloc, &view.scene, view.abended)?;
+        match leave_all(&self.given, steps.len(), lefts.as_slice(), &mut under)? {
+            Some(stop) => Ok(Crossed::Stops(stop)),
+            None => Ok(Crossed::Ends),
+        }
+    }
+
+    /// A part.
+    pub(crate) fn cross(
+        &self,
+        alloc: Global,
+        part: usize,
+        view: &PlainView,
+    ) -> Result<Crossed<PlainView>, AllocError>
+        requires { part ≤ length self.now.plan.now.steps }
+        ensures { IfOk result (IsLedOver self.now part view.now) }
+    {
+        let left = drop_first(self.plan.steps.as_slice(), part);
+        match left.split_first() {
+            Some((step, later)) => self.cross_step(alloc, part, step, later, view),
+            None => self.cross_end(alloc, part, view),
+        }
+    }
+}
