@@ -5,3 +5,4 @@ mod conflict;
 pub mod marked;
 pub mod order;
 pub mod table;
+mod waits;

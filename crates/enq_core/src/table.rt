@@ -3,8 +3,8 @@ ghost use Rattle.std.specs.Prelude.{◌≡◌, ◌++◌, ◌+◌, ◌≤◌, [],
 ghost use Rattle.std.specs.List.{All, filter, reduce};
 ghost use Rattle.enq_core.specs.Holds.{AnswersHold, AreWants, HoldsNone, holds_of, without_job};
 
-use crate::conflict::first_block;
 use crate::marked::MarkedHold;
+use crate::waits::{Wait, forget, what_blocks};
 use jname_core::ds_name::DsName;
 use std::alloc::{AllocError, Global};
 use std::marker::Model;
@@ -67,18 +67,19 @@ impl Held {
 #[derive(Drop)]
 pub struct EnqTable {
     holds: Vec<MarkedHold>,
+    waits: Vec<Wait>,
 }
 
 impl Model for EnqTable {
     ghost use Rattle.std.specs.Prelude.{List};
     ghost use Rattle.enq_core.specs.declared.table.Hold.{Hold};
-    ghost use Rattle.enq_core.specs.Order.{AreInOrder};
+    ghost use Rattle.enq_core.specs.Waits.{IsTable};
 
     ghost Value = { List Hold };
 
     ghost view = { λ t. t.holds.items };
 
-    ghost invariant = { λ t. AreInOrder t.holds.items };
+    ghost invariant = { λ t. IsTable t.holds.items t.waits.items };
 }
 
 /// Holds the names of all these wants for a job, in room that is reserved.
@@ -111,6 +112,7 @@ impl EnqTable {
     {
         EnqTable {
             holds: Vec::new(alloc),
+            waits: Vec::new(alloc),
         }
     }
 
@@ -131,12 +133,13 @@ impl EnqTable {
         ensures err { OnErr result (self.new ≡ self.old) }
         ensures memory { result ≡ Err HoldFault.Memory → 0 < length wants.now }
     {
-        if let Some(blocked) = first_block(self.holds.as_slice(), wants) {
+        if let Some(blocked) = what_blocks(self.holds.as_slice(), &mut self.waits, job, wants) {
             return Err(HoldFault::Blocked(blocked));
         }
         if self.holds.reserve(wants.len()).is_err() {
             return Err(HoldFault::Memory);
         }
+        forget(&mut self.waits);
         append(&mut self.holds, job, wants);
         Ok(Held { job })
     }
@@ -146,6 +149,7 @@ impl EnqTable {
         ensures { self.new ≡ without_job held self.old }
     {
         let Held { job } = held;
+        forget(&mut self.waits);
         release_job(&mut self.holds, job);
     }
 }

@@ -1,0 +1,113 @@
+//! What stands in the way of jobs that wait, noted as long as no hold changes: a job that waits asks again in each of its turns.
+ghost use Rattle.std.specs.Prelude.{◌≡◌, List, [], All, IfNone, IfSome, false};
+ghost use Rattle.std.specs.Bool.{OnTrue};
+ghost use Rattle.enq_core.specs.declared.table.Hold.{Hold};
+ghost use Rattle.enq_core.specs.Holds.{AreWants, IsFirstBlock, is_blocked};
+ghost use Rattle.enq_core.specs.Order.{AreInOrder};
+ghost use Rattle.enq_core.specs.Waits.{AreRight};
+
+use crate::conflict::first_block;
+use crate::marked::MarkedHold;
+use crate::table::{Blocked, Want};
+use plain::listed::Listed;
+
+/// A job that waits: what it wants, and what stands in its way.
+#[derive(Drop)]
+pub(crate) struct Wait {
+    job: u16,
+    wants: Listed<Want>,
+    blocked: Blocked,
+}
+
+fn same_want(a: &Want, b: &Want) -> bool
+    ensures { OnTrue result (a.now ≡ b.now) }
+{
+    a.exclusive == b.exclusive && a.name == b.name
+}
+
+fn same_wants(a: &[Want], b: &[Want]) -> bool
+    ensures { OnTrue result (a.now ≡ b.now) }
+{
+    if a.len() != b.len() {
+        return false;
+    }
+    for i in 0..a.len() {
+        if !same_want(&a[i], &b[i]) {
+            return false;
+        }
+    }
+    true
+}
+
+/// What is noted for a job with these wants.
+fn noted(waits: &[Wait], job: u16, wants: &[Want]) -> Option<Blocked>
+    ensures { (holds : List Hold) → AreRight holds waits.now → IfSome result (IsFirstBlock holds wants.now) }
+{
+    for wait in waits {
+        if wait.job == job && same_wants(wait.wants.as_slice(), wants) {
+            return Some(wait.blocked);
+        }
+    }
+    None
+}
+
+/// Notes what stands in the way of a job with these wants. Without memory nothing is noted.
+fn note(waits: &mut Vec<Wait>, job: u16, wants: &[Want], blocked: &Blocked)
+    ensures { (holds : List Hold) → AreRight holds waits.old.items → IsFirstBlock holds wants.now blocked.now → AreRight holds waits.new.items }
+{
+    waits.retain(|wait| wait.job != job);
+    match Listed::copy_of(*waits.allocator(), wants) {
+        Ok(wants) => {
+            let _ = waits.push(Wait {
+                job,
+                wants,
+                blocked: *blocked,
+            });
+        }
+        Err(_) => {}
+    }
+}
+
+/// Forgets what is noted, before a hold changes.
+pub(crate) fn forget(waits: &mut Vec<Wait>)
+    ensures { waits.new.items ≡ [] }
+{
+    waits.clear();
+}
+
+/// Finds the first want that a hold conflicts with, and notes it.
+fn find(holds: &[MarkedHold], waits: &mut Vec<Wait>, job: u16, wants: &[Want]) -> Option<Blocked>
+    requires holds { AreInOrder holds.now }
+    requires wants { AreWants wants.now }
+    ensures none { IfNone result (All (λ want. is_blocked holds.now want ≡ false) wants.now) }
+    ensures some { IfSome result (IsFirstBlock holds.now wants.now) }
+    ensures right { AreRight holds.now waits.old.items → AreRight holds.now waits.new.items }
+{
+    match first_block(holds, wants) {
+        Some(blocked) => {
+            note(waits, job, wants, &blocked);
+            Some(blocked)
+        }
+        None => None,
+    }
+}
+
+/// The first want that a hold conflicts with: what is noted for the job, or else what is found, which is noted then.
+pub(crate) fn what_blocks(
+    holds: &[MarkedHold],
+    waits: &mut Vec<Wait>,
+    job: u16,
+    wants: &[Want],
+) -> Option<Blocked>
+    requires holds { AreInOrder holds.now }
+    requires wants { AreWants wants.now }
+    requires right { AreRight holds.now waits.old.items }
+    ensures none { IfNone result (All (λ want. is_blocked holds.now want ≡ false) wants.now) }
+    ensures some { IfSome result (IsFirstBlock holds.now wants.now) }
+    ensures right { AreRight holds.now waits.new.items }
+{
+    match noted(waits.as_slice(), job, wants) {
+        Some(blocked) => Some(blocked),
+        None => find(holds, waits, job, wants),
+    }
+}
