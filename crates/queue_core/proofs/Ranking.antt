@@ -1,21 +1,17 @@
 -- The ranks of jobs, as one enters or is taken out.
-use Rattle.std.proofs.Common.{◌≡◌, ◌<◌, ◌≤◌, ◌==◌, ℕ, Bool, true, false, cond, List, [], ◌∷◌, ◌++◌, Option, Some, None, All, length, refl, sym, ap, ◌∙◌, subst, arith}
-use Rattle.std.specs.Prelude.{IfSome, MatchOption, get_or, is_some, slice_set}
+use Rattle.std.proofs.Common.{◌≡◌, ◌≢◌, ◌<◌, ◌≤◌, ◌==◌, ℕ, Bool, true, false, cond, List, [], ◌∷◌, ◌++◌, Option, Some, None, All, length, refl, sym, ap, ◌∙◌, subst}
+use Rattle.std.specs.Prelude.{IfSome, MatchOption, get_or, is_some, nat_lt, replicate, slice_set}
 use Rattle.std.specs.BTreeMap.{BTreeMap, IsOrdered, get, is_at, Updates}
 use Rattle.std.specs.BTreeSet.{BTreeSet, contains, Updates as SetUpdates}
-use Rattle.std.specs.List.{Contains}
 use Rattle.std.specs.List.Sorted.{IsStrictlySortedBy}
 use Rattle.std.specs.Map.{keys_of, lookup, remove_entry}
 use Rattle.std.specs.Ordering.{nat_cmp}
-use Rattle.std.proofs.lemmas.Bool.{both_ways, eqb-false, eqb-true}
-use Rattle.std.proofs.lemmas.List.{get_or-set_other, get_or-set_same}
-use Rattle.std.proofs.lemmas.List.Elements.{All-contains, All-push, All-same}
-use Rattle.std.proofs.lemmas.Cmp.{nat_cmp_total}
-use Rattle.std.proofs.lemmas.Map.Lookups.{exact_unsigned}
-use Rattle.std.proofs.lemmas.Map.Views.{IfSome-get}
+use Rattle.std.proofs.lemmas.Bool.{both_ways, eqb-false, eqb-true, ltb-false, ltb-true}
+use Rattle.std.proofs.lemmas.List.{get_or-replicate, get_or-set_other, get_or-set_same, get_or_past, length-replicate}
+use Rattle.std.proofs.lemmas.List.Elements.{All-nil, All-push, All-same}
 use Rattle.queue_core.specs.declared.queue.Queued.{Queued}
 use Rattle.queue_core.specs.declared.queue.Rank.{Rank}
-use Rattle.queue_core.specs.Ranks.{AreBounded, AreNumbered, IsRanked, IsVacant, queued_of, rank_cmp, rank_of}
+use Rattle.queue_core.specs.Ranks.{AreBounded, AreNumbered, IsLeast, IsRanked, IsVacant, queued_of, rank_cmp, rank_of}
 use Rattle.queue_core.proofs.Numbered.{All-removed, at_own, job_at, numbered_at}
 use Rattle.queue_core.proofs.Orders.{at_itself, rank_at}
 
@@ -36,6 +32,11 @@ not_some o x n s = cc
 pub none_is : {X : Type 0} (P : Type 0) (o : Option X) → is_some o ≡ false → MatchOption o P (λ x. Unit {0}) → P
 none_is P None e h = h
 none_is P (Some x) e h = cc
+
+-- a class of which a rank was found has one
+pub not_vacant : (ranks : BTreeSet Rank) (class : ℕ) (o : Option Queued) → is_some o ≡ true → IfSome o (IsLeast ranks class) → ¬ IsVacant ranks class
+not_vacant ranks class None e h vacant = cc
+not_vacant ranks class (Some q) e h vacant = both_ways (contains rank_cmp ranks (rank_of q)) (vacant (rank_of q) h.of_class) h.there
 
 -- a job entered
 module _ (jobs jobs_now : BTreeMap ℕ Queued) (ranks ranks_now : BTreeSet Rank) (occupied : List Bool) (q : Queued) where
@@ -89,6 +90,24 @@ module _ (jobs jobs_now : BTreeMap ℕ Queued) (ranks ranks_now : BTreeSet Rank)
           let was : get nat_cmp jobs k ≡ Some x = sym (u.0 k ∙ ap (λ b. cond b (Some q) (get nat_cmp jobs k)) a) ∙ e in
           get_or-set_other occupied q.class x.class true false (eqb-false x.class q.class s) ∙ some_is (λ y. get_or occupied y.class false ≡ true) (get nat_cmp jobs k) x (h.marked k) was
 
+  occupied_more : IsRanked jobs ranks occupied → q.class < length occupied → SetUpdates rank_cmp ranks ranks_now (rank_of q) true →
+      (class : ℕ) → get_or (slice_set occupied q.class true) class false ≡ true → ¬ IsVacant ranks_now class
+  occupied_more h fits v class marked vacant = by (class == q.class) refl
+    where
+      there : contains rank_cmp ranks_now (rank_of q) ≡ true
+      there = v.0 (rank_of q) ∙ ap (λ b. cond b true (contains rank_cmp ranks (rank_of q))) (at_itself (rank_of q))
+
+      had_none : (r : Rank) → r.class ≡ class → contains rank_cmp ranks r ≡ false
+      had_none r is = at (is_at (rank_cmp (rank_of q)) r) refl
+        where
+          at : (same : Bool) → is_at (rank_cmp (rank_of q)) r ≡ same → contains rank_cmp ranks r ≡ false
+          at true s = absurd (both_ways (contains rank_cmp ranks_now r) (vacant r is) (v.0 r ∙ ap (λ b. cond b true (contains rank_cmp ranks r)) s))
+          at false s = sym (v.0 r ∙ ap (λ b. cond b true (contains rank_cmp ranks r)) s) ∙ vacant r is
+
+      by : (same : Bool) → (class == q.class) ≡ same → ⊥
+      by true s = both_ways (contains rank_cmp ranks_now (rank_of q)) (vacant (rank_of q) (sym (eqb-true class q.class s))) there
+      by false s = h.has_job class (sym (get_or-set_other occupied q.class class true false (eqb-false class q.class s)) ∙ marked) had_none
+
   pub entered : IsRanked jobs ranks occupied → q.priority ≤ 255 → q.class < length occupied → get nat_cmp jobs q.job ≡ None →
       jobs_now.entries ≡ jobs.entries ++ (q.job, q) ∷ [] → IsOrdered nat_cmp jobs_now → Updates nat_cmp jobs jobs_now q.job (Some q) →
       SetUpdates rank_cmp ranks ranks_now (rank_of q) true → IsRanked jobs_now ranks_now (slice_set occupied q.class true)
@@ -99,6 +118,7 @@ module _ (jobs jobs_now : BTreeMap ℕ Queued) (ranks ranks_now : BTreeSet Rank)
     queued = queued_more h none u v;
     bounded = bounded_more h.bounded most v;
     marked = λ k. if_some (λ x. get_or (slice_set occupied q.class true) x.class false ≡ true) (get nat_cmp jobs_now k) (marked_more h fits u k);
+    has_job = occupied_more h fits v;
   }
 
 -- a rank was put in and taken out again
@@ -125,6 +145,7 @@ module _ (jobs jobs_now : BTreeMap ℕ Queued) (ranks mid ranks_now : BTreeSet R
         queued = λ r e. sym (found r.job) ∙ h.queued r (sym (before r) ∙ e);
         bounded = λ r e. h.bounded r (sym (before r) ∙ e);
         marked = λ k. subst (λ o. IfSome o (λ q. get_or occupied q.class false ≡ true)) (found k) (h.marked k);
+        has_job = λ class marked vacant. h.has_job class marked (λ r is. sym (before r) ∙ vacant r is);
       }
 
 -- a job is taken out
@@ -176,8 +197,24 @@ module _ (jobs jobs_now : BTreeMap ℕ Queued) (ranks ranks_now : BTreeSet Rank)
 
   module _ (h : IsRanked jobs ranks occupied) (had : get nat_cmp jobs job ≡ Some q) (is : jobs_now.entries ≡ remove_entry (is_at (nat_cmp job)) jobs.entries) (ordered : IsOrdered nat_cmp jobs_now)
       (u : Updates nat_cmp jobs jobs_now job None) (v : SetUpdates rank_cmp ranks ranks_now (rank_of q) false) where
-    pub taken_out : IsRanked jobs_now ranks_now occupied
-    taken_out = record {
+    -- a class of which no rank is left, where another's is taken out, had none
+    had_none : (class : ℕ) → class ≢ q.class → IsVacant ranks_now class → IsVacant ranks class
+    had_none class other vacant r is = at (is_at (rank_cmp (rank_of q)) r) refl
+      where
+        at : (same : Bool) → is_at (rank_cmp (rank_of q)) r ≡ same → contains rank_cmp ranks r ≡ false
+        at true s = absurd (other (sym is ∙ ap (λ (y : Rank). y.class) (sym (rank_at (rank_of q) r s))))
+        at false s = sym (v.0 r ∙ ap (λ b. cond b false (contains rank_cmp ranks r)) s) ∙ vacant r is
+
+    occupied_less : ¬ IsVacant ranks_now q.class → (class : ℕ) → get_or occupied class false ≡ true → ¬ IsVacant ranks_now class
+    occupied_less left class marked vacant = by (class == q.class) refl
+      where
+        by : (same : Bool) → (class == q.class) ≡ same → ⊥
+        by true s = left (subst (IsVacant ranks_now) (eqb-true class q.class s) vacant)
+        by false s = h.has_job class marked (had_none class (eqb-false class q.class s) vacant)
+
+    -- a job of its class is left
+    pub taken_out : ¬ IsVacant ranks_now q.class → IsRanked jobs_now ranks_now occupied
+    taken_out left = record {
       ordered = ordered;
       numbered = All-same AreNumbered jobs_now.entries (remove_entry (is_at (nat_cmp job)) jobs.entries) is (All-removed AreNumbered (is_at (nat_cmp job)) jobs.entries h.numbered);
       ranked = λ k. if_some (λ x. contains rank_cmp ranks_now (rank_of x) ≡ true) (get nat_cmp jobs_now k) (ranked_less h had u v k);
@@ -185,6 +222,7 @@ module _ (jobs jobs_now : BTreeMap ℕ Queued) (ranks ranks_now : BTreeSet Rank)
       bounded = bounded_less h.bounded v;
       marked = λ k. if_some (λ x. get_or occupied x.class false ≡ true) (get nat_cmp jobs_now k)
           (λ x e. some_is (λ y. get_or occupied y.class false ≡ true) (get nat_cmp jobs k) x (h.marked k) (still u k x e).0);
+      has_job = occupied_less left;
     }
 
     unmarked : IsVacant ranks_now q.class → (k : ℕ) (x : Queued) → get nat_cmp jobs_now k ≡ Some x → get_or (slice_set occupied q.class false) x.class false ≡ true
@@ -194,13 +232,41 @@ module _ (jobs jobs_now : BTreeMap ℕ Queued) (ranks ranks_now : BTreeSet Rank)
         by true s = absurd (both_ways (contains rank_cmp ranks_now (rank_of x)) (none (rank_of x) (eqb-true x.class q.class s)) (ranked_less h had u v k x e))
         by false s = get_or-set_other occupied q.class x.class false false (eqb-false x.class q.class s) ∙ some_is (λ y. get_or occupied y.class false ≡ true) (get nat_cmp jobs k) x (h.marked k) (still u k x e).0
 
+    unoccupied : q.class < length occupied → (class : ℕ) → get_or (slice_set occupied q.class false) class false ≡ true → ¬ IsVacant ranks_now class
+    unoccupied fits class marked vacant = by (class == q.class) refl
+      where
+        by : (same : Bool) → (class == q.class) ≡ same → ⊥
+        by true s = both_ways (get_or (slice_set occupied q.class false) class false)
+            (ap (λ k. get_or (slice_set occupied q.class false) k false) (eqb-true class q.class s) ∙ get_or-set_same occupied q.class false false fits) marked
+        by false s = h.has_job class (sym (get_or-set_other occupied q.class class false false (eqb-false class q.class s)) ∙ marked) (had_none class (eqb-false class q.class s) vacant)
+
     -- it was the last of its class
-    pub last_taken_out : IsVacant ranks_now q.class → IsRanked jobs_now ranks_now (slice_set occupied q.class false)
-    last_taken_out none = record {
-      ordered = taken_out.ordered;
-      numbered = taken_out.numbered;
-      ranked = taken_out.ranked;
-      queued = taken_out.queued;
-      bounded = taken_out.bounded;
+    pub last_taken_out : q.class < length occupied → IsVacant ranks_now q.class → IsRanked jobs_now ranks_now (slice_set occupied q.class false)
+    last_taken_out fits none = record {
+      ordered = ordered;
+      numbered = All-same AreNumbered jobs_now.entries (remove_entry (is_at (nat_cmp job)) jobs.entries) is (All-removed AreNumbered (is_at (nat_cmp job)) jobs.entries h.numbered);
+      ranked = λ k. if_some (λ x. contains rank_cmp ranks_now (rank_of x) ≡ true) (get nat_cmp jobs_now k) (ranked_less h had u v k);
+      queued = queued_less h had u v;
+      bounded = bounded_less h.bounded v;
       marked = λ k. if_some (λ x. get_or (slice_set occupied q.class false) x.class false ≡ true) (get nat_cmp jobs_now k) (unmarked none k);
+      has_job = unoccupied fits;
     }
+
+no_mark : (n k : ℕ) → get_or (replicate n false) k false ≡ false
+no_mark n k = by (nat_lt k n) refl
+  where
+    by : (within : Bool) → nat_lt k n ≡ within → get_or (replicate n false) k false ≡ false
+    by true s = get_or-replicate n k false false (ltb-true k n s)
+    by false s = get_or_past (replicate n false) k false (subst (λ m. m ≤ k) (sym (length-replicate n false)) (ltb-false k n s))
+
+-- no job waits
+pub nothing_ranked : (jobs : BTreeMap ℕ Queued) (ranks : BTreeSet Rank) → jobs.entries ≡ [] → ranks.keys ≡ [] → IsOrdered nat_cmp jobs → IsRanked jobs ranks (replicate 256 false)
+nothing_ranked jobs ranks none no_rank ordered = record {
+  ordered = ordered;
+  numbered = All-same AreNumbered jobs.entries [] none (All-nil AreNumbered);
+  ranked = λ k. rw none tt;
+  queued = λ r e. absurd (both_ways (contains rank_cmp ranks r) (rw no_rank refl) e);
+  bounded = λ r e. absurd (both_ways (contains rank_cmp ranks r) (rw no_rank refl) e);
+  marked = λ k. rw none tt;
+  has_job = λ class marked vacant. both_ways (get_or (replicate 256 false) class false) (no_mark 256 class) marked;
+}

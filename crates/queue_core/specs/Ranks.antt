@@ -27,7 +27,10 @@ AreBounded ranks = (r : Rank) → contains rank_cmp ranks r ≡ true → r.prior
 abbrev pub AreNumbered : ℕ × Queued → Type 0
 AreNumbered e = e.1.job ≡ e.0
 
--- the ranks are those of the jobs, and each class that has a job is marked
+abbrev pub IsVacant : BTreeSet Rank → ℕ → Type 0
+IsVacant ranks class = (r : Rank) → r.class ≡ class → contains rank_cmp ranks r ≡ false
+
+-- the ranks are those of the jobs, and the classes that are marked are those that have a job
 pub record IsRanked (jobs : BTreeMap ℕ Queued) (ranks : BTreeSet Rank) (occupied : List Bool) : Type 0 where
   pub ordered : IsOrdered nat_cmp jobs
   pub numbered : All AreNumbered jobs.entries
@@ -35,12 +38,10 @@ pub record IsRanked (jobs : BTreeMap ℕ Queued) (ranks : BTreeSet Rank) (occupi
   pub queued : (r : Rank) → contains rank_cmp ranks r ≡ true → get nat_cmp jobs r.job ≡ Some (queued_of r)
   pub bounded : AreBounded ranks
   pub marked : (k : ℕ) → IfSome (get nat_cmp jobs k) (λ q. get_or occupied q.class false ≡ true)
+  pub has_job : (class : ℕ) → get_or occupied class false ≡ true → ¬ IsVacant ranks class
 
 -- the first rank of a class
 pub record IsLeast (ranks : BTreeSet Rank) (class : ℕ) (q : Queued) : Type 0 where
   pub there : contains rank_cmp ranks (rank_of q) ≡ true
   pub of_class : q.class ≡ class
   pub least : (r : Rank) → contains rank_cmp ranks r ≡ true → r.class ≡ class → IsLeBy rank_cmp (rank_of q) r
-
-abbrev pub IsVacant : BTreeSet Rank → ℕ → Type 0
-IsVacant ranks class = (r : Rank) → r.class ≡ class → contains rank_cmp ranks r ≡ false

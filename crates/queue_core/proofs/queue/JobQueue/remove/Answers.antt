@@ -1,9 +1,9 @@
-use Rattle.std.proofs.Common.{◌∙◌, ap, sym}
+use Rattle.std.proofs.Common.{◌∙◌, ap, arith, sym}
 use Rattle.std.specs.Prelude.{filter}
 use Rattle.std.specs.Map.{values_of}
 use Rattle.queue_core.specs.Ranks.{IsVacant}
 use Rattle.queue_core.proofs.Numbered.{other_than, without_job}
-use Rattle.queue_core.proofs.Ranking.{bounded_less, last_taken_out, none_is, number_of, taken_out}
+use Rattle.queue_core.proofs.Ranking.{bounded_less, last_taken_out, none_is, not_vacant, number_of, taken_out}
 use Rattle.queue_core.proofs.Selecting.{job_found, no_job}
 use Rattle.queue_core.proofs.queue.JobQueue.remove.Goals as goal
 
@@ -21,12 +21,13 @@ invariant_of-self-then-is_none c =
     rw c.from.ensures
     (last_taken_out c.self.inside.jobs c.remove.new.self c.self.inside.ranks c.remove-2.new.self c.self.inside.occupied c.args.job c.in_ok-queued.queued c.self.invariant
     (sym c.in_ok-queued.ensures.value) c.in_ok-queued.ensures.entries c.in_ok-queued.ensures.ordered c.in_ok-queued.ensures.updates (rw c.rank_of.ensures at c.remove-2.ensures.updates)
-    (none_is (IsVacant c.remove-2.new.self c.in_ok-queued.queued.class) c.first_of.result c.if-is_none.ensures c.first_of.ensures.none))
+    (omega arith) (none_is (IsVacant c.remove-2.new.self c.in_ok-queued.queued.class) c.first_of.result c.if-is_none.ensures c.first_of.ensures.none))
 
 pub invariant_of-self-else-is_none : goal.invariant_of-self-else-is_none
 invariant_of-self-else-is_none c =
     taken_out c.self.inside.jobs c.remove.new.self c.self.inside.ranks c.remove-2.new.self c.self.inside.occupied c.args.job c.in_ok-queued.queued c.self.invariant
     (sym c.in_ok-queued.ensures.value) c.in_ok-queued.ensures.entries c.in_ok-queued.ensures.ordered c.in_ok-queued.ensures.updates (rw c.rank_of.ensures at c.remove-2.ensures.updates)
+    (not_vacant c.remove-2.new.self c.in_ok-queued.queued.class c.first_of.result c.if-is_none.ensures c.first_of.ensures.some)
 
 pub returns-then-is_none-clause-left : goal.returns-then-is_none-clause-left
 returns-then-is_none-clause-left c =
