@@ -5,6 +5,7 @@ ghost use Rattle.config_core.specs.Configs.{Configuration};
 ghost use Rattle.config_core.specs.Configured.{IsConfigured};
 ghost use Rattle.config_core.specs.Starts.{IsTakenApart};
 ghost use Rattle.run_laws.specs.Promises.{ArePromises};
+ghost use Rattle.shared_core.specs.Sizes.{VolumesHaveTheirSizes};
 ghost use Rattle.world_meaning.specs.Starts.{IsStart};
 ghost use Rattle.world_meaning.specs.Transitions.{Transition};
 ghost use Rattle.sched_core.specs.Events.{RefusesFirst};
@@ -28,6 +29,7 @@ use plain::listed::Listed;
 use proc_library::library::ProcLibrary;
 use run_laws::{promises_are_kept, starts_sound};
 use shared_core::store::SharedStore;
+use shared_core::sums::volumes_have_their_sizes;
 use std::alloc::{AllocError, Global};
 use std::marker::Model;
 
@@ -157,6 +159,13 @@ impl<'c, Q: RecordStore> System<'c, Q> {
             done += 1;
         }
         Driven { entries, done }
+    }
+
+    /// On each volume the tracks that are free, those that are kept, those of sets and those that are never free add up to its size.
+    pub fn volumes_have_their_sizes(&self)
+        ensures { VolumesHaveTheirSizes self.now.parts.store }
+    {
+        volumes_have_their_sizes(&self.state.parts.store);
     }
 
     /// Takes the machine apart, with the jobs that it still has. It takes no memory.

@@ -3,3 +3,4 @@ pub mod Rooms
 pub mod Writes
 pub mod Tracks
 pub mod Laws
+pub mod Sizes

@@ -1,4 +1,5 @@
 //! The tracks of the volumes add up.
+ghost use Rattle.shared_core.specs.Sizes.{VolumesHaveTheirSizes};
 ghost use Rattle.shared_core.specs.Tracks.{AddsUp, VolumesAddUp};
 
 use crate::store::SharedStore;
@@ -18,5 +19,14 @@ pub fn volumes_add_up(store: &SharedStore)
 {
     for mounted in store.volumes.as_slice() {
         adds_up(mounted);
+    }
+}
+
+/// On each volume the tracks that are free, those that are kept, those of sets and those that are never free add up to its size.
+pub fn volumes_have_their_sizes(store: &SharedStore)
+    ensures { VolumesHaveTheirSizes store.now }
+{
+    for mounted in store.volumes.as_slice() {
+        mounted.tracks_add_up();
     }
 }
