@@ -159,6 +159,33 @@ module _ (job_of : Denoting) (w mid : World) (e : Event) (lines : List Entry) (s
   own_turn turn (past more t n) = inr (n, ap (heard r.job) t)
   own_turn turn (taken less h) = inl (by_event e h refl turn)
 
+  -- an event that is no turn of a job that holds its names
+  module _ (plan : JobPlan) (named : named_plan r.stage ≡ Some plan) (other_turn : IsTurnOf e run.it → ⊥) where
+    is_beside : (other : ℕ) (x : Initiator) (o : Option Running) → IsAt w other x → x.running ≡ o → (other ≡ place → ⊥) → RunsBeside r.job (names_of plan) o
+    is_beside other x None at runs apart = tt
+    is_beside other x (Some q) at runs apart = by_stage q.stage refl
+      where
+        by_stage : (z : Stage) → q.stage ≡ z → IsBesideAt r.job (names_of plan) q.job z
+        by_stage (Selected first) is = tt
+        by_stage (Wanting p) is = tt
+        by_stage (Named p) is = tt
+        by_stage (Admitted p b n o) is = (
+          λ same. apart ((s.alone place r run).alone other q (record { it = x; at = at; running = runs }) same),
+          s.compatible other place q r p plan (record { it = x; at = at; running = runs }) run apart (ap named_plan is) named,
+        )
+
+    not_its_turn : (other : ℕ) (x : Initiator) → IsAt w other x → IsTurnOf e x → other ≡ place → ⊥
+    not_its_turn other x at turn same = other_turn (subst (IsTurnOf e) (one_there w.initiators other place x run.it same at run.at) turn)
+
+    beside : TurnsBeside w e r.job (names_of plan)
+    beside = record {
+      beside = λ other x at turn. is_beside other x x.running at refl (not_its_turn other x at turn);
+      fits = λ other x at turn. s.fits other x at;
+    }
+
+    pub part_kept : Transition job_of w e lines mid → SamePart (names_of plan) (seen r.job w.shared.store) (seen r.job mid.shared.store)
+    part_kept t = parts_stay job_of w mid e lines r.job (names_of plan) beside t
+
   module _ (plan : JobPlan) (a : Admission) (count : ℕ) (own : Own) (stage : r.stage ≡ Admitted plan a count own) (t : Transition job_of w e lines mid) where
     -- an event that is no turn of the job
     module _ (other_turn : IsTurnOf e run.it → ⊥) where
@@ -175,42 +202,20 @@ module _ (job_of : Denoting) (w mid : World) (e : Event) (lines : List Entry) (s
         running = run.running;
       }
 
-      is_beside : (other : ℕ) (x : Initiator) (o : Option Running) → IsAt w other x → x.running ≡ o → (other ≡ place → ⊥) → RunsBeside r.job (names_of plan) o
-      is_beside other x None at runs apart = tt
-      is_beside other x (Some q) at runs apart = by_stage q.stage refl
-        where
-          by_stage : (z : Stage) → q.stage ≡ z → IsBesideAt r.job (names_of plan) q.job z
-          by_stage (Selected first) is = tt
-          by_stage (Wanting p) is = tt
-          by_stage (Named p) is = tt
-          by_stage (Admitted p b n o) is = (
-            λ same. apart ((s.alone place r run).alone other q (record { it = x; at = at; running = runs }) same),
-            s.compatible other place q r p plan (record { it = x; at = at; running = runs }) run apart (ap named_plan is) (ap named_plan stage),
-          )
-
-      not_its_turn : (other : ℕ) (x : Initiator) → IsAt w other x → IsTurnOf e x → other ≡ place → ⊥
-      not_its_turn other x at turn same = other_turn (subst (IsTurnOf e) (one_there w.initiators other place x run.it same at run.at) turn)
-
-      beside : TurnsBeside w e r.job (names_of plan)
-      beside = record {
-        beside = λ other x at turn. is_beside other x x.running at refl (not_its_turn other x at turn);
-        fits = λ other x at turn. s.fits other x at;
-      }
-
       unheard : Voice w e lines r.job → heard r.job lines ≡ []
       unheard (inl silent) = silent
       unheard (inr (is_read is)) = let le : r.job ≤ w.jobs = (s.alone place r run).numbered in let no : ⊥ = omega (arith, is, le) in absurd no
       unheard (inr (is_queued v contained is)) =
           absurd (All-contains (λ v. v.job ≢ r.job) w.waiting v (s.alone place r run).not_waiting contained is)
       unheard (inr (has_turn other x q at turn runs same)) =
-          absurd (not_its_turn other x at turn ((s.alone place r run).alone other q (record { it = x; at = at; running = runs }) same))
+          absurd (not_its_turn plan (ap named_plan stage) other_turn other x at turn ((s.alone place r run).alone other q (record { it = x; at = at; running = runs }) same))
       unheard (inr (ends_early other q at same early)) =
           let there_too : other ≡ place = (s.alone place r run).alone other q at same in
           let one : q ≡ r = one_running w place q r (subst (λ p. RunsAt w p q) there_too at) run in
           absurd (both_ways (is_admitted q.stage) early (ap (λ (z : Running). is_admitted z.stage) one ∙ ap is_admitted stage))
 
       pub no_turn : Then w mid place r plan a count own lines
-      no_turn = stays still_there (parts_stay job_of w mid e lines r.job (names_of plan) beside t) (unheard (voice job_of w mid e lines t r.job))
+      no_turn = stays still_there (part_kept plan (ap named_plan stage) other_turn t) (unheard (voice job_of w mid e lines t r.job))
 
     -- and its turn
     module _ (assured : a.assured ≡ true) (o : OwnTurn w mid place r lines) where

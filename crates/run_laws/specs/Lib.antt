@@ -1,2 +1,3 @@
+pub mod KeepsPart
 pub mod Soundness
 pub mod Promises
