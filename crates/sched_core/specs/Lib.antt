@@ -9,3 +9,4 @@ pub mod Reading
 pub mod Happening
 pub mod Systems
 pub mod Starting
+pub mod Inputs

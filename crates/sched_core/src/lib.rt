@@ -7,6 +7,7 @@ mod ending;
 pub mod fault;
 mod going;
 mod happening;
+pub mod laws;
 mod lines;
 mod reading;
 mod seating;
