@@ -1,1 +1,3 @@
+pub mod CommandLines
+pub mod Examples
 pub mod Programs

@@ -1,13 +1,14 @@
 //! The command line.
-ghost use Rattle.std.specs.Prelude.{◌≡◌, ◌≤◌, IfOk, IfSome, codes};
-ghost use Rattle.clap.specs.Words.{first_value, found_of};
-ghost use Rattle.mvt_main.specs.Programs.{IsChosen, views_in};
+ghost use Rattle.std.specs.Prelude.{◌≡◌, IfOk, codes, false, map};
+ghost use Rattle.clap.specs.Words.{app_of, first_value, found_of};
+ghost use Rattle.mvt_main.specs.CommandLines.{IsProgram, IsRead, misuse_status, risk_in, views_in};
 
+use crate::report::{MISUSE, WANT_OF_MEMORY};
 use clap::error::ErrorKind;
 use clap::{Arg, ArgMatches, Command, Error};
 use jname_core::decimal::number_within;
 use session_core::{Options, RiskChoice};
-use std::alloc::Global;
+use std::alloc::{AllocError, Global};
 use std::convert::AsStr;
 
 /// The most views that may be asked for, and how many are where none are asked for.
@@ -15,7 +16,10 @@ const MOST_VIEWS: u16 = 1024;
 
 static RISKS: [&str; 2] = ["run", "refuse"];
 
-fn command<'a>(alloc: Global) -> Result<Command<'a>, Error> {
+/// The program's own command line.
+fn command<'a>(alloc: Global) -> Result<Command<'a>, AllocError>
+    ensures { IfOk result (λ c. IsProgram (app_of c)) }
+{
     let risk = Arg::new(alloc, "risk")
         .long("risk")
         .value_name("CHOICE")
@@ -36,7 +40,7 @@ fn command<'a>(alloc: Global) -> Result<Command<'a>, Error> {
 }
 
 fn risk_of(matches: &ArgMatches) -> RiskChoice
-    ensures { IsChosen (first_value (found_of matches.now) (codes "risk")) result }
+    ensures { result ≡ risk_in (first_value (found_of matches.now) (codes "risk")) }
 {
     match matches.get_str("risk") {
         Some(text) if text == "refuse" => RiskChoice::Refuse,
@@ -46,8 +50,7 @@ fn risk_of(matches: &ArgMatches) -> RiskChoice
 
 /// How many views are asked for, or `None` where the word is no number of them.
 fn views_of(matches: &ArgMatches) -> Option<u16>
-    ensures value { result ≡ views_in (first_value (found_of matches.now) (codes "views")) }
-    ensures bound { IfSome result (λ n. (1 ≤ n) × (n ≤ 1024)) }
+    ensures { result ≡ views_in (first_value (found_of matches.now) (codes "views")) }
 {
     match matches.get_str("views") {
         None => Some(MOST_VIEWS),
@@ -55,10 +58,20 @@ fn views_of(matches: &ArgMatches) -> Option<u16>
     }
 }
 
+/// The status of a command line that is not taken, by the kind of its error.
+pub fn misuse_status(kind: ErrorKind) -> u8
+    ensures { result ≡ misuse_status kind }
+{
+    match kind {
+        ErrorKind::OutOfMemory => WANT_OF_MEMORY,
+        _ => MISUSE,
+    }
+}
+
 /// The options that the words of a command line ask for, the program's own name first. An `Err` has a text that says what is wrong,
 /// or what the options are.
 pub(crate) fn read_options<'a, S: AsStr>(alloc: Global, words: &'a [S]) -> Result<Options, Error>
-    ensures { IfOk result (λ o. (1 ≤ o.views) × (o.views ≤ 1024)) }
+    ensures { IsRead (map S.text words.entry.now) result }
 {
     let mut command = command(alloc)?;
     let matches = command.try_get_matches_from_mut(words)?;

@@ -1,6 +1,7 @@
 //! Statuses, what is said on standard error, and command lines.
 use crate::options::read_options;
-use crate::report::{Message, report, session_report};
+use crate::program::run_program;
+use crate::report::{Message, report};
 use clap::error::ErrorKind;
 use session_core::stream::{Sink, Source};
 use session_core::{Options, RiskChoice, SessionEnd, SessionFault};
@@ -117,19 +118,28 @@ fn other_command_lines_are_not_taken(rt: HostRuntime) -> Result<(), Fail> {
 const USAGE: &str = "Usage: mvt [OPTIONS] <SESSION\n";
 
 #[test]
-fn each_text_has_the_usage(rt: HostRuntime) -> Result<(), Fail> {
+fn command_lines_that_are_not_taken_run_nothing(rt: HostRuntime) -> Result<(), Fail> {
     for words in [
         ["mvt", "--help"],
         ["mvt", "first.session"],
         ["mvt", "--views=+1"],
     ] {
-        match read_options(rt.alloc(), words.as_slice()) {
-            Ok(_) => assert!(rt; false),
-            Err(error) => {
-                let text = format!(in rt.alloc(); "{error}")?;
-                assert!(rt; text.as_str().contains(USAGE));
-            }
-        }
+        let mut reader = "./ TURN 1\n".as_bytes();
+        let mut writer = Vec::new(rt.alloc());
+        let mut errors = Vec::new(rt.alloc());
+        let mut source = Source::new(&mut reader);
+        let mut sink = Sink::new(&mut writer);
+        let ended = run_program(
+            rt.alloc(),
+            words.as_slice(),
+            &mut source,
+            &mut sink,
+            &mut errors,
+        );
+        assert!(rt; ended.status == 2 && ended.said);
+        assert!(rt; str::from_utf8(errors.as_slice())?.contains(USAGE));
+        assert!(rt; writer.is_empty());
+        assert!(rt; !reader.is_empty());
     }
     Ok(())
 }
@@ -140,26 +150,28 @@ const SESSIONS: &[(&str, &str, &str, u8)] = &[
     (
         "./ TURN 1\n./ TRUN 1\n",
         "-- REFUSED A1\n",
-        "session fault S1 at line 2",
+        "session fault S1 at line 2\n",
         1,
     ),
 ];
 
 #[test]
 fn sessions_are_run_and_reported(rt: HostRuntime) -> Result<(), Fail> {
-    let options = Options {
-        risk: RiskChoice::Run,
-        views: 1024,
-    };
     for (text, listing, said, status) in SESSIONS {
         let mut reader = text.as_bytes();
         let mut writer = Vec::new(rt.alloc());
+        let mut errors = Vec::new(rt.alloc());
         let mut source = Source::new(&mut reader);
         let mut sink = Sink::new(&mut writer);
-        let (told, message) = session_report(rt.alloc(), &mut source, &mut sink, options);
-        assert!(rt; told == *status);
-        let message = format!(in rt.alloc(); "{message}")?;
-        assert!(rt; message.as_str() == *said);
+        let ended = run_program(
+            rt.alloc(),
+            ["mvt"].as_slice(),
+            &mut source,
+            &mut sink,
+            &mut errors,
+        );
+        assert!(rt; ended.status == *status && ended.said);
+        assert!(rt; errors.as_slice() == said.as_bytes());
         assert!(rt; writer.as_slice() == listing.as_bytes());
         assert!(rt; reader.is_empty());
     }

@@ -1,0 +1,28 @@
+-- Command lines, and what they ask for.
+use Rattle.std.specs.Prelude.{◌≡◌, List, [], ◌∷◌, codes, Some}
+use Rattle.clap.specs.Words.{App, Text}
+use Rattle.clap.specs.declared.error.kind.ErrorKind.{ErrorKind}
+use Rattle.clap.specs.declared.error.kind.ErrorKind.TheVariants as kind
+use Rattle.session_core.specs.declared.Options.{Options}
+use Rattle.session_core.specs.declared.RiskChoice.TheVariants as risk
+use Rattle.mvt_main.specs.CommandLines.{kinds_of, options_of}
+
+-- the words ask for these options
+abbrev pub AsksFor : App → List Text → Options → Type 0
+AsksFor program words options = (kinds_of program (codes "mvt" ∷ words) ≡ []) × (options_of program (codes "mvt" ∷ words) ≡ Some options)
+
+-- the words are not taken
+abbrev pub IsRefused : App → List Text → ErrorKind → Type 0
+IsRefused program words kind = kinds_of program (codes "mvt" ∷ words) ≡ kind ∷ []
+
+pub record AreExamples (program : App) : Type 0 where
+  pub nothing : AsksFor program [] (record { risk = risk.Run; views = 1024 })
+  pub refuses : AsksFor program (codes "--risk" ∷ codes "refuse" ∷ []) (record { risk = risk.Refuse; views = 1024 })
+  pub views : AsksFor program (codes "--views" ∷ codes "17" ∷ []) (record { risk = risk.Run; views = 17 })
+  pub both : AsksFor program (codes "--views=1" ∷ codes "--risk=run" ∷ []) (record { risk = risk.Run; views = 1 })
+  pub help : IsRefused program (codes "--help" ∷ []) kind.DisplayHelp
+  pub version : IsRefused program (codes "--version" ∷ []) kind.UnknownArgument
+  pub no_view : IsRefused program (codes "--views" ∷ codes "0" ∷ []) kind.ValueValidation
+  pub too_many : IsRefused program (codes "--views" ∷ codes "1025" ∷ []) kind.ValueValidation
+  pub other_risk : IsRefused program (codes "--risk" ∷ codes "stop" ∷ []) kind.InvalidValue
+  pub twice : IsRefused program (codes "--risk=run" ∷ codes "--risk=run" ∷ []) kind.ArgumentConflict
