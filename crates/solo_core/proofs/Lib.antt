@@ -1,4 +1,5 @@
 mod Answered
 mod Carried
-mod Runs
+mod FaultsFound
+pub mod Runs
 mod Starts

@@ -11,19 +11,15 @@ use Rattle.jcl_meaning.specs.Acts.{act}
 use Rattle.jcl_meaning.specs.Agendas.{Action, Take, Ask, Receive, Dispose, Left, disposes_from, left_by, lefts_from, lefts_in, moves_from, step_actions, steps_from, takes_from}
 use Rattle.jcl_meaning.specs.Plans.{passes}
 use Rattle.disp_core.specs.Courses.{fixed_by}
+use Rattle.solo_core.specs.Meets.{faults_of, meets_in}
 use Rattle.solo_core.specs.Runners.{Acts, Does, done_by, ran_by, state_by}
-use Rattle.solo_core.proofs.Carried.{still}
-use Rattle.jcl_meaning.specs.Solo.{Met, Ran, is_clean, later, met_first, run}
-use Rattle.jcl_meaning.specs.States.{Fixed, State, no_fault}
+use Rattle.jcl_meaning.specs.Solo.{Ran, later, met_first, run}
+use Rattle.jcl_meaning.specs.States.{Fixed, State}
 
 -- no action
 pub acts_none : (a : Runner) → Acts [] a a
 unfolding run
-acts_none a = record { state = refl; lines = sym (append-nil a.course.lines); clean = still a.clean; keeps = record { given = refl; volumes = refl } }
-
-clean_one : (m : Option Fault) → (length (met_first m []) == 0) ≡ no_fault m
-clean_one None = refl
-clean_one (Some f) = refl
+acts_none a = record { state = refl; lines = sym (append-nil a.course.lines); meets = sym (append-nil a.meets); keeps = record { given = refl; volumes = refl } }
 
 -- one action
 pub acts_one : (x : Action) (a b : Runner) → Does x a b → Acts (x ∷ []) a b
@@ -31,7 +27,7 @@ unfolding run
 acts_one x a b h = record {
   state = h.state;
   lines = h.lines ∙ ap (λ l. a.course.lines ++ l) (sym (append-nil (done_by a x).lines));
-  clean = h.clean ∙ ap (λ c. a.clean && c) (sym (clean_one (done_by a x).meets));
+  meets = h.meets;
   keeps = h.keeps;
 }
 
@@ -48,22 +44,16 @@ run_lines-append f (x ∷ xs) ys s =
     ap (λ l. (act f x s).lines ++ l) (run_lines-append f xs ys (act f x s).state)
     ∙ sym (append_assoc (act f x s).lines (run f xs (act f x s).state).lines (run f ys (run f xs (act f x s).state).state).lines)
 
-clean_step : (m : Option Fault) (more : List Met) → (length (met_first m (map later more)) == 0) ≡ (no_fault m && (length more == 0))
-clean_step None more = ap (λ n. n == 0) (length-map more later)
-clean_step (Some f) more = eqb-suc-zero (length (map later more))
-
-and_assoc : (a b c : Bool) → (a && (b && c)) ≡ ((a && b) && c)
-and_assoc true b c = refl
-and_assoc false b c = refl
-
-pub run_clean-append : (f : Fixed) (xs ys : List Action) (s : State) → is_clean (run f (xs ++ ys) s) ≡ (is_clean (run f xs s) && is_clean (run f ys (run f xs s).state))
+pub meets_in-append : (f : Fixed) (xs ys : List Action) (s : State) → meets_in f (xs ++ ys) s ≡ meets_in f xs s ++ meets_in f ys (run f xs s).state
 unfolding run
-run_clean-append f [] ys s = refl
-run_clean-append f (x ∷ xs) ys s =
-    clean_step (act f x s).meets (run f (xs ++ ys) (act f x s).state).faults
-    ∙ ap (λ c. no_fault (act f x s).meets && c) (run_clean-append f xs ys (act f x s).state)
-    ∙ and_assoc (no_fault (act f x s).meets) (is_clean (run f xs (act f x s).state)) (is_clean (run f ys (run f xs (act f x s).state).state))
-    ∙ ap (λ c. c && is_clean (run f ys (run f xs (act f x s).state).state)) (sym (clean_step (act f x s).meets (run f xs (act f x s).state).faults))
+meets_in-append f [] ys s = refl
+meets_in-append f (x ∷ xs) ys s = ap (λ l. (act f x s).meets ∷ l) (meets_in-append f xs ys (act f x s).state)
+
+-- the faults of a run are those that its actions met
+pub run_faults : (f : Fixed) (xs : List Action) (s : State) → (run f xs s).faults ≡ faults_of (meets_in f xs s)
+unfolding run
+run_faults f [] s = refl
+run_faults f (x ∷ xs) s = ap (λ l. met_first (act f x s).meets (map later l)) (run_faults f xs (act f x s).state)
 
 -- these actions, and then those
 pub acts_more : (xs ys : List Action) (a b c : Runner) → Acts xs a b → Acts ys b c → Acts (xs ++ ys) a c
@@ -75,8 +65,8 @@ acts_more xs ys a b c p q =
       state = q.state ∙ ap (λ (r : Ran). r.state) moved ∙ sym (run_state-append f xs ys s);
       lines = q.lines ∙ (λ i. p.lines i ++ (moved i).lines)
           ∙ append_assoc a.course.lines (run f xs s).lines (run f ys (run f xs s).state).lines ∙ ap (λ l. a.course.lines ++ l) (sym (run_lines-append f xs ys s));
-      clean = q.clean ∙ (λ i. p.clean i && is_clean (moved i))
-          ∙ sym (and_assoc a.clean (is_clean (run f xs s)) (is_clean (run f ys (run f xs s).state))) ∙ ap (λ x. a.clean && x) (sym (run_clean-append f xs ys s));
+      meets = q.meets ∙ (λ i. p.meets i ++ meets_in (fixed_by (p.keeps.given i)) ys (p.state i))
+          ∙ append_assoc a.meets (meets_in f xs s) (meets_in f ys (run f xs s).state) ∙ ap (λ l. a.meets ++ l) (sym (meets_in-append f xs ys s));
       keeps = record { given = q.keeps.given ∙ p.keeps.given; volumes = q.keeps.volumes ∙ p.keeps.volumes };
     }
 

@@ -1,1 +1,3 @@
+pub mod Meets
+pub mod PathRuns
 pub mod Runners

@@ -1,13 +1,14 @@
 -- The runner as the state of a job, and actions carried out by it.
-use Rattle.std.specs.Prelude.{◌≡◌, true, ◌&&◌, List, ◌++◌}
+use Rattle.std.specs.Prelude.{◌≡◌, true, List, [], ◌∷◌, ◌++◌}
 use Rattle.jcl_meaning.specs.Acts.{act}
 use Rattle.jcl_meaning.specs.Agendas.{Action}
-use Rattle.jcl_meaning.specs.Solo.{Ran, is_clean, run}
-use Rattle.jcl_meaning.specs.States.{Answers, Done, State, no_fault}
+use Rattle.jcl_meaning.specs.Solo.{Ran, run}
+use Rattle.jcl_meaning.specs.States.{Answers, Done, State}
 use Rattle.jcl_meaning.specs.Stores.{store_of}
 use Rattle.store_core.specs.Actions.{state_at}
 use Rattle.disp_core.specs.Courses.{fixed_by}
 use Rattle.solo_core.specs.declared.runner.Runner.{Runner}
+use Rattle.solo_core.specs.Meets.{meets_in}
 
 -- the answers that are left; a primary is granted
 abbrev pub answers_by : Runner → Answers
@@ -31,12 +32,12 @@ pub record Keeps (old new : Runner) : Type 0 where
 pub record Does (action : Action) (old new : Runner) : Type 0 where
   pub state : state_by new ≡ (done_by old action).state
   pub lines : new.course.lines ≡ old.course.lines ++ (done_by old action).lines
-  pub clean : new.clean ≡ (old.clean && no_fault (done_by old action).meets)
+  pub meets : new.meets ≡ old.meets ++ (done_by old action).meets ∷ []
   pub keeps : Keeps old new
 
 -- these actions, one after another
 pub record Acts (actions : List Action) (old new : Runner) : Type 0 where
   pub state : state_by new ≡ (ran_by old actions).state
   pub lines : new.course.lines ≡ old.course.lines ++ (ran_by old actions).lines
-  pub clean : new.clean ≡ (old.clean && is_clean (ran_by old actions))
+  pub meets : new.meets ≡ old.meets ++ meets_in (fixed_by old.given) actions (state_by old)
   pub keeps : Keeps old new

@@ -1,6 +1,7 @@
 //! A job alone, carried out: the plain runners, by its programs or along given outcomes.
 #![tactic(auto)]
 
+pub mod path;
 mod runner;
 mod steps;
 
@@ -8,7 +9,9 @@ ghost use Rattle.std.specs.Prelude.{IfOk, true};
 ghost use Rattle.jcl_meaning.specs.Agendas.{agenda};
 ghost use Rattle.jcl_meaning.specs.Solo.{IsSoloRun, at_start, fixed_alone, run, solo_of, solo_path_of};
 ghost use Rattle.jcl_meaning.specs.Stores.{store_of};
+ghost use Rattle.solo_core.specs.PathRuns.{IsPathRun};
 
+use crate::path::{PathRun, faults_in};
 use crate::runner::Runner;
 use disp_core::course::{Course, Given};
 use jcl_meaning::program::{SoloProgram, endings};
@@ -34,8 +37,8 @@ fn run<'a>(
     cancels: &'a [Option<u32>],
     grants: &'a [bool],
     date: Day,
-) -> Result<SoloRun, AllocError>
-    ensures { IfOk result (λ r. IsSoloRun r store.now (run (fixed_alone store.now plan.now places.now date) (agenda plan.now programs.now)
+) -> Result<PathRun, AllocError>
+    ensures { IfOk result (λ r. IsPathRun r store.now (run (fixed_alone store.now plan.now places.now date) (agenda plan.now programs.now)
         (at_start (store_of store.now) (record { outcomes = outcomes.now; cancels = cancels.now; grants = grants.now; primary = true })))) }
 {
     let meanings = meanings_of(alloc, plan, store)?;
@@ -60,17 +63,19 @@ fn run<'a>(
             own: nothing_own(alloc),
             lines: Listed::empty(alloc),
         },
-        clean: true,
+        meets: Listed::empty(alloc),
     };
     runner.run_agenda(plan, programs)?;
-    let clean = runner.clean;
+    let faults = faults_in(alloc, runner.meets.as_slice())?;
+    let clean = faults.as_slice().is_empty();
     let course = runner.course;
     let alone = runner.store;
-    Ok(SoloRun {
+    let run = SoloRun {
         lines: course.lines,
         store: alone.store,
         clean,
-    })
+    };
+    Ok(PathRun { run, faults })
 }
 
 /// The solo meaning of a job: the lines that it writes alone, after its admission, in this store, with these places for its sets to be
@@ -88,7 +93,7 @@ pub fn solo(
         (solo_of (fixed_alone store.now plan.now places.now date) plan.now (store_of store.now) programs.now answers.now)) }
 {
     let outcomes = endings(alloc, plan.steps.as_slice(), programs)?;
-    run(
+    let run = run(
         alloc,
         plan,
         store,
@@ -98,7 +103,23 @@ pub fn solo(
         answers.cancels.as_slice(),
         answers.grants.as_slice(),
         date,
-    )
+    )?;
+    Ok(run.run)
+}
+
+/// The solo meaning of a job along given outcomes, as [`solo_path`], and the faults that it meets, each with its place among all that the job may do.
+pub fn path_run(
+    alloc: Global,
+    plan: &JobPlan,
+    store: &SoloStore,
+    places: &[Place],
+    outcomes: &[Outcome],
+    date: Day,
+) -> Result<PathRun, AllocError>
+    ensures { IfOk result (λ r. IsPathRun r store.now
+        (solo_path_of (fixed_alone store.now plan.now places.now date) plan.now (store_of store.now) outcomes.now)) }
+{
+    run(alloc, plan, store, places, &[], outcomes, &[], &[], date)
 }
 
 /// The solo meaning of a job along given outcomes, one a step: those of steps that do not run are not looked at, and a step past the end of
@@ -114,5 +135,6 @@ pub fn solo_path(
     ensures { IfOk result (λ r. IsSoloRun r store.now
         (solo_path_of (fixed_alone store.now plan.now places.now date) plan.now (store_of store.now) outcomes.now)) }
 {
-    run(alloc, plan, store, places, &[], outcomes, &[], &[], date)
+    let path = path_run(alloc, plan, store, places, outcomes, date)?;
+    Ok(path.run)
 }

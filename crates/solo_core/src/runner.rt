@@ -1,9 +1,9 @@
 //! A job on its way: each action of its agenda carried out.
-ghost use Rattle.std.specs.Prelude.{◌≡◌, ◌<◌, ◌&&◌, true, OnOk};
+ghost use Rattle.std.specs.Prelude.{◌≡◌, ◌<◌, ◌∷◌, ◌++◌, [], true, OnOk};
 ghost use Rattle.jcl_plan.specs.declared.outcome.Outcome.TheVariants as outcome;
 ghost use Rattle.jcl_meaning.specs.Agendas.{Ask, Dispose, Finish, Left, Over, Receive, Start, Take};
 ghost use Rattle.jcl_meaning.specs.RequestActs.{head_or};
-ghost use Rattle.jcl_meaning.specs.States.{cancel_due, no_fault, others};
+ghost use Rattle.jcl_meaning.specs.States.{cancel_due, others};
 ghost use Rattle.solo_core.specs.Runners.{Does};
 
 use disp_core::course::{Course, Given};
@@ -12,6 +12,7 @@ use jcl_meaning::program::Move;
 use jcl_plan::fault::Fault;
 use jcl_plan::outcome::{Code, Outcome};
 use jcl_plan::plan::{DdPlan, StepPlan};
+use plain::listed::Listed;
 use std::alloc::{AllocError, Global};
 use store_core::alone::Alone;
 
@@ -28,7 +29,8 @@ pub(crate) struct Runner<'a> {
     pub(crate) grants: &'a [bool],
     pub(crate) store: Alone,
     pub(crate) course: Course,
-    pub(crate) clean: bool,
+    /// What each action met.
+    pub(crate) meets: Listed<Option<Fault>>,
 }
 
 /// Answers without the first.
@@ -73,13 +75,12 @@ fn next_grant(grants: &[bool]) -> bool
 }
 
 impl<'a> Runner<'a> {
-    /// Enters the fault that an action met, if it met one.
-    fn met(&mut self, fault: Option<Fault>)
-        ensures { self.new ≡ record self.old { clean = self.old.clean && no_fault fault } }
+    /// An action is done: enters the fault that it met, if it met one.
+    fn met(&mut self, fault: Option<Fault>) -> Result<(), AllocError>
+        ensures { OnOk result (self.new ≡ record self.old { meets = self.old.meets ++ fault ∷ [] }) }
     {
-        if fault.is_some() {
-            self.clean = false;
-        }
+        self.meets.push(fault)?;
+        Ok(())
     }
 
     /// A step begins, or is passed over.
@@ -87,6 +88,7 @@ impl<'a> Runner<'a> {
         ensures { OnOk result (Does (Start n step.now) self.old self.new) }
     {
         step::begin(&self.given, &mut self.course, n, step)?;
+        self.met(None)?;
         Ok(())
     }
 
@@ -104,7 +106,7 @@ impl<'a> Runner<'a> {
             dd,
             d,
         )?;
-        self.met(taken.meets);
+        self.met(taken.meets)?;
         Ok(())
     }
 
@@ -117,6 +119,7 @@ impl<'a> Runner<'a> {
         step::finish(self.alloc, &mut self.course, n, &outcome, cancelled)?;
         self.outcomes = others(self.outcomes);
         self.cancels = others(self.cancels);
+        self.met(None)?;
         Ok(())
     }
 
@@ -134,7 +137,7 @@ impl<'a> Runner<'a> {
             dd,
             d,
         )?;
-        self.met(meets);
+        self.met(meets)?;
         Ok(())
     }
 
@@ -151,7 +154,7 @@ impl<'a> Runner<'a> {
             dd,
             d,
         )?;
-        self.met(meets);
+        self.met(meets)?;
         Ok(())
     }
 
@@ -160,6 +163,7 @@ impl<'a> Runner<'a> {
         ensures { OnOk result (Does Over self.old self.new) }
     {
         step::end(&mut self.course)?;
+        self.met(None)?;
         Ok(())
     }
 
@@ -181,6 +185,7 @@ impl<'a> Runner<'a> {
         if asked {
             self.grants = others(self.grants);
         }
+        self.met(None)?;
         Ok(())
     }
 
@@ -190,6 +195,7 @@ impl<'a> Runner<'a> {
     {
         let cancelled = cancel_due(self.cancels, self.course.own.lines);
         request::receive(&mut self.store, JOB, &mut self.course, cancelled)?;
+        self.met(None)?;
         Ok(())
     }
 }

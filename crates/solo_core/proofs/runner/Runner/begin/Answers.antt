@@ -10,5 +10,5 @@ pub returns : goal.returns
 unfolding act
 returns c =
     let old = c.args.self.now in
-    does_cleanly (Start c.args.n c.args.step.now) old (record old { course = c.begin.new.course })
-    (c.in_ok-begin.ensures.ok (store_of old.store.store) (answers_by old)) refl (record { given = refl; volumes = refl })
+    does_cleanly (Start c.args.n c.args.step.now) old (record old { course = c.begin.new.course }) c.met.new.self
+    (c.in_ok-begin.ensures.ok (store_of old.store.store) (answers_by old)) (record { given = refl; volumes = refl }) refl c.in_ok-met.ensures

@@ -10,4 +10,4 @@ unfolding act
 returns c =
     let old = c.args.self.now in
     does_told (Dispose c.args.n c.args.dd c.args.d.now) old (record old { store = c.dispose.new.store; course = c.dispose.new.course }) c.met.new.self c.in_ok-meets.meets []
-    (c.in_ok-meets.ensures.ok (answers_by old)) (record { given = refl; volumes = c.in_ok-meets.ensures.rest }) refl c.met.ensures
+    (c.in_ok-meets.ensures.ok (answers_by old)) (record { given = refl; volumes = c.in_ok-meets.ensures.rest }) refl c.in_ok-met.ensures

@@ -10,5 +10,5 @@ pub returns : goal.returns
 unfolding act
 returns c =
     let old = c.args.self.now in
-    does_cleanly Over old (record old { course = c.end.new.course })
-    (c.in_ok-end.ensures.ok (store_of old.store.store) (answers_by old)) refl (record { given = refl; volumes = refl })
+    does_cleanly Over old (record old { course = c.end.new.course }) c.met.new.self
+    (c.in_ok-end.ensures.ok (store_of old.store.store) (answers_by old)) (record { given = refl; volumes = refl }) refl c.in_ok-met.ensures

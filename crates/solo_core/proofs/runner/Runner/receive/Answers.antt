@@ -9,5 +9,5 @@ pub returns : goal.returns
 unfolding act
 returns c =
     let old = c.args.self.now in
-    does_cleanly Receive old (record old { store = c.receive.new.store; course = c.receive.new.course })
-    (c.in_ok-receive.ensures.ok (answers_by old) (sym c.cancel_due-cancelled.ensures)) refl (record { given = refl; volumes = c.in_ok-receive.ensures.rest })
+    does_cleanly Receive old (record old { store = c.receive.new.store; course = c.receive.new.course }) c.met.new.self
+    (c.in_ok-receive.ensures.ok (answers_by old) (sym c.cancel_due-cancelled.ensures)) (record { given = refl; volumes = c.in_ok-receive.ensures.rest }) refl c.in_ok-met.ensures

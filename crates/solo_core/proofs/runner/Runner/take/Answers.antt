@@ -16,4 +16,4 @@ returns c =
     let d = c.args.d.now in
     does_told (Take c.args.n c.args.dd d) old (record old { store = c.take.new.store; course = c.take.new.course }) c.met.new.self c.in_ok-taken.taken.meets (made_of c.in_ok-taken.taken.made)
     (c.in_ok-taken.ensures.ok (answers_by old) (sym (primary_is_granted (fixed_by old.given) c.args.n c.args.dd d.kind (store_of old.store.store) old.course.own)))
-    (record { given = refl; volumes = c.in_ok-taken.ensures.rest }) refl c.met.ensures
+    (record { given = refl; volumes = c.in_ok-taken.ensures.rest }) refl c.in_ok-met.ensures
