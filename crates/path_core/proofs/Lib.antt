@@ -1,0 +1,10 @@
+mod Certified
+mod Locating
+mod Marked
+mod Members
+mod MetPlaces
+mod Passing
+mod PathFates
+mod SamePaths
+mod ShownOutcomes
+mod TakesBeside

@@ -1,0 +1,5 @@
+pub mod FatesMet
+pub mod Marks
+pub mod MarksMet
+pub mod Reports
+pub mod Starts

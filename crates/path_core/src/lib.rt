@@ -1,0 +1,14 @@
+//! What may become of a job that starts in a store, and whether a path that is told leads to its fault.
+#![tactic(auto)]
+
+pub mod check;
+mod fates;
+mod marks;
+pub mod start;
+
+ghost use Rattle.path_core.specs.Reports.{ReportsPass};
+
+/// The path of each report that an analysis may give is one that [`check::check_path`] takes.
+pub fn report_passes()
+    ensures { ReportsPass }
+{}
