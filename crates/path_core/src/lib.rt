@@ -1,6 +1,7 @@
 //! What may become of a job that starts in a store, and whether a path that is told leads to its fault.
 #![tactic(auto)]
 
+pub mod analyse;
 pub mod check;
 mod fates;
 mod marks;
