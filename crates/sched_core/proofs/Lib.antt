@@ -14,3 +14,7 @@ pub mod Shows
 pub mod Machined
 pub mod Begun
 pub mod Driving
+pub mod RefusedGrowth
+pub mod RefusedPrimary
+pub mod ActionFacts
+pub mod Decided

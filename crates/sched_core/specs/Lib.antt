@@ -10,3 +10,4 @@ pub mod Happening
 pub mod Systems
 pub mod Starting
 pub mod Inputs
+pub mod Deciding
