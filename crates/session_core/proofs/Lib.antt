@@ -1,5 +1,6 @@
 pub mod Streams
 pub mod Applied
+pub mod Leaving
 pub mod Started
 pub mod Fixed
 pub mod Marked

@@ -8,3 +8,4 @@ pub mod Configuring
 pub mod Running
 pub mod Failures
 pub mod Promises
+pub mod Leaving

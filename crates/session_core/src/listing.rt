@@ -1,5 +1,5 @@
 //! The lines that are not written yet, and which statements wrote them.
-ghost use Rattle.std.specs.Prelude.{◌≡◌, ◌<◌, ◌++◌, ℕ, [], Err, IfErr, List, OnErr, OnOk, false, length, take};
+ghost use Rattle.std.specs.Prelude.{◌≡◌, ◌<◌, ◌++◌, ℕ, [], Err, IfErr, List, OnErr, OnOk, false, length, take, true};
 ghost use Rattle.std.specs.Io.KnownBytes.{Appends};
 ghost use Rattle.std.specs.List.{flat_map};
 ghost use Rattle.jcl_plan.specs.Lines.{text_of};
@@ -64,6 +64,7 @@ impl Listing {
         ensures ok { OnOk result (Appends (W.contents sink.old.writer.now) (W.contents sink.new.writer.now) self.old.text.kept) }
         ensures text { OnOk result (self.new.text.kept ≡ []) }
         ensures marks { OnOk result (self.new.marks.items ≡ []) }
+        ensures fault { OnErr result (is_write_fault result ≡ true) }
         ensures err { IfErr result (λ fault. (s : Session) (before : List ℕ) →
             AreMarks s.stands (length before) before self.old.marks.items self.old.text.kept →
             WritesOutcome {T = SessionEnd} (sink_state W.contents sink.old) (sink_state W.contents sink.new) before s (Err fault)) }
@@ -94,6 +95,7 @@ impl Listing {
         ensures outcome { (s : Session) (before : List ℕ) → IsOutcome s outcome (before ++ self.old.text.kept) →
             AreMarks s.stands (length before) before self.old.marks.items self.old.text.kept →
             WritesOutcome (sink_state W.contents sink.old) (sink_state W.contents sink.new) before s result }
+        ensures written { is_write_fault result ≡ false → Appends (W.contents sink.old.writer.now) (W.contents sink.new.writer.now) self.old.text.kept }
         ensures failed { sink.new.failed ≡ is_write_fault result }
         ensures same_writer { sink.new.writer.ghost_name ≡ sink.old.writer.ghost_name }
     {

@@ -5,6 +5,7 @@ ghost use Rattle.cb_queue.specs.RecordQueues.{empty_queue};
 ghost use Rattle.input_core.specs.declared.statement.ConfigStatement.{ConfigStatement};
 ghost use Rattle.config_core.specs.Configs.{Configuration};
 ghost use Rattle.session_core.specs.Configuring.{IsConfiguredBy, late_in};
+ghost use Rattle.session_core.specs.Leaving.{IsLeft, ListsWhole, WritesWhole};
 ghost use Rattle.session_core.specs.Outcomes.{WritesOutcome, is_write_fault};
 ghost use Rattle.session_core.specs.Running.{AreApplied, AreAppliedInPart, IsApplied, StatementRuns};
 ghost use Rattle.session_core.specs.Sessions.{session_behind};
@@ -42,6 +43,7 @@ fn run_event(
 ) -> Result<(), AllocError>
     ensures ok { OnOk result (IsApplied system.old event.now system.new listing.old.text.kept listing.new.text.kept) }
     ensures err { OnErr result (listing.new.text.kept ≡ listing.old.text.kept) }
+    ensures left { OnErr result (IsLeft system.old system.new) }
     ensures fixed { IsSameFixed system.old system.new }
     ensures marks { listing.new.marks.items ≡ listing.old.marks.items }
 {
@@ -61,6 +63,7 @@ fn run_events(
 ) -> Result<(), AllocError>
     ensures ok { OnOk result (AreApplied system.old (replicate times event.now) system.new listing.old.text.kept listing.new.text.kept) }
     ensures err { OnErr result (AreAppliedInPart system.old event.now times listing.old.text.kept listing.new.text.kept) }
+    ensures left { ListsWhole system.old system.new listing.old.text.kept listing.new.text.kept }
     ensures fixed { IsSameFixed system.old system.new }
     ensures marks { listing.new.marks.items ≡ listing.old.marks.items }
 {
@@ -81,6 +84,7 @@ fn run_statement(
     requires late { (s : ConfigStatement) (has_end : Bool) → statement.now.says ≡ says.Config s has_end → is_some late ≡ true }
     ensures runs { StatementRuns late system.old statement.now.line statement.now.says listing.old.marks.items listing.old.text.kept
         result system.new listing.new.marks.items listing.new.text.kept }
+    ensures left { ListsWhole system.old system.new listing.old.text.kept listing.new.text.kept }
     ensures fixed { IsSameFixed system.old system.new }
     ensures writes_none { is_write_fault result ≡ false }
 {
@@ -117,6 +121,7 @@ fn run_from<W: Write>(
         × IsStarted c false MOST_VIEWS LAYOUT_1 system.old }
     requires unfailed { sink.old.failed ≡ false }
     ensures outcome { WritesOutcome (sink_state W.contents sink.old) (sink_state W.contents sink.new) [] (session_behind [] statements.now) result }
+    ensures left { is_write_fault result ≡ false → WritesWhole (sink_state W.contents sink.old) (sink_state W.contents sink.new) system.old system.new }
     ensures failed { sink.new.failed ≡ is_write_fault result }
     ensures same_writer { sink.new.writer.ghost_name ≡ sink.old.writer.ghost_name }
 {

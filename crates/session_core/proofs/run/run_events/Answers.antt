@@ -1,7 +1,8 @@
-use Rattle.std.proofs.Common.{◌∙◌, arith, rules}
+use Rattle.std.proofs.Common.{◌∙◌, arith, replicate, rules}
 use Rattle.session_core.specs.Running.{AreAppliedInPart}
 use Rattle.session_core.proofs.Applied.{AreApplied-more}
 use Rattle.session_core.proofs.Fixed.{IsSameFixed-twice}
+use Rattle.session_core.proofs.Leaving.{all_left, part_left}
 use Rattle.session_core.proofs.run.run_events.Goals as goal
 
 pub loop-done-preserved : goal.loop-done-preserved
@@ -26,3 +27,11 @@ returns-in_err-run_event-clause-err c =
       applied = rw text done.applied;
     } in
     search rules
+
+pub returns-in_err-run_event-clause-left : goal.returns-in_err-run_event-clause-left
+returns-in_err-run_event-clause-left c =
+    part_left c.args.system.now c.loop-done.system c.run_event.new.system (replicate c.loop-done.done c.args.event.now) c.args.listing.now.text.kept
+    c.run_event.new.listing.text.kept (rw c.in_err-run_event.ensures.err c.loop-done.invariant.applied) c.in_err-run_event.ensures.left
+
+pub returns-clause-left : goal.returns-clause-left
+returns-clause-left c = all_left _ _ (replicate c.loop-done.done c.args.event.now) _ _ c.loop-done.invariant.applied
