@@ -1,123 +1,107 @@
 //! What jobs do to the catalog of one store.
 ghost use Rattle.std.specs.Prelude.{◌<◌, ◌≤◌};
 
-use crate::names::{ds_name, not_allowed, serial};
 use cat_core::fault::CatFault;
 use group_core::group::Rolled;
 use jname_core::ds_name::DsName;
 use jname_core::serial::Serial;
-use row_table::told::{push_line, push_numbered, push_numbered_line, push_two};
+use row_table::names::{ds_name, serial};
+use row_table::told::Told;
 use row_table::words::Words;
 use shared_core::store::SharedStore;
-use std::alloc::{AllocError, Global};
+use std::alloc::Global;
 use store_core::job_store::JobStore;
 
-/// A word, and a serial behind it.
-fn push_serial(told: &mut Vec<u8>, word: &[u8], serial: Serial) -> Result<(), AllocError> {
-    push_two(told, word, serial.as_slice())?;
-    told.extend_from_slice(b"\n")
+#[derive(Clone, Copy)]
+pub(crate) enum CatalogVerb {
+    Enter,
+    Uncatalog,
+    Cataloged,
+    Group,
+    Number,
+    Generations,
 }
 
-fn push_volume(told: &mut Vec<u8>, volume: Option<Serial>) -> Result<(), AllocError> {
+fn tell_volume(told: &mut Told, volume: Option<Serial>) {
     match volume {
-        None => push_line(told, b"NONE"),
-        Some(serial) => push_serial(told, b"ON ", serial),
+        None => told.line(b"NONE"),
+        Some(serial) => told.line_of_two(b"ON ", serial.as_slice()),
     }
 }
 
-fn push_rolled(told: &mut Vec<u8>, rolled: Rolled) -> Result<(), AllocError> {
+fn tell_rolled(told: &mut Told, rolled: Rolled) {
     match rolled {
-        Rolled::Entered => push_line(told, b"ENTERED"),
+        Rolled::Entered => told.line(b"ENTERED"),
         Rolled::Removed { number, serial } => {
-            push_numbered(told, b"REMOVED ", u64::from(number))?;
-            push_serial(told, b" ON ", serial)
+            told.numbered(b"REMOVED ", u64::from(number));
+            told.line_of_two(b" ON ", serial.as_slice());
         }
-        _ => push_line(told, b"ANOTHER ANSWER"),
+        _ => told.line(b"ANOTHER ANSWER"),
+    }
+}
+
+/// Whether the group of a base is there, and a number is not in it.
+fn is_new(store: &SharedStore, base: &DsName, number: u16) -> bool {
+    match store.group(1, base) {
+        None => false,
+        Some(group) => group.find(number).is_none(),
     }
 }
 
 /// Enters a number that is not in the group of a base.
-fn enter_number(
-    store: &mut SharedStore,
-    base: &DsName,
-    number: u16,
-    serial: Serial,
-    told: &mut Vec<u8>,
-) -> Result<(), AllocError> {
-    if number == 0 || number > 9999 {
-        return not_allowed(told);
-    }
-    match store.group(1, base) {
-        None => return not_allowed(told),
-        Some(group) => {
-            if group.find(number).is_some() {
-                return not_allowed(told);
-            }
-        }
-    }
-    push_rolled(told, store.enter_number(1, base, number, serial))
-}
-
-/// Enters a name for a volume, or a number of a group.
-fn enter(
-    store: &mut SharedStore,
-    verb: &[u8],
-    name: &DsName,
-    words: &mut Words<'_>,
-    told: &mut Vec<u8>,
-) -> Result<(), AllocError> {
+fn enter_number(store: &mut SharedStore, base: &DsName, words: &mut Words<'_>, told: &mut Told) {
     let number = words.short();
     let Some(serial) = serial(words) else {
-        return Ok(());
+        return;
     };
-    match verb {
-        b"NUMBER" => enter_number(store, name, number, serial, told),
-        _ => store.enter(number, name, serial),
+    if number == 0 || number > 9999 || !is_new(store, base, number) {
+        return told.not_allowed();
+    }
+    tell_rolled(told, store.enter_number(1, base, number, serial));
+}
+
+/// Enters a name for a volume.
+fn enter(store: &mut SharedStore, name: &DsName, words: &mut Words<'_>, told: &mut Told) {
+    let job = words.short();
+    if let Some(serial) = serial(words) {
+        told.over(store.enter(job, name, serial));
     }
 }
 
 /// Makes a group with room for so many generations.
-fn make_group(
-    alloc: Global,
-    store: &mut SharedStore,
-    base: DsName,
-    limit: u8,
-    told: &mut Vec<u8>,
-) -> Result<(), AllocError> {
+fn make_group(alloc: Global, store: &mut SharedStore, base: DsName, limit: u8, told: &mut Told) {
     match store.catalog.make_group(alloc, base, limit, true) {
-        Ok(()) => Ok(()),
-        Err(CatFault::Memory) => Err(AllocError),
-        Err(_) => not_allowed(told),
+        Ok(()) => {}
+        Err(CatFault::Memory) => told.want(),
+        Err(_) => told.not_allowed(),
     }
 }
 
-/// Does a command about the catalog. Whether there is such a command.
+fn tell_generations(told: &mut Told, store: &SharedStore, base: &DsName) {
+    let count = match store.group(1, base) {
+        None => 0,
+        Some(group) => group.generations().len(),
+    };
+    told.numbered_line(b"GENERATIONS ", count as u64);
+}
+
+/// Does a command about the catalog.
 pub(crate) fn on_catalog(
     alloc: Global,
     store: &mut SharedStore,
-    verb: &[u8],
+    verb: CatalogVerb,
     words: &mut Words<'_>,
-    told: &mut Vec<u8>,
-) -> Result<bool, AllocError> {
-    match verb {
-        b"ENTER" | b"NUMBER" | b"UNCATALOG" | b"CATALOGED" | b"GROUP" | b"GENERATIONS" => {}
-        _ => return Ok(false),
-    }
+    told: &mut Told,
+) {
     let Some(name) = ds_name(words) else {
-        return Ok(true);
+        return;
     };
     match verb {
-        b"GROUP" => make_group(alloc, store, name, words.byte(), told)?,
-        b"UNCATALOG" => store.uncatalog(words.short(), &name),
-        b"CATALOGED" => push_volume(told, store.volume(words.short(), &name))?,
-        b"GENERATIONS" => {
-            let count = match store.group(1, &name) {
-                None => 0,
-                Some(group) => group.generations().len(),
-            };
-            push_numbered_line(told, b"GENERATIONS ", count as u64)?;
-        }
-        _ => enter(store, verb, &name, words, told)?,
+        CatalogVerb::Enter => enter(store, &name, words, told),
+        CatalogVerb::Uncatalog => store.uncatalog(words.short(), &name),
+        CatalogVerb::Cataloged => tell_volume(told, store.volume(words.short(), &name)),
+        CatalogVerb::Group => make_group(alloc, store, name, words.byte(), told),
+        CatalogVerb::Number => enter_number(store, &name, words, told),
+        CatalogVerb::Generations => tell_generations(told, store, &name),
     }
-    Ok(true)
 }

@@ -1,172 +1,149 @@
 //! What the commands of a row are about, and which of them there are. Where a command wants memory its row goes on: what the row watches has
 //! to be as before, else it is told that it changed, and the command is done again.
-use crate::catalog::on_catalog;
-use crate::holds::{on_holds, release_all};
-use crate::operations::push_operations;
-use crate::places::push_places;
-use crate::programs::on_programs;
-use crate::sets::on_sets;
-use crate::spool::{Given, nothing, on_spool};
+use crate::catalog::{CatalogVerb, on_catalog};
+use crate::holds::{HoldVerb, on_holds, release_all};
+use crate::operations::tell_operations;
+use crate::places::tell_places;
+use crate::programs::{add_program, tell_runs};
+use crate::sets::{SetVerb, mount, on_set};
+use crate::spool::{SpoolVerb, Written, nothing_written, on_spool};
 use cat_core::catalog::Catalog;
 use enq_core::table::{EnqTable, Held};
 use plain::lent::Lent;
 use plain::listed::Listed;
 use prog_core::library::ProgramLibrary;
-use row_table::told::{push_line, push_two};
+use row_table::desk::{Desk, answer_lines};
+use row_table::told::Told;
 use row_table::words::{Lines, Words};
 use shared_core::store::SharedStore;
-use spool_core::spool::Spool;
-use std::alloc::{AllocError, Global};
+use std::alloc::Global;
 
-/// Room for what one command tells, so that telling takes no memory once a call is done.
-const ROOM: usize = 4096;
-
-/// Held names, programs, a store, and what writers have to write.
-#[derive(Drop)]
-struct Desk {
-    table: EnqTable,
-    library: ProgramLibrary,
-    store: SharedStore,
-    spool: Spool,
-    given: Given,
+/// What a line says.
+#[derive(Clone, Copy)]
+enum Verb {
+    Holds(HoldVerb),
+    Program,
+    Runs,
+    Operations,
+    Volume,
+    Set(SetVerb),
+    Catalog(CatalogVerb),
+    Places,
+    Spool(SpoolVerb),
+    Watch,
 }
 
-fn new_desk(alloc: Global) -> Desk {
-    Desk {
+const VERBS: [(&str, Verb); 27] = [
+    ("HOLD", Verb::Holds(HoldVerb::Hold)),
+    ("RELEASE", Verb::Holds(HoldVerb::Release)),
+    ("HOLDS", Verb::Holds(HoldVerb::Holds)),
+    ("PROGRAM", Verb::Program),
+    ("RUNS", Verb::Runs),
+    ("OPERATIONS", Verb::Operations),
+    ("VOLUME", Verb::Volume),
+    ("MAKE", Verb::Set(SetVerb::Make)),
+    ("GROW", Verb::Set(SetVerb::Grow)),
+    ("APPEND", Verb::Set(SetVerb::Append)),
+    ("RECORD", Verb::Set(SetVerb::Record)),
+    ("EMPTY", Verb::Set(SetVerb::Empty)),
+    ("TRIM", Verb::Set(SetVerb::Trim)),
+    ("SCRATCH", Verb::Set(SetVerb::Scratch)),
+    ("SET", Verb::Set(SetVerb::Set)),
+    ("ENTER", Verb::Catalog(CatalogVerb::Enter)),
+    ("UNCATALOG", Verb::Catalog(CatalogVerb::Uncatalog)),
+    ("CATALOGED", Verb::Catalog(CatalogVerb::Cataloged)),
+    ("GROUP", Verb::Catalog(CatalogVerb::Group)),
+    ("NUMBER", Verb::Catalog(CatalogVerb::Number)),
+    ("GENERATIONS", Verb::Catalog(CatalogVerb::Generations)),
+    ("PLACES", Verb::Places),
+    ("LINE", Verb::Spool(SpoolVerb::Line)),
+    ("OUTPUT", Verb::Spool(SpoolVerb::Output)),
+    ("OVER", Verb::Spool(SpoolVerb::Over)),
+    ("WRITE", Verb::Spool(SpoolVerb::Write)),
+    ("WATCH", Verb::Watch),
+];
+
+/// Held names, programs, a store, what writers have to write, and the commands that are watched.
+#[derive(Drop)]
+struct Machine<'a> {
+    table: EnqTable,
+    held: &'a mut Vec<Held>,
+    library: ProgramLibrary,
+    store: SharedStore,
+    written: Written,
+    watches: &'a [Lent<'a>],
+}
+
+impl Desk for Machine<'_> {
+    fn show(&mut self, alloc: Global, told: &mut Told) {
+        let watches = self.watches;
+        for watch in watches {
+            let mut words = Words::new(watch.as_slice());
+            self.act(alloc, &mut words, &mut Lines::new(b""), told);
+        }
+    }
+
+    fn act(
+        &mut self,
+        alloc: Global,
+        words: &mut Words<'_>,
+        lines: &mut Lines<'_>,
+        told: &mut Told,
+    ) {
+        match words.one_of(&VERBS) {
+            Some(Verb::Holds(verb)) => {
+                on_holds(alloc, &mut self.table, self.held, verb, words, told);
+            }
+            Some(Verb::Program) => add_program(alloc, &mut self.library, words, told),
+            Some(Verb::Runs) => tell_runs(told, &self.library, words),
+            Some(Verb::Operations) => tell_operations(alloc, lines, told),
+            Some(Verb::Volume) => mount(alloc, &mut self.store, words, told),
+            Some(Verb::Set(verb)) => on_set(&mut self.store, verb, words, told),
+            Some(Verb::Catalog(verb)) => on_catalog(alloc, &mut self.store, verb, words, told),
+            Some(Verb::Places) => tell_places(alloc, lines, told),
+            Some(Verb::Spool(verb)) => on_spool(alloc, &mut self.written, verb, words, told),
+            Some(Verb::Watch) => {
+                words.left();
+            }
+            None => {}
+        }
+    }
+}
+
+/// The commands that a row watches.
+fn watches_in<'a>(alloc: Global, mut lines: Lines<'a>, told: &mut Told) -> Vec<Lent<'a>> {
+    let mut watches = Vec::new(alloc);
+    for _ in 0..lines.len() {
+        let Some(line) = lines.next_line() else {
+            break;
+        };
+        if let Some(watch) = line.strip_prefix(b"WATCH ")
+            && watches.push(Lent::new(watch)).is_err()
+        {
+            told.want();
+        }
+    }
+    watches
+}
+
+/// What the commands of a row tell, in turn. All names are given free behind them.
+pub(crate) fn answer(alloc: Global, input: &[u8], told: &mut Told) {
+    let mut lines = Lines::new(input);
+    let watches = watches_in(alloc, lines, told);
+    let mut held = Vec::new(alloc);
+    let mut machine = Machine {
         table: EnqTable::new(alloc),
+        held: &mut held,
         library: ProgramLibrary::new(alloc),
         store: SharedStore {
             alloc,
             catalog: Catalog::new(alloc),
             volumes: Listed::empty(alloc),
         },
-        spool: Spool::new(alloc),
-        given: nothing(alloc),
-    }
-}
-
-/// Does a command that has further lines. Whether there is such a command.
-fn on_lines(
-    alloc: Global,
-    verb: &[u8],
-    lines: &mut Lines<'_>,
-    told: &mut Vec<u8>,
-) -> Result<bool, AllocError> {
-    match verb {
-        b"OPERATIONS" => push_operations(alloc, lines, told)?,
-        b"PLACES" => push_places(alloc, lines, told)?,
-        _ => return Ok(false),
-    }
-    Ok(true)
-}
-
-/// Does a command. Whether it is understood.
-fn act(
-    alloc: Global,
-    desk: &mut Desk,
-    held: &mut Vec<Held>,
-    line: &[u8],
-    lines: &mut Lines<'_>,
-    told: &mut Vec<u8>,
-) -> Result<bool, AllocError> {
-    let mut words = Words::new(line);
-    let verb = words.next_word();
-    let is_there = on_holds(alloc, &mut desk.table, held, verb, &mut words, told)?
-        || on_programs(alloc, &mut desk.library, verb, &mut words, told)?
-        || on_sets(alloc, &mut desk.store, verb, &mut words, told)?
-        || on_catalog(alloc, &mut desk.store, verb, &mut words, told)?
-        || on_spool(
-            alloc,
-            &mut desk.spool,
-            &mut desk.given,
-            verb,
-            &mut words,
-            told,
-        )?
-        || on_lines(alloc, verb, lines, told)?;
-    Ok(is_there && !words.is_wrong())
-}
-
-/// What the commands that are watched tell.
-fn watched(
-    alloc: Global,
-    desk: &mut Desk,
-    held: &mut Vec<Held>,
-    watches: &[Lent<'_>],
-) -> Result<Vec<u8>, AllocError> {
-    let mut told = Vec::new(alloc);
-    for line in watches {
-        let mut lines = Lines::new(b"");
-        act(alloc, desk, held, line.as_slice(), &mut lines, &mut told)?;
-    }
-    Ok(told)
-}
-
-/// Does a command, a second time where memory was wanting. Whether it is understood.
-fn act_surely(
-    alloc: Global,
-    desk: &mut Desk,
-    held: &mut Vec<Held>,
-    watches: &[Lent<'_>],
-    line: &[u8],
-    lines: &mut Lines<'_>,
-    told: &mut Vec<u8>,
-) -> Result<bool, AllocError> {
-    told.reserve(ROOM)?;
-    held.reserve(1)?;
-    let before = match watched(alloc, desk, held, watches) {
-        Ok(before) => before,
-        Err(_) => watched(alloc, desk, held, watches)?,
+        written: nothing_written(alloc),
+        watches: watches.as_slice(),
     };
-    let (further, length) = (*lines, told.len());
-    if let Ok(understood) = act(alloc, desk, held, line, lines, told) {
-        return Ok(understood);
-    }
-    told.truncate(length);
-    *lines = further;
-    if watched(alloc, desk, held, watches)?.as_slice() != before.as_slice() {
-        push_line(told, b"CHANGED")?;
-    }
-    act(alloc, desk, held, line, lines, told)
-}
-
-/// What the commands of a row tell, in turn.
-fn answer_all(
-    alloc: Global,
-    desk: &mut Desk,
-    held: &mut Vec<Held>,
-    input: &[u8],
-    told: &mut Vec<u8>,
-) -> Result<(), AllocError> {
-    let mut watches = Vec::new(alloc);
-    let mut lines = Lines::new(input);
-    for _ in 0..input.len() {
-        let Some(line) = lines.next_line() else {
-            return Ok(());
-        };
-        if let Some(watch) = line.strip_prefix(b"WATCH ") {
-            watches.push(Lent::new(watch))?;
-        } else if !act_surely(
-            alloc,
-            desk,
-            held,
-            watches.as_slice(),
-            line,
-            &mut lines,
-            told,
-        )? {
-            push_two(told, b"?", line)?;
-            told.extend_from_slice(b"\n")?;
-        }
-    }
-    Ok(())
-}
-
-/// What the commands of a row tell, in turn. All names are given free behind them.
-pub(crate) fn answer(alloc: Global, input: &[u8], told: &mut Vec<u8>) -> Result<(), AllocError> {
-    let mut desk = new_desk(alloc);
-    let mut held = Vec::new(alloc);
-    let answered = answer_all(alloc, &mut desk, &mut held, input, told);
-    release_all(&mut desk.table, held);
-    answered
+    answer_lines(alloc, &mut machine, &mut lines, told);
+    release_all(&mut machine.table, machine.held);
+    held.destroy_empty();
 }

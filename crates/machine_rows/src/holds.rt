@@ -1,14 +1,20 @@
 //! Names that jobs hold.
-ghost use Rattle.std.specs.Prelude.{◌≡◌, true, vec_len};
+ghost use Rattle.std.specs.Prelude.{◌≡◌, [], true, vec_len};
 ghost use Rattle.enq_core.specs.Holds.{HoldsNone};
 
-use crate::names::not_allowed;
 use enq_core::order::are_wants;
 use enq_core::table::{Blocked, EnqTable, Held, HoldFault, Want};
 use jname_core::ds_name::read_ds_name;
-use row_table::told::{push_numbered, push_two};
+use row_table::told::Told;
 use row_table::words::Words;
-use std::alloc::{AllocError, AllocFailed, Global};
+use std::alloc::{AllocFailed, Global};
+
+#[derive(Clone, Copy)]
+pub(crate) enum HoldVerb {
+    Hold,
+    Release,
+    Holds,
+}
 
 fn holds_none(table: &EnqTable, job: u16) -> bool
     ensures { result ≡ true → HoldsNone table.now job }
@@ -16,42 +22,46 @@ fn holds_none(table: &EnqTable, job: u16) -> bool
     table.holds().iter().all(|hold| hold.job() != job)
 }
 
+/// Takes the next word as a name that a job wants, or as SHR or OLD: whether what stands behind it is for the job alone.
+fn add_want(wants: &mut Vec<Want>, exclusive: bool, words: &mut Words<'_>, told: &mut Told) -> bool {
+    let mut ahead = *words;
+    if let Some(exclusive) = ahead.one_of(&[("SHR", false), ("OLD", true)]) {
+        *words = ahead;
+        return exclusive;
+    }
+    let name = read_ds_name(words.next_word()).ok();
+    if let Some(name) = words.some(name)
+        && wants.push(Want { name, exclusive }).is_err()
+    {
+        told.want();
+    }
+    exclusive
+}
+
 /// The names behind the words SHR and OLD, shared and for the job alone.
-fn wants_in(alloc: Global, words: &mut Words<'_>) -> Result<Vec<Want>, AllocError> {
+fn wants_in(alloc: Global, words: &mut Words<'_>, told: &mut Told) -> Vec<Want> {
     let mut wants = Vec::new(alloc);
     let mut exclusive = false;
     for _ in 0..64u8 {
         if words.is_empty() {
-            return Ok(wants);
+            break;
         }
-        match words.next_word() {
-            b"SHR" => exclusive = false,
-            b"OLD" => exclusive = true,
-            word => match read_ds_name(word) {
-                Ok(name) => wants.push(Want { name, exclusive })?,
-                Err(_) => words.refuse(),
-            },
-        }
+        exclusive = add_want(&mut wants, exclusive, words, told);
     }
-    words.refuse();
-    Ok(wants)
+    wants
 }
 
 /// Keeps what a job holds until it is released, or gives it free at once where memory is wanting.
-fn keep(table: &mut EnqTable, held: &mut Vec<Held>, own: Held) -> Result<(), AllocError> {
-    match held.push(own) {
-        Ok(()) => Ok(()),
-        Err(AllocFailed { value }) => {
-            table.release(value);
-            Err(AllocError)
-        }
+fn keep(table: &mut EnqTable, held: &mut Vec<Held>, own: Held, told: &mut Told) {
+    if let Err(AllocFailed { value }) = held.push(own) {
+        table.release(value);
+        told.want();
     }
 }
 
-fn push_blocked(told: &mut Vec<u8>, blocked: &Blocked) -> Result<(), AllocError> {
-    push_numbered(told, b"BLOCKED ", u64::from(blocked.job))?;
-    push_two(told, b" ", blocked.name.as_slice())?;
-    told.extend_from_slice(b"\n")
+fn tell_blocked(told: &mut Told, blocked: &Blocked) {
+    told.numbered(b"BLOCKED ", u64::from(blocked.job));
+    told.line_of_two(b" ", blocked.name.as_slice());
 }
 
 /// A job holds these names, or none of them, and what stands in its way is told.
@@ -60,71 +70,61 @@ fn hold(
     held: &mut Vec<Held>,
     job: u16,
     wants: &[Want],
-    told: &mut Vec<u8>,
-) -> Result<(), AllocError> {
+    told: &mut Told,
+) {
     if !are_wants(wants) || !holds_none(table, job) {
-        return not_allowed(told);
+        return told.not_allowed();
     }
     match table.hold_all(job, wants) {
-        Ok(own) => keep(table, held, own),
-        Err(HoldFault::Blocked(blocked)) => push_blocked(told, &blocked),
-        Err(HoldFault::Memory) => Err(AllocError),
+        Ok(own) => keep(table, held, own, told),
+        Err(HoldFault::Blocked(blocked)) => tell_blocked(told, &blocked),
+        Err(HoldFault::Memory) => told.want(),
     }
 }
 
 /// Gives the names of a job free, if it holds some.
-fn release(table: &mut EnqTable, held: &mut Vec<Held>, job: u16) -> bool {
+fn release(table: &mut EnqTable, held: &mut Vec<Held>, job: u16, told: &mut Told) {
     match held.as_slice().iter().position(|own| own.job() == job) {
-        None => false,
-        Some(at) => {
-            table.release(held.swap_remove(at));
-            true
-        }
+        None => told.not_allowed(),
+        Some(at) => table.release(held.swap_remove(at)),
     }
 }
 
 /// Gives all names free.
-pub(crate) fn release_all(table: &mut EnqTable, mut held: Vec<Held>) {
+pub(crate) fn release_all(table: &mut EnqTable, held: &mut Vec<Held>)
+    ensures { held.new.items ≡ [] }
+{
     while let Some(own) = held.pop() {
         table.release(own);
     }
-    held.destroy_empty();
 }
 
 /// The held names in the order in which they were held, each behind the job and SHR or OLD.
-fn push_holds(told: &mut Vec<u8>, table: &EnqTable) -> Result<(), AllocError> {
+fn tell_holds(told: &mut Told, table: &EnqTable) {
     for marked in table.holds() {
         let hold = marked.hold();
-        push_numbered(told, b"", u64::from(hold.job))?;
+        told.numbered(b"", u64::from(hold.job));
         let word: &[u8] = if hold.exclusive { b" OLD " } else { b" SHR " };
-        push_two(told, word, hold.name.as_slice())?;
-        told.extend_from_slice(b"\n")?;
+        told.line_of_two(word, hold.name.as_slice());
     }
-    Ok(())
 }
 
-/// Does a command about held names. Whether there is such a command.
+/// Does a command about held names.
 pub(crate) fn on_holds(
     alloc: Global,
     table: &mut EnqTable,
     held: &mut Vec<Held>,
-    verb: &[u8],
+    verb: HoldVerb,
     words: &mut Words<'_>,
-    told: &mut Vec<u8>,
-) -> Result<bool, AllocError> {
+    told: &mut Told,
+) {
     match verb {
-        b"HOLD" => {
+        HoldVerb::Hold => {
             let job = words.short();
-            let wants = wants_in(alloc, words)?;
-            hold(table, held, job, wants.as_slice(), told)?;
+            let wants = wants_in(alloc, words, told);
+            hold(table, held, job, wants.as_slice(), told);
         }
-        b"RELEASE" => {
-            if !release(table, held, words.short()) {
-                not_allowed(told)?;
-            }
-        }
-        b"HOLDS" => push_holds(told, table)?,
-        _ => return Ok(false),
+        HoldVerb::Release => release(table, held, words.short(), told),
+        HoldVerb::Holds => tell_holds(told, table),
     }
-    Ok(true)
 }

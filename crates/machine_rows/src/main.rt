@@ -5,7 +5,6 @@
 mod catalog;
 mod desk;
 mod holds;
-mod names;
 mod operations;
 mod places;
 mod programs;
@@ -14,7 +13,8 @@ mod spool;
 
 use crate::desk::answer;
 use row_table::check::{Subject, check_tables};
-use std::alloc::{AllocError, Global};
+use row_table::told::Told;
+use std::alloc::Global;
 use std::io;
 use std::process::ExitCode;
 
@@ -22,8 +22,8 @@ use std::process::ExitCode;
 struct Machine;
 
 impl Subject for Machine {
-    fn answer(&self, alloc: Global, input: &[u8], told: &mut Vec<u8>) -> Result<(), AllocError> {
-        answer(alloc, input, told)
+    fn answer(&self, alloc: Global, input: &[u8], told: &mut Told) {
+        answer(alloc, input, told);
     }
 }
 

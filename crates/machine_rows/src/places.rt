@@ -4,7 +4,6 @@ ghost use Rattle.std.specs.FinMap as map;
 ghost use Rattle.std.specs.List.{All};
 ghost use Rattle.place_core.specs.Placings.{NothingKeptFor};
 
-use crate::names::serial;
 use cat_core::catalog::Catalog;
 use jcl_meaning::state::Place;
 use jcl_plan::plan::{
@@ -18,65 +17,62 @@ use jname_core::serial::Serial;
 use mount_core::mounted::Mounted;
 use place_core::place::place_sets;
 use plain::listed::Listed;
-use row_table::told::{push_numbered, push_two};
+use row_table::names::{name8, serial};
+use row_table::told::Told;
 use row_table::words::{Lines, Words};
 use shared_core::laws::new_volumes_keep_nothing;
 use shared_core::store::SharedStore;
 use std::alloc::{AllocError, Global};
 use vtoc_core::entry::Extent;
 
-/// Takes the next word as a status.
-fn status(words: &mut Words<'_>) -> Status {
-    match words.next_word() {
-        b"NEW" => Status::New,
-        b"OLD" => Status::Old,
-        b"SHR" => Status::Shr,
-        b"MOD" => Status::Mod,
-        _ => {
-            words.refuse();
-            Status::New
-        }
-    }
-}
+const STATUSES: [(&str, Status); 4] = [
+    ("NEW", Status::New),
+    ("OLD", Status::Old),
+    ("SHR", Status::Shr),
+    ("MOD", Status::Mod),
+];
 
 /// Takes the next word as what VOL says: nothing, the DD 1.1, the serial of six characters, or a name.
-fn volume(words: &mut Words<'_>) -> VolumePlan {
-    match words.next_word() {
-        b"-" => VolumePlan::NotCoded,
-        b"*" => VolumePlan::OfDd { step: 1, dd: 1 },
-        word => match (Serial::read(word), read_ds_name(word)) {
-            (Some(serial), _) => VolumePlan::Serial(serial),
-            (None, Ok(name)) => VolumePlan::OfName(name),
-            (None, Err(_)) => {
-                words.refuse();
-                VolumePlan::NotCoded
-            }
-        },
+fn volume(words: &mut Words<'_>) -> Option<VolumePlan> {
+    let mut ahead = *words;
+    if let Some(plan) = ahead.one_of(&PLANS) {
+        *words = ahead;
+        return Some(plan);
     }
+    let word = words.next_word();
+    if let Some(serial) = Serial::read(word) {
+        return Some(VolumePlan::Serial(serial));
+    }
+    let name = words.some(read_ds_name(word).ok())?;
+    Some(VolumePlan::OfName(name))
 }
 
-/// Takes the next word as a number, or none of `-`.
-fn number(words: &mut Words<'_>) -> Option<u16> {
-    let mut ahead = *words;
-    if ahead.next_word() == b"-".as_slice() {
-        *words = ahead;
-        return None;
-    }
-    Some(words.short())
+const PLANS: [(&str, VolumePlan); 2] = [
+    ("-", VolumePlan::NotCoded),
+    ("*", VolumePlan::OfDd { step: 1, dd: 1 }),
+];
+
+/// Takes the next word as a number of two bytes, or none of `-`.
+fn some_short(words: &mut Words<'_>) -> Option<u16> {
+    let number = words.some_number()?;
+    words.some(u16::try_from(number).ok())
+}
+
+fn space_of(primary: Option<u16>) -> Option<Space> {
+    Some(Space {
+        primary: primary?,
+        secondary: 0,
+        release: false,
+    })
 }
 
 /// A DD for a set: its status, its volume, its list of volumes and its primary.
-fn set_in(words: &mut Words<'_>) -> DdKind {
-    let (status, volume, units) = (status(words), volume(words), number(words));
-    let space = match number(words) {
-        None => None,
-        Some(primary) => Some(Space {
-            primary,
-            secondary: 0,
-            release: false,
-        }),
-    };
-    DdKind::Set(SetPlan {
+fn set_in(words: &mut Words<'_>) -> Option<DdKind> {
+    let status = words.one_of(&STATUSES)?;
+    let volume = volume(words)?;
+    let units = some_short(words);
+    let space = space_of(some_short(words));
+    Some(DdKind::Set(SetPlan {
         key: Key::Unnamed { step: 1, dd: 1 },
         status,
         normal: None,
@@ -85,68 +81,79 @@ fn set_in(words: &mut Words<'_>) -> DdKind {
         units,
         space,
         expiry: Expiry::NotCoded,
+    }))
+}
+
+/// What a DD is that needs no further word.
+#[derive(Clone, Copy)]
+enum Plain {
+    Sysout,
+    Dummy,
+    Cards,
+}
+
+const PLAIN: [(&str, Plain); 3] = [
+    ("SYSOUT", Plain::Sysout),
+    ("DUMMY", Plain::Dummy),
+    ("CARDS", Plain::Cards),
+];
+
+/// The DD of a line.
+fn kind_in(alloc: Global, words: &mut Words<'_>) -> Option<DdKind> {
+    let mut ahead = *words;
+    let Some(plain) = ahead.one_of(&PLAIN) else {
+        return set_in(words);
+    };
+    *words = ahead;
+    Some(match plain {
+        Plain::Sysout => DdKind::Sysout(b'A'),
+        Plain::Dummy => DdKind::Dummy,
+        Plain::Cards => DdKind::Cards(Listed::empty(alloc)),
     })
 }
 
-/// The DD of a line.
-fn dd_in(alloc: Global, line: &[u8], told: &mut Vec<u8>) -> Result<DdPlan, AllocError> {
-    let mut words = Words::new(line);
-    let kind = match line {
-        b"SYSOUT" => DdKind::Sysout(b'A'),
-        b"DUMMY" => DdKind::Dummy,
-        b"CARDS" => DdKind::Cards(Listed::empty(alloc)),
-        _ => set_in(&mut words),
-    };
-    if words.is_wrong() {
-        push_two(told, b"?", line)?;
-        told.extend_from_slice(b"\n")?;
-    }
-    Ok(DdPlan { name: None, kind })
-}
-
 /// The DDs of the lines up to the one that says `STEP` or `/END`.
-fn dds_in(
-    alloc: Global,
-    lines: &mut Lines<'_>,
-    told: &mut Vec<u8>,
-) -> Result<Listed<DdPlan>, AllocError> {
+fn dds_in(alloc: Global, lines: &mut Lines<'_>, told: &mut Told) -> Listed<DdPlan> {
     let mut dds = Listed::empty(alloc);
     for _ in 0..lines.len() {
-        match lines.next_line() {
-            None | Some(b"STEP") | Some(b"/END") => return Ok(dds),
-            Some(line) => dds.push(dd_in(alloc, line, told)?)?,
+        let Some(line) = lines.next_line() else {
+            break;
+        };
+        let mut words = Words::new(line);
+        if words.one_of(&[("STEP", ()), ("/END", ())]).is_some() {
+            break;
         }
+        words = Words::new(line);
+        if let Some(kind) = kind_in(alloc, &mut words) {
+            told.over(dds.push(DdPlan { name: None, kind }));
+        }
+        words.end(line, told);
     }
-    Ok(dds)
+    dds
 }
 
 /// A job of two steps with these DDs, named as its program.
-fn job_of(
-    alloc: Global,
-    program: Name8,
-    lines: &mut Lines<'_>,
-    told: &mut Vec<u8>,
-) -> Result<JobPlan, AllocError> {
+fn job_of(alloc: Global, program: Name8, lines: &mut Lines<'_>, told: &mut Told) -> JobPlan {
     let mut steps = Listed::empty(alloc);
     for _ in 0..2u8 {
-        let dds = dds_in(alloc, lines, told)?;
-        steps.push(StepPlan {
+        let dds = dds_in(alloc, lines, told);
+        told.over(steps.push(StepPlan {
             name: None,
             procedure_step: None,
             program,
             after_abend: AfterAbend::Unsaid,
             tests: no_tests(),
             dds,
-        })?;
+        }));
     }
-    Ok(JobPlan {
+    JobPlan {
         name: program,
         class: b'A',
         priority: 6,
         message_class: b'A',
         tests: no_tests(),
         steps,
-    })
+    }
 }
 
 /// The serials of the volumes, of which the last is not there.
@@ -221,41 +228,32 @@ fn found_again(
 }
 
 /// A line for each place: the step, the DD and the serial.
-fn push_found(told: &mut Vec<u8>, places: &[Place]) -> Result<(), AllocError> {
+fn tell_found(told: &mut Told, places: &[Place]) {
     for place in places {
-        push_numbered(told, b"", place.step as u64)?;
-        push_numbered(told, b".", place.dd as u64)?;
-        push_two(told, b" ", place.serial.as_slice())?;
-        told.extend_from_slice(b"\n")?;
+        told.numbered(b"", place.step as u64);
+        told.numbered(b".", place.dd as u64);
+        told.line_of_two(b" ", place.serial.as_slice());
     }
-    Ok(())
+}
+
+fn serials_in(words: &mut Words<'_>) -> Option<Serials> {
+    Some(Serials {
+        first: serial(words)?,
+        second: serial(words)?,
+        third: serial(words)?,
+        missing: serial(words)?,
+    })
 }
 
 /// The places of the sets of the DDs that the next lines say, up to `/END`.
-pub(crate) fn push_places(
-    alloc: Global,
-    lines: &mut Lines<'_>,
-    told: &mut Vec<u8>,
-) -> Result<(), AllocError> {
-    let mut words = Words::new(b"111111 222222 333333 999999");
-    let (Some(first), Some(second), Some(third), Some(missing)) = (
-        serial(&mut words),
-        serial(&mut words),
-        serial(&mut words),
-        serial(&mut words),
-    ) else {
-        return Ok(());
+pub(crate) fn tell_places(alloc: Global, lines: &mut Lines<'_>, told: &mut Told) {
+    let serials = serials_in(&mut Words::new(b"111111 222222 333333 999999"));
+    let program = name8(&mut Words::new(b"IEFBR14"));
+    let (Some(serials), Some(program)) = (serials, program) else {
+        return;
     };
-    let Ok(program) = Name8::read(b"IEFBR14") else {
-        return Ok(());
-    };
-    let job = job_of(alloc, program, lines, told)?;
-    let serials = Serials {
-        first,
-        second,
-        third,
-        missing,
-    };
-    let places = found_again(alloc, &job, &serials)?;
-    push_found(told, places.as_slice())
+    let job = job_of(alloc, program, lines, told);
+    if let Some(places) = told.got(found_again(alloc, &job, &serials)) {
+        tell_found(told, places.as_slice());
+    }
 }

@@ -1,81 +1,128 @@
 //! What jobs do to the sets of one store, each to what it sees.
 ghost use Rattle.std.specs.Prelude.{◌≤◌};
 
-use crate::names::{key, not_allowed, serial};
 use jcl_meaning::state::Place;
-use jname_core::key::Key;
+use jname_core::key::{Key, Sign};
 use jname_core::serial::Serial;
 use mount_core::mounted::Mounted;
-use row_table::told::{push_line, push_numbered, push_numbered_line};
+use row_table::names::{ds_name, name8, serial};
+use row_table::told::Told;
 use row_table::words::Words;
 use shared_core::store::SharedStore;
-use std::alloc::{AllocError, Global};
+use std::alloc::Global;
 use store_core::job_store::{JobStore, RoomFault, SetFacts};
 use vtoc_core::entry::Extent;
 
+/// What is done to a set.
+#[derive(Clone, Copy)]
+pub(crate) enum SetVerb {
+    Make,
+    Grow,
+    Append,
+    Record,
+    Empty,
+    Trim,
+    Scratch,
+    Set,
+}
+
+#[derive(Clone, Copy)]
+enum Kind {
+    Named,
+    Temporary,
+    Unnamed,
+    Newer,
+}
+
+const KINDS: [(&str, Kind); 4] = [
+    ("NAMED", Kind::Named),
+    ("TEMP", Kind::Temporary),
+    ("DD", Kind::Unnamed),
+    ("NEWER", Kind::Newer),
+];
+
+/// Takes the next words as the key of a set.
+fn key(words: &mut Words<'_>) -> Option<Key> {
+    match words.one_of(&KINDS)? {
+        Kind::Named => Some(Key::Named(ds_name(words)?)),
+        Kind::Temporary => Some(Key::Temporary(name8(words)?)),
+        Kind::Unnamed => {
+            let step = words.short();
+            let dd = words.short();
+            Some(Key::Unnamed { step, dd })
+        }
+        Kind::Newer => {
+            let base = ds_name(words)?;
+            let (sign, amount) = (Sign::Plus, words.byte());
+            Some(Key::Relative { base, sign, amount })
+        }
+    }
+}
+
 /// Takes all further words as tracks that are never free.
-fn holes(alloc: Global, words: &mut Words<'_>) -> Result<Vec<Extent>, AllocError> {
+fn holes(alloc: Global, words: &mut Words<'_>, told: &mut Told) -> Vec<Extent> {
     let mut holes = Vec::new(alloc);
     for _ in 0..64u8 {
         if words.is_empty() {
-            return Ok(holes);
+            break;
         }
-        holes.push(Extent {
-            start: words.short(),
-            tracks: 1,
-        })?;
+        let start = words.short();
+        if holes.push(Extent { start, tracks: 1 }).is_err() {
+            told.want();
+        }
     }
-    words.refuse();
-    Ok(holes)
+    holes
 }
 
 /// Mounts a volume of so many tracks.
-fn mount(
+pub(crate) fn mount(
     alloc: Global,
     store: &mut SharedStore,
     words: &mut Words<'_>,
-    told: &mut Vec<u8>,
-) -> Result<(), AllocError> {
+    told: &mut Told,
+) {
     let Some(serial) = serial(words) else {
-        return Ok(());
+        return;
     };
     let tracks = words.short();
-    let holes = holes(alloc, words)?;
+    let holes = holes(alloc, words, told);
     if tracks > 4000 {
-        return not_allowed(told);
+        return told.not_allowed();
     }
-    let mounted = Mounted::new(alloc, serial, tracks, holes.as_slice())?;
-    store.volumes.push(mounted)
+    if let Some(mounted) = told.got(Mounted::new(alloc, serial, tracks, holes.as_slice())) {
+        told.over(store.volumes.push(mounted));
+    }
 }
 
-fn push_facts(told: &mut Vec<u8>, facts: Option<SetFacts>) -> Result<(), AllocError> {
+fn tell_facts(told: &mut Told, facts: Option<SetFacts>) {
     let Some(facts) = facts else {
-        return push_line(told, b"NONE");
+        return told.line(b"NONE");
     };
-    push_numbered(told, b"TRACKS ", facts.tracks)?;
+    told.numbered(b"TRACKS ", facts.tracks);
     if let Some(day) = facts.expires {
-        push_numbered(told, b" EXPIRES ", u64::from(day))?;
+        told.numbered(b" EXPIRES ", u64::from(day));
     }
-    push_numbered_line(told, b" RECORDS ", facts.records as u64)
+    told.numbered_line(b" RECORDS ", facts.records as u64);
 }
 
 /// The byte that stands in all columns of a record.
-fn push_columns(told: &mut Vec<u8>, record: Option<[u8; 80]>) -> Result<(), AllocError> {
+fn tell_columns(told: &mut Told, record: Option<[u8; 80]>) {
     let Some(record) = record else {
-        return push_line(told, b"NONE");
+        return told.line(b"NONE");
     };
     let first = record[0];
-    if record.iter().any(|byte| *byte != first) {
-        return push_line(told, b"COLUMNS DIFFER");
+    if record == [first; 80] {
+        told.numbered_line(b"ALL ", u64::from(first));
+    } else {
+        told.line(b"COLUMNS DIFFER");
     }
-    push_numbered_line(told, b"ALL ", u64::from(first))
 }
 
-fn push_room(told: &mut Vec<u8>, answer: Result<(), RoomFault>) -> Result<(), AllocError> {
+fn tell_room(told: &mut Told, answer: Result<(), RoomFault>) {
     match answer {
-        Ok(()) => Ok(()),
-        Err(RoomFault::NotGranted) => push_line(told, b"NOT GRANTED"),
-        Err(RoomFault::Memory) => Err(AllocError),
+        Ok(()) => {}
+        Err(RoomFault::NotGranted) => told.line(b"NOT GRANTED"),
+        Err(RoomFault::Memory) => told.want(),
     }
 }
 
@@ -86,68 +133,41 @@ fn make(
     key: &Key,
     serial: Serial,
     tracks: u16,
-    told: &mut Vec<u8>,
-) -> Result<(), AllocError> {
+    told: &mut Told,
+) {
     if store.set(job, key, serial).is_some() {
-        return not_allowed(told);
+        return told.not_allowed();
     }
     let place = Place {
         step: 0,
         dd: 0,
         serial,
     };
-    push_room(told, store.make(job, key, &place, tracks, None))
+    tell_room(told, store.make(job, key, &place, tracks, None));
 }
 
-/// Does a command about the set of a job, by its key and its volume. Whether there is such a command.
-fn on_set(
+/// Does a command about the set of a job, by its key and its volume.
+pub(crate) fn on_set(
     store: &mut SharedStore,
-    verb: &[u8],
+    verb: SetVerb,
     words: &mut Words<'_>,
-    told: &mut Vec<u8>,
-) -> Result<(), AllocError> {
+    told: &mut Told,
+) {
     let job = words.short();
     let (Some(key), Some(serial)) = (key(words), serial(words)) else {
-        return Ok(());
+        return;
     };
     match verb {
-        b"MAKE" => make(store, job, &key, serial, words.short(), told),
-        b"GROW" => push_room(told, store.grow(job, &key, serial, words.short())),
-        b"APPEND" => store.append(job, &key, serial, &[words.byte(); 80]),
-        b"RECORD" => {
+        SetVerb::Make => make(store, job, &key, serial, words.short(), told),
+        SetVerb::Grow => tell_room(told, store.grow(job, &key, serial, words.short())),
+        SetVerb::Append => told.over(store.append(job, &key, serial, &[words.byte(); 80])),
+        SetVerb::Record => {
             let place = usize::from(words.short());
-            push_columns(told, store.record(job, &key, serial, place))
+            tell_columns(told, store.record(job, &key, serial, place));
         }
-        b"EMPTY" => {
-            store.empty(job, &key, serial);
-            Ok(())
-        }
-        b"TRIM" => {
-            store.trim(job, &key, serial);
-            Ok(())
-        }
-        b"SCRATCH" => {
-            store.scratch(job, &key, serial);
-            Ok(())
-        }
-        _ => push_facts(told, store.set(job, &key, serial)),
+        SetVerb::Empty => store.empty(job, &key, serial),
+        SetVerb::Trim => store.trim(job, &key, serial),
+        SetVerb::Scratch => store.scratch(job, &key, serial),
+        SetVerb::Set => tell_facts(told, store.set(job, &key, serial)),
     }
-}
-
-/// Does a command about volumes and their sets. Whether there is such a command.
-pub(crate) fn on_sets(
-    alloc: Global,
-    store: &mut SharedStore,
-    verb: &[u8],
-    words: &mut Words<'_>,
-    told: &mut Vec<u8>,
-) -> Result<bool, AllocError> {
-    match verb {
-        b"VOLUME" => mount(alloc, store, words, told)?,
-        b"MAKE" | b"GROW" | b"APPEND" | b"RECORD" | b"EMPTY" | b"TRIM" | b"SCRATCH" | b"SET" => {
-            on_set(store, verb, words, told)?;
-        }
-        _ => return Ok(false),
-    }
-    Ok(true)
 }

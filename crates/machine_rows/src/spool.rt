@@ -1,25 +1,36 @@
 //! What writers write.
 use jcl_meaning::state::Output;
-use jcl_plan::entry::{JobLine, Written};
+use jcl_plan::entry;
+use jcl_plan::entry::JobLine;
 use plain::listed::Listed;
-use row_table::told::{push_line, push_numbered, push_numbered_line, push_two};
+use row_table::told::Told;
 use row_table::words::Words;
 use spool_core::spool::Spool;
-use std::alloc::{AllocError, Global};
+use std::alloc::Global;
 
-/// What a job that is over gives to the writers: its lines before the last, and its SYSOUT sets.
+/// What is written, and what a job that is over gives to the writers: its lines before the last, and its SYSOUT sets.
 #[derive(Drop)]
-pub(crate) struct Given {
+pub(crate) struct Written {
+    spool: Spool,
     lines: Listed<JobLine>,
     outputs: Listed<Output>,
 }
 
 /// Nothing is given yet.
-pub(crate) fn nothing(alloc: Global) -> Given {
-    Given {
+pub(crate) fn nothing_written(alloc: Global) -> Written {
+    Written {
+        spool: Spool::new(alloc),
         lines: Listed::empty(alloc),
         outputs: Listed::empty(alloc),
     }
+}
+
+#[derive(Clone, Copy)]
+pub(crate) enum SpoolVerb {
+    Line,
+    Output,
+    Over,
+    Write,
 }
 
 /// A class, the first byte of the next word.
@@ -33,63 +44,70 @@ fn class(words: &mut Words<'_>) -> u8 {
     }
 }
 
-/// A SYSOUT set of a class, with a record for each byte of a text: the byte in all columns.
-fn output(alloc: Global, class: u8, marks: &[u8]) -> Result<Output, AllocError> {
+/// Adds a SYSOUT set of a class, with a record for each byte of a text: the byte in all columns.
+fn add_output(
+    alloc: Global,
+    outputs: &mut Listed<Output>,
+    words: &mut Words<'_>,
+    told: &mut Told,
+) {
+    let class = class(words);
     let mut records = Listed::empty(alloc);
-    for mark in marks {
-        records.push([*mark; 80])?;
+    for mark in words.next_word() {
+        told.over(records.push([*mark; 80]));
     }
-    Ok(Output {
+    told.over(outputs.push(Output {
         step: 1,
         dd: 1,
         class,
         records,
-    })
+    }));
 }
 
 /// Whose line or record is written, and its mark.
-fn push_written(told: &mut Vec<u8>, written: Option<(u16, Written)>) -> Result<(), AllocError> {
+fn tell_written(told: &mut Told, written: Option<(u16, entry::Written)>) {
     let Some((job, written)) = written else {
-        return push_line(told, b"NOTHING");
+        return told.line(b"NOTHING");
     };
-    push_numbered(told, b"", u64::from(job))?;
+    told.numbered(b"", u64::from(job));
     match written {
-        Written::Line(JobLine::Selected(mark)) => {
-            push_numbered_line(told, b" LINE ", u64::from(mark))
+        entry::Written::Line(JobLine::Selected(mark)) => {
+            told.numbered_line(b" LINE ", u64::from(mark));
         }
-        Written::Line(_) => push_line(told, b" ANOTHER LINE"),
-        Written::Record(columns) => {
-            push_two(told, b" RECORD ", &columns[..1])?;
-            told.extend_from_slice(b"\n")
+        entry::Written::Line(_) => told.line(b" ANOTHER LINE"),
+        entry::Written::Record(columns) => told.line_of_two(b" RECORD ", &columns[..1]),
+    }
+}
+
+impl Written {
+    /// The job is over.
+    fn enter(&mut self, alloc: Global, words: &mut Words<'_>, told: &mut Told) {
+        let job = words.short();
+        let class = class(words);
+        let last = JobLine::Selected(words.byte());
+        let (lines, outputs) = (&mut self.lines, &mut self.outputs);
+        if told.got(self.spool.enter(job, class, lines, last, outputs)).is_some() {
+            self.lines = Listed::empty(alloc);
+            self.outputs = Listed::empty(alloc);
         }
     }
 }
 
-/// Does a command about writers. Whether there is such a command.
+/// Does a command about writers.
 pub(crate) fn on_spool(
     alloc: Global,
-    spool: &mut Spool,
-    given: &mut Given,
-    verb: &[u8],
+    written: &mut Written,
+    verb: SpoolVerb,
     words: &mut Words<'_>,
-    told: &mut Vec<u8>,
-) -> Result<bool, AllocError> {
+    told: &mut Told,
+) {
     match verb {
-        b"LINE" => given.lines.push(JobLine::Selected(words.byte()))?,
-        b"OUTPUT" => {
-            let class = class(words);
-            let output = output(alloc, class, words.next_word())?;
-            given.outputs.push(output)?;
+        SpoolVerb::Line => {
+            let line = JobLine::Selected(words.byte());
+            told.over(written.lines.push(line));
         }
-        b"OVER" => {
-            let (job, class) = (words.short(), class(words));
-            let last = JobLine::Selected(words.byte());
-            spool.enter(job, class, &mut given.lines, last, &mut given.outputs)?;
-            given.lines = Listed::empty(alloc);
-            given.outputs = Listed::empty(alloc);
-        }
-        b"WRITE" => push_written(told, spool.write(class(words)))?,
-        _ => return Ok(false),
+        SpoolVerb::Output => add_output(alloc, &mut written.outputs, words, told),
+        SpoolVerb::Over => written.enter(alloc, words, told),
+        SpoolVerb::Write => tell_written(told, written.spool.write(class(words))),
     }
-    Ok(true)
 }

@@ -9,39 +9,44 @@ use jcl_refs::units::UnitNames;
 use jname_core::name8::UnitName;
 use plain::lent::Lent;
 use proc_library::library::ProcLibrary;
-use row_table::told::push_numbered_line;
+use row_table::told::Told;
 use row_table::words::Lines;
-use std::alloc::{AllocError, Global};
+use std::alloc::Global;
 use value_core::refusal::ReadError;
 
 /// The names of the units that decks may say: SYSDA is the first, and DISK the second.
-fn unit_names(alloc: Global) -> Result<UnitNames, AllocError> {
+fn unit_names(alloc: Global, told: &mut Told) -> UnitNames {
     let mut names = UnitNames::new(alloc);
     for text in [b"SYSDA".as_slice(), b"DISK"] {
         if let Ok(name) = UnitName::read(text)
             && names.number(&name).is_none()
             && names.len() < 65_535
         {
-            names.add(name)?;
+            told.over(names.add(name));
         }
     }
-    Ok(names)
+    names
 }
 
 /// The cards up to the line `/ENDDECK`.
-fn cards<'a>(alloc: Global, lines: &mut Lines<'a>) -> Result<Vec<Lent<'a>>, AllocError> {
+fn cards<'a>(alloc: Global, lines: &mut Lines<'a>, told: &mut Told) -> Vec<Lent<'a>> {
     let mut cards = Vec::new(alloc);
     for _ in 0..lines.len() {
-        match lines.next_line() {
-            None | Some(b"/ENDDECK") => return Ok(cards),
-            Some(card) => cards.push(Lent::new(card))?,
+        let Some(card) = lines.next_line() else {
+            break;
+        };
+        if card == b"/ENDDECK".as_slice() {
+            break;
+        }
+        if cards.push(Lent::new(card)).is_err() {
+            told.want();
         }
     }
-    Ok(cards)
+    cards
 }
 
 /// The letter and the number of a refusal.
-fn push_cause(told: &mut Vec<u8>, cause: Cause) -> Result<(), AllocError> {
+fn tell_cause(told: &mut Told, cause: Cause) {
     let (letter, number) = match cause {
         Cause::C(number) => (b"REFUSED C", number),
         Cause::N(number) => (b"REFUSED N", number),
@@ -50,7 +55,7 @@ fn push_cause(told: &mut Vec<u8>, cause: Cause) -> Result<(), AllocError> {
         Cause::B(number) => (b"REFUSED B", number),
         Cause::A(fault) => (b"REFUSED A", fault.number()),
     };
-    push_numbered_line(told, letter, u64::from(number))
+    told.numbered_line(letter, u64::from(number));
 }
 
 /// The job of a deck, where no unit's name and no procedure is missing.
@@ -61,21 +66,20 @@ fn denoted(alloc: Global, units: &UnitNames, deck: &[Lent<'_>]) -> Result<JobPla
 }
 
 /// The job of the deck that comes next, or none, and its refusal is told.
-pub(crate) fn next_job(
-    alloc: Global,
-    lines: &mut Lines<'_>,
-    told: &mut Vec<u8>,
-) -> Result<Option<JobPlan>, AllocError>
-    ensures { IfOk result (λ some. IfSome some (λ job. (units : ℕ) × IsWritable 32 units job)) }
+pub(crate) fn next_job(alloc: Global, lines: &mut Lines<'_>, told: &mut Told) -> Option<JobPlan>
+    ensures { IfSome result (λ job. (units : ℕ) × IsWritable 32 units job) }
 {
-    let units = unit_names(alloc)?;
-    let deck = cards(alloc, lines)?;
+    let units = unit_names(alloc, told);
+    let deck = cards(alloc, lines, told);
     match denoted(alloc, &units, deck.as_slice()) {
-        Ok(job) => Ok(Some(job)),
+        Ok(job) => Some(job),
         Err(ReadError::Refused(cause)) => {
-            push_cause(told, cause)?;
-            Ok(None)
+            tell_cause(told, cause);
+            None
         }
-        Err(ReadError::Memory) => Err(AllocError),
+        Err(ReadError::Memory) => {
+            told.want();
+            None
+        }
     }
 }

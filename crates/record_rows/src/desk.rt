@@ -1,17 +1,72 @@
 //! What the commands of a row are about, and which of them there are.
-use crate::job::on_job;
-use crate::names::on_names;
-use crate::record::on_record;
-use crate::store::{few_records, on_store};
-use crate::sweep::push_sweep;
-use crate::waiting::on_waiting;
+use crate::job::{DeckVerb, JobVerb, on_deck, on_job};
+use crate::names::{CancelVerb, on_cancels, tell_held, tell_listings};
+use crate::record::{RecordVerb, on_record};
+use crate::store::{StoreVerb, few_records, on_store};
+use crate::sweep::tell_sweep;
+use crate::waiting::{WaitingVerb, on_waiting};
 use admit_core::cancels::Cancels;
 use cb_meaning::layout::LAYOUT_1;
 use cb_queue::list_store::ListStore;
 use cb_records::rec::Rec;
-use row_table::told::push_two;
+use row_table::told::Told;
 use row_table::words::{Lines, Words};
-use std::alloc::{AllocError, Global};
+use std::alloc::Global;
+
+/// What a line says.
+#[derive(Clone, Copy)]
+enum Verb {
+    Record(RecordVerb),
+    Store(StoreVerb),
+    Few,
+    Deck(DeckVerb),
+    Job(JobVerb),
+    Hold,
+    Sweep,
+    Waiting(WaitingVerb),
+    Cancels(CancelVerb),
+    Listings,
+}
+
+const VERBS: [(&str, Verb); 37] = [
+    ("ZEROS", Verb::Record(RecordVerb::Zeros)),
+    ("PLACES", Verb::Record(RecordVerb::Places)),
+    ("ALL", Verb::Record(RecordVerb::All)),
+    ("BYTE", Verb::Record(RecordVerb::Byte)),
+    ("NUMBER", Verb::Record(RecordVerb::Number)),
+    ("TEXT", Verb::Record(RecordVerb::Text)),
+    ("FIELD", Verb::Record(RecordVerb::Field)),
+    ("FIELDS", Verb::Record(RecordVerb::Fields)),
+    ("SHOW", Verb::Record(RecordVerb::Show)),
+    ("FEW", Verb::Few),
+    ("TAKE", Verb::Store(StoreVerb::Take)),
+    ("GIVE", Verb::Store(StoreVerb::Give)),
+    ("GIVE-ALL", Verb::Store(StoreVerb::GiveAll)),
+    ("SET", Verb::Store(StoreVerb::Set)),
+    ("STATUS", Verb::Store(StoreVerb::Status)),
+    ("RECORD", Verb::Store(StoreVerb::Record)),
+    ("FREE", Verb::Store(StoreVerb::Free)),
+    ("MOST", Verb::Store(StoreVerb::Most)),
+    ("PLAN", Verb::Deck(DeckVerb::Plan)),
+    ("ROOM", Verb::Deck(DeckVerb::Room)),
+    ("WRITE", Verb::Deck(DeckVerb::Write)),
+    ("ENTER", Verb::Deck(DeckVerb::Enter)),
+    ("HOLD", Verb::Hold),
+    ("READ", Verb::Job(JobVerb::Read)),
+    ("FAULT", Verb::Job(JobVerb::Fault)),
+    ("TRY", Verb::Job(JobVerb::Try)),
+    ("RELEASE", Verb::Job(JobVerb::Release)),
+    ("SWEEP", Verb::Sweep),
+    ("WAIT", Verb::Waiting(WaitingVerb::Wait)),
+    ("WAITING", Verb::Waiting(WaitingVerb::Waiting)),
+    ("FIRST", Verb::Waiting(WaitingVerb::First)),
+    ("SELECT", Verb::Waiting(WaitingVerb::Select)),
+    ("REMOVE", Verb::Waiting(WaitingVerb::Remove)),
+    ("CANCEL", Verb::Cancels(CancelVerb::Cancel)),
+    ("ACTED", Verb::Cancels(CancelVerb::Acted)),
+    ("CANCELLED", Verb::Cancels(CancelVerb::Cancelled)),
+    ("LISTINGS", Verb::Listings),
+];
 
 /// A record in hand, records in a store with the jobs that wait, and the cancels that have not acted yet.
 #[derive(Drop)]
@@ -21,61 +76,56 @@ struct Desk {
     cancels: Cancels,
 }
 
-/// Does a command about the store as a whole, or about names. Whether there is such a command.
-fn on_others(
-    alloc: Global,
-    desk: &mut Desk,
-    verb: &[u8],
-    words: &mut Words<'_>,
-    lines: &mut Lines<'_>,
-    told: &mut Vec<u8>,
-) -> Result<bool, AllocError> {
-    match verb {
-        b"FEW" => desk.store = few_records(alloc)?,
-        b"SWEEP" => {
-            let n = words.number();
-            push_sweep(alloc, &mut desk.store, n, words.byte(), told)?;
-        }
-        _ => return on_names(alloc, &mut desk.cancels, verb, words, lines, told),
+/// A store of 9 records in place of the one so far.
+fn take_few(alloc: Global, store: &mut ListStore, told: &mut Told) {
+    if let Some(few) = told.got(few_records(alloc)) {
+        *store = few;
     }
-    Ok(true)
 }
 
-/// Does a command. Whether there is such a command.
+/// Does a command.
 fn act(
     alloc: Global,
     desk: &mut Desk,
     words: &mut Words<'_>,
     lines: &mut Lines<'_>,
-    told: &mut Vec<u8>,
-) -> Result<bool, AllocError> {
-    let verb = words.next_word();
-    Ok(
-        on_record(alloc, &mut desk.rec, verb, words, told)?
-            || on_store(alloc, &mut desk.store, verb, words, told)?
-            || on_job(alloc, &mut desk.store, verb, words, lines, told)?
-            || on_waiting(alloc, &mut desk.store, verb, words, told)?
-            || on_others(alloc, desk, verb, words, lines, told)?,
-    )
+    told: &mut Told,
+) {
+    let store = &mut desk.store;
+    match words.one_of(&VERBS) {
+        Some(Verb::Record(verb)) => on_record(alloc, &mut desk.rec, verb, words, told),
+        Some(Verb::Store(verb)) => on_store(alloc, store, verb, words, told),
+        Some(Verb::Few) => take_few(alloc, store, told),
+        Some(Verb::Deck(verb)) => on_deck(alloc, store, verb, words, lines, told),
+        Some(Verb::Job(verb)) => on_job(alloc, store, verb, words, told),
+        Some(Verb::Hold) => tell_held(alloc, words, lines, told),
+        Some(Verb::Sweep) => tell_sweep(alloc, store, words, told),
+        Some(Verb::Waiting(verb)) => on_waiting(alloc, store, verb, words, told),
+        Some(Verb::Cancels(verb)) => on_cancels(&mut desk.cancels, verb, words, told),
+        Some(Verb::Listings) => tell_listings(alloc, words, told),
+        None => {}
+    }
 }
 
 /// What the commands of a row tell, in turn.
-pub(crate) fn answer(alloc: Global, input: &[u8], told: &mut Vec<u8>) -> Result<(), AllocError> {
+pub(crate) fn answer(alloc: Global, input: &[u8], told: &mut Told) {
+    let Some(store) = told.got(ListStore::new(alloc, LAYOUT_1)) else {
+        return;
+    };
     let mut desk = Desk {
         rec: Rec::zeroed(),
-        store: ListStore::new(alloc, LAYOUT_1)?,
+        store,
         cancels: Cancels::new(alloc),
     };
     let mut lines = Lines::new(input);
     for _ in 0..input.len() {
         let Some(line) = lines.next_line() else {
-            return Ok(());
+            break;
         };
         let mut words = Words::new(line);
-        if !act(alloc, &mut desk, &mut words, &mut lines, told)? || words.is_wrong() {
-            push_two(told, b"?", line)?;
-            told.extend_from_slice(b"\n")?;
+        act(alloc, &mut desk, &mut words, &mut lines, told);
+        if words.is_wrong() {
+            told.line_of_two(b"?", line);
         }
     }
-    Ok(())
 }

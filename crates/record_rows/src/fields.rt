@@ -7,149 +7,116 @@ use cb_records::jfcb::JfcbView;
 use cb_records::rec::Rec;
 use cb_records::sct::SctView;
 use cb_records::siot::SiotView;
-use row_table::told::{push_bytes, push_line, push_numbered, push_two};
-use std::alloc::AllocError;
+use row_table::told::Told;
 
-/// A line for each number: its name and itself.
-fn push_numbers(told: &mut Vec<u8>, numbers: &[(&str, u32)]) -> Result<(), AllocError> {
-    for (name, number) in numbers {
-        push_two(told, name.as_bytes(), b" ")?;
-        push_numbered(told, b"", u64::from(*number))?;
-        told.extend_from_slice(b"\n")?;
-    }
-    Ok(())
+/// A line of a text: its name, and its bytes.
+fn tell_text(told: &mut Told, name: &[u8], text: &[u8]) {
+    told.word(name);
+    told.bytes(text);
+    told.end_line();
 }
 
-/// A line for each text: its name, and its bytes.
-fn push_texts(told: &mut Vec<u8>, texts: &[(&str, &[u8])]) -> Result<(), AllocError> {
-    for (name, text) in texts {
-        push_two(told, name.as_bytes(), b" ")?;
-        push_bytes(told, text)?;
-        told.extend_from_slice(b"\n")?;
-    }
-    Ok(())
+fn tell_jct(told: &mut Told, jct: &JctView<'_>) {
+    told.line(b"JCT");
+    told.numbered_line(b"layout ", u64::from(jct.layout_number()));
+    told.numbered_line(b"class ", u64::from(jct.class()));
+    told.numbered_line(b"priority ", u64::from(jct.priority()));
+    told.numbered_line(b"message class ", u64::from(jct.message_class()));
+    told.numbered_line(b"first step ", u64::from(jct.first_step()));
+    told.numbered_line(b"steps ", u64::from(jct.steps()));
+    told.numbered_line(b"tests ", u64::from(jct.test_count()));
+    told.numbered_line(b"first operator ", u64::from(jct.test_operator(0)));
+    told.numbered_line(b"first code ", u64::from(jct.test_code(0)));
+    told.numbered_line(b"last operator ", u64::from(jct.test_operator(7)));
+    told.numbered_line(b"last code ", u64::from(jct.test_code(7)));
+    tell_text(told, b"name ", jct.name());
+    tell_text(told, b"status ", jct.status_bytes());
 }
 
-fn push_jct(told: &mut Vec<u8>, jct: &JctView<'_>) -> Result<(), AllocError> {
-    push_line(told, b"JCT")?;
-    let numbers = [
-        ("layout", u32::from(jct.layout_number())),
-        ("class", u32::from(jct.class())),
-        ("priority", u32::from(jct.priority())),
-        ("message class", u32::from(jct.message_class())),
-        ("first step", jct.first_step()),
-        ("steps", jct.steps()),
-        ("tests", u32::from(jct.test_count())),
-        ("first operator", u32::from(jct.test_operator(0))),
-        ("first code", u32::from(jct.test_code(0))),
-        ("last operator", u32::from(jct.test_operator(7))),
-        ("last code", u32::from(jct.test_code(7))),
-    ];
-    push_numbers(told, &numbers)?;
-    let texts = [("name", jct.name()), ("status", jct.status_bytes())];
-    push_texts(told, &texts)
+fn tell_sct(told: &mut Told, sct: &SctView<'_>) {
+    told.line(b"SCT");
+    told.numbered_line(b"next ", u64::from(sct.next()));
+    told.numbered_line(b"first DD ", u64::from(sct.first_dd()));
+    told.numbered_line(b"DDs ", u64::from(sct.dds()));
+    told.numbered_line(b"after abend ", u64::from(sct.after_abend()));
+    told.numbered_line(b"tests ", u64::from(sct.test_count()));
+    told.numbered_line(b"first operator ", u64::from(sct.test_operator(0)));
+    told.numbered_line(b"first code ", u64::from(sct.test_code(0)));
+    told.numbered_line(b"first step ", u64::from(sct.test_step(0)));
+    told.numbered_line(b"last operator ", u64::from(sct.test_operator(7)));
+    told.numbered_line(b"last code ", u64::from(sct.test_code(7)));
+    told.numbered_line(b"last step ", u64::from(sct.test_step(7)));
+    tell_text(told, b"name ", sct.name());
+    tell_text(told, b"procedure step ", sct.procedure_step());
+    tell_text(told, b"program ", sct.program());
+    tell_text(told, b"status ", sct.status_bytes());
 }
 
-fn push_sct(told: &mut Vec<u8>, sct: &SctView<'_>) -> Result<(), AllocError> {
-    push_line(told, b"SCT")?;
-    let numbers = [
-        ("next", sct.next()),
-        ("first DD", sct.first_dd()),
-        ("DDs", sct.dds()),
-        ("after abend", u32::from(sct.after_abend())),
-        ("tests", u32::from(sct.test_count())),
-        ("first operator", u32::from(sct.test_operator(0))),
-        ("first code", u32::from(sct.test_code(0))),
-        ("first step", u32::from(sct.test_step(0))),
-        ("last operator", u32::from(sct.test_operator(7))),
-        ("last code", u32::from(sct.test_code(7))),
-        ("last step", u32::from(sct.test_step(7))),
-    ];
-    push_numbers(told, &numbers)?;
-    let texts = [
-        ("name", sct.name()),
-        ("procedure step", sct.procedure_step()),
-        ("program", sct.program()),
-        ("status", sct.status_bytes()),
-    ];
-    push_texts(told, &texts)
+fn tell_siot(told: &mut Told, siot: &SiotView<'_>) {
+    told.line(b"SIOT");
+    told.numbered_line(b"next ", u64::from(siot.next()));
+    told.numbered_line(b"below ", u64::from(siot.below()));
+    told.numbered_line(b"kind ", u64::from(siot.dd_kind()));
+    told.numbered_line(b"set status ", u64::from(siot.status()));
+    told.numbered_line(b"normal ", u64::from(siot.normal()));
+    told.numbered_line(b"conditional ", u64::from(siot.conditional()));
+    told.numbered_line(b"marks ", u64::from(siot.marks()));
+    told.numbered_line(b"class ", u64::from(siot.class()));
+    told.numbered_line(b"cards ", u64::from(siot.cards()));
+    told.numbered_line(b"volume ", u64::from(siot.volume()));
+    told.numbered_line(b"volume step ", u64::from(siot.volume_step()));
+    told.numbered_line(b"volume DD ", u64::from(siot.volume_dd()));
+    told.numbered_line(b"primary ", u64::from(siot.primary()));
+    told.numbered_line(b"secondary ", u64::from(siot.secondary()));
+    told.numbered_line(b"units ", u64::from(siot.units()));
+    tell_text(told, b"name ", siot.name());
+    tell_text(told, b"status ", siot.status_bytes());
 }
 
-fn push_siot(told: &mut Vec<u8>, siot: &SiotView<'_>) -> Result<(), AllocError> {
-    push_line(told, b"SIOT")?;
-    let numbers = [
-        ("next", siot.next()),
-        ("below", siot.below()),
-        ("kind", u32::from(siot.dd_kind())),
-        ("set status", u32::from(siot.status())),
-        ("normal", u32::from(siot.normal())),
-        ("conditional", u32::from(siot.conditional())),
-        ("marks", u32::from(siot.marks())),
-        ("class", u32::from(siot.class())),
-        ("cards", siot.cards()),
-        ("volume", u32::from(siot.volume())),
-        ("volume step", u32::from(siot.volume_step())),
-        ("volume DD", u32::from(siot.volume_dd())),
-        ("primary", u32::from(siot.primary())),
-        ("secondary", u32::from(siot.secondary())),
-        ("units", u32::from(siot.units())),
-    ];
-    push_numbers(told, &numbers)?;
-    let texts = [("name", siot.name()), ("status", siot.status_bytes())];
-    push_texts(told, &texts)
+fn tell_jfcb(told: &mut Told, jfcb: &JfcbView<'_>) {
+    told.line(b"JFCB");
+    told.numbered_line(b"key ", u64::from(jfcb.key_kind()));
+    told.numbered_line(b"sign ", u64::from(jfcb.sign()));
+    told.numbered_line(b"amount ", u64::from(jfcb.amount()));
+    told.numbered_line(b"unnamed step ", u64::from(jfcb.unnamed_step()));
+    told.numbered_line(b"unnamed DD ", u64::from(jfcb.unnamed_dd()));
+    tell_text(told, b"name ", jfcb.name());
+    tell_text(told, b"serial ", jfcb.serial());
+    tell_text(told, b"volume name ", jfcb.volume_name());
 }
 
-fn push_jfcb(told: &mut Vec<u8>, jfcb: &JfcbView<'_>) -> Result<(), AllocError> {
-    push_line(told, b"JFCB")?;
-    let numbers = [
-        ("key", u32::from(jfcb.key_kind())),
-        ("sign", u32::from(jfcb.sign())),
-        ("amount", u32::from(jfcb.amount())),
-        ("unnamed step", u32::from(jfcb.unnamed_step())),
-        ("unnamed DD", u32::from(jfcb.unnamed_dd())),
-    ];
-    push_numbers(told, &numbers)?;
-    let texts = [
-        ("name", jfcb.name()),
-        ("serial", jfcb.serial()),
-        ("volume name", jfcb.volume_name()),
-    ];
-    push_texts(told, &texts)
-}
-
-fn push_cards(told: &mut Vec<u8>, cards: &CardsView<'_>) -> Result<(), AllocError> {
-    push_line(told, b"CARDS")?;
-    let numbers = [("next", cards.next()), ("count", u32::from(cards.count()))];
-    push_numbers(told, &numbers)?;
-    let texts = [("first", cards.first()), ("second", cards.second())];
-    push_texts(told, &texts)
+fn tell_cards(told: &mut Told, cards: &CardsView<'_>) {
+    told.line(b"CARDS");
+    told.numbered_line(b"next ", u64::from(cards.next()));
+    told.numbered_line(b"count ", u64::from(cards.count()));
+    tell_text(told, b"first ", cards.first());
+    tell_text(told, b"second ", cards.second());
 }
 
 /// The fields of a record that is part of a step's description.
-fn push_below(told: &mut Vec<u8>, rec: &Rec) -> Result<(), AllocError> {
+fn tell_below(told: &mut Told, rec: &Rec) {
     if let Some(siot) = SiotView::of(rec, &LAYOUT_1) {
-        push_siot(told, &siot)?;
+        tell_siot(told, &siot);
     }
     if let Some(jfcb) = JfcbView::of(rec, &LAYOUT_1) {
-        push_jfcb(told, &jfcb)?;
+        tell_jfcb(told, &jfcb);
     }
-    match CardsView::of(rec, &LAYOUT_1) {
-        None => Ok(()),
-        Some(cards) => push_cards(told, &cards),
+    if let Some(cards) = CardsView::of(rec, &LAYOUT_1) {
+        tell_cards(told, &cards);
     }
 }
 
 /// The fields of a record, by each view that takes it, and its owner.
-pub(crate) fn push_fields(told: &mut Vec<u8>, rec: &Rec) -> Result<(), AllocError> {
-    push_numbers(told, &[("owner", u32::from(rec.owner()))])?;
+pub(crate) fn tell_fields(told: &mut Told, rec: &Rec) {
+    told.numbered_line(b"owner ", u64::from(rec.owner()));
     if let Some(free) = FreeView::of(rec, &LAYOUT_1) {
-        push_numbers(told, &[("FREE, next", free.next())])?;
+        told.numbered_line(b"FREE, next ", u64::from(free.next()));
     }
     if let Some(jct) = JctView::of(rec, &LAYOUT_1) {
-        push_jct(told, &jct)?;
+        tell_jct(told, &jct);
     }
     if let Some(sct) = SctView::of(rec, &LAYOUT_1) {
-        push_sct(told, &sct)?;
+        tell_sct(told, &sct);
     }
-    push_below(told, rec)
+    tell_below(told, rec);
 }

@@ -4,8 +4,8 @@ ghost use Rattle.cb_meaning.specs.Writable.{IsWritable};
 ghost use Rattle.cb_meaning.specs.declared.layout.TheConstants.{LAYOUT_1};
 
 use crate::deck::next_job;
-use crate::plan::push_job;
-use crate::store::{allow, put, set_bytes};
+use crate::plan::tell_job;
+use crate::store::{put, set_bytes};
 use admit_core::read::{Read, read_job};
 use admit_core::reading::{EnterFault, enter_job};
 use admit_core::records::release_records;
@@ -19,9 +19,27 @@ use cb_read::laws::the_first_layout_has_own_fields;
 use cb_walk::first_fault::first_fault;
 use jcl_plan::fault::QueueFault;
 use jcl_plan::plan::JobPlan;
-use row_table::told::{push_line, push_numbered_line};
+use row_table::told::Told;
 use row_table::words::{Lines, Words};
 use std::alloc::{AllocError, Global};
+
+/// What is done with the job of a deck.
+#[derive(Clone, Copy)]
+pub(crate) enum DeckVerb {
+    Plan,
+    Room,
+    Write,
+    Enter,
+}
+
+/// What is done with a job in records.
+#[derive(Clone, Copy)]
+pub(crate) enum JobVerb {
+    Read,
+    Fault,
+    Try,
+    Release,
+}
 
 /// Whether all of a store's layout is that of the first one.
 fn is_first(store: &ListStore) -> bool
@@ -41,20 +59,15 @@ fn write_first(store: &mut ListStore, job: u16, plan: &JobPlan) -> Result<u32, Q
 }
 
 /// Writes a job's records, and tells the first.
-fn write(
-    store: &mut ListStore,
-    job: u16,
-    plan: &JobPlan,
-    told: &mut Vec<u8>,
-) -> Result<(), AllocError>
+fn write(store: &mut ListStore, job: u16, plan: &JobPlan, told: &mut Told)
     requires { (units : ℕ) × IsWritable 32 units plan.now }
 {
     if job == 0 || !is_first(store) {
-        return allow(told, false);
+        return told.not_allowed();
     }
     match write_first(store, job, plan) {
-        Ok(first) => push_numbered_line(told, b"FIRST RECORD ", u64::from(first)),
-        Err(_) => push_line(told, b"FULL"),
+        Ok(first) => told.numbered_line(b"FIRST RECORD ", u64::from(first)),
+        Err(_) => told.line(b"FULL"),
     }
 }
 
@@ -70,35 +83,26 @@ fn enter_first(store: &mut ListStore, job: u16, plan: &JobPlan) -> Result<u32, E
 }
 
 /// Writes a job's records and lets it wait, where nobody waits yet. Tells the first record.
-fn enter(
-    store: &mut ListStore,
-    job: u16,
-    plan: &JobPlan,
-    told: &mut Vec<u8>,
-) -> Result<(), AllocError>
+fn enter(store: &mut ListStore, job: u16, plan: &JobPlan, told: &mut Told)
     requires { (units : ℕ) × IsWritable 32 units plan.now }
 {
     if job == 0 || store.waiting_count() != 0 || !is_first(store) {
-        return allow(told, false);
+        return told.not_allowed();
     }
     match enter_first(store, job, plan) {
-        Ok(first) => push_numbered_line(told, b"FIRST RECORD ", u64::from(first)),
-        Err(EnterFault::Full) => push_line(told, b"FULL"),
-        Err(EnterFault::Memory) => Err(AllocError),
+        Ok(first) => told.numbered_line(b"FIRST RECORD ", u64::from(first)),
+        Err(EnterFault::Full) => told.line(b"FULL"),
+        Err(EnterFault::Memory) => told.want(),
     }
 }
 
-/// Whether each of these numbers of free records is enough for a job.
-fn push_room(told: &mut Vec<u8>, plan: &JobPlan, words: &mut Words<'_>) -> Result<(), AllocError> {
-    let free = words.number();
-    push_line(
-        told,
-        if is_room(plan, free) {
-            b"ROOM"
-        } else {
-            b"FULL"
-        },
-    )
+/// Whether so many free records are enough for a job.
+fn tell_room(told: &mut Told, plan: &JobPlan, free: u32) {
+    told.line(if is_room(plan, free) {
+        b"ROOM"
+    } else {
+        b"FULL"
+    });
 }
 
 /// What the records of a job denote in the first layout.
@@ -116,106 +120,109 @@ fn read_first(
 }
 
 /// The plan that a job's records denote, or the fault that is told.
-pub(crate) fn push_read(
+pub(crate) fn tell_read(
     alloc: Global,
     store: &ListStore,
     units: u16,
     job: u16,
     first: u32,
-    told: &mut Vec<u8>,
-) -> Result<(), AllocError> {
+    told: &mut Told,
+) {
     if !is_first(store) {
-        return allow(told, false);
+        return told.not_allowed();
     }
-    match read_first(alloc, store, units, job, first)? {
-        Read::Plan(plan) => push_job(told, &plan),
-        Read::Broken(fault) => push_numbered_line(told, b"B", u64::from(fault)),
+    match told.got(read_first(alloc, store, units, job, first)) {
+        Some(Read::Plan(plan)) => tell_job(told, &plan),
+        Some(Read::Broken(fault)) => told.numbered_line(b"B", u64::from(fault)),
+        None => {}
     }
 }
 
-fn push_fault(told: &mut Vec<u8>, fault: Option<u8>) -> Result<(), AllocError> {
-    match fault {
-        None => push_line(told, b"NO FAULT"),
-        Some(fault) => push_numbered_line(told, b"B", u64::from(fault)),
+fn tell_fault(told: &mut Told, fault: Result<Option<u8>, AllocError>) {
+    match told.got(fault) {
+        Some(Some(fault)) => told.numbered_line(b"B", u64::from(fault)),
+        Some(None) => told.line(b"NO FAULT"),
+        None => {}
     }
 }
 
 /// Tells the first fault of job 1 from record 1 on, with one list of volumes, where these bytes stand in a record, which is as it was again.
-fn push_tried(
-    alloc: Global,
-    store: &mut ListStore,
-    n: u32,
-    at: u8,
-    bytes: &[u8],
-    told: &mut Vec<u8>,
-) -> Result<(), AllocError> {
+fn tell_tried(alloc: Global, store: &mut ListStore, words: &mut Words<'_>, told: &mut Told) {
+    let n = words.number();
+    let at = words.byte();
+    let Some(bytes) = told.got(words.text(alloc)) else {
+        return;
+    };
     let was = match store.get(n) {
-        None => return allow(told, false),
+        None => return told.not_allowed(),
         Some(rec) => *rec,
     };
-    if !set_bytes(store, n, at, bytes) {
-        return allow(told, false);
+    if !set_bytes(store, n, at, bytes.as_slice()) {
+        return told.not_allowed();
     }
-    push_fault(told, first_fault(alloc, store, 1, 1, 1)?)?;
+    tell_fault(told, first_fault(alloc, store, 1, 1, 1));
     put(store, n, &was);
-    Ok(())
 }
 
 /// Does a command about the job of the deck that comes next.
-fn on_deck(
+pub(crate) fn on_deck(
     alloc: Global,
     store: &mut ListStore,
-    verb: &[u8],
+    verb: DeckVerb,
     words: &mut Words<'_>,
     lines: &mut Lines<'_>,
-    told: &mut Vec<u8>,
-) -> Result<(), AllocError> {
-    let Some(plan) = next_job(alloc, lines, told)? else {
-        return Ok(());
+    told: &mut Told,
+) {
+    let Some(plan) = next_job(alloc, lines, told) else {
+        return;
     };
     match verb {
-        b"WRITE" => write(store, words.short(), &plan, told),
-        b"ENTER" => enter(store, words.short(), &plan, told),
-        b"ROOM" => push_room(told, &plan, words),
-        _ => push_job(told, &plan),
+        DeckVerb::Plan => tell_job(told, &plan),
+        DeckVerb::Room => tell_room(told, &plan, words.number()),
+        DeckVerb::Write => write(store, words.short(), &plan, told),
+        DeckVerb::Enter => enter(store, words.short(), &plan, told),
     }
 }
 
-/// Does a command about jobs in records. Whether there is such a command.
+/// Tells the plan that a job's records denote, or its first fault alone.
+fn tell_strictly(
+    alloc: Global,
+    store: &ListStore,
+    whole: bool,
+    words: &mut Words<'_>,
+    told: &mut Told,
+) {
+    let job = words.short();
+    let first = words.number();
+    let units = words.short();
+    if whole {
+        tell_read(alloc, store, units, job, first, told);
+    } else {
+        tell_fault(told, first_fault(alloc, store, units, job, first));
+    }
+}
+
+fn release(store: &mut ListStore, words: &mut Words<'_>) {
+    let job = words.short();
+    if job == 0 {
+        words.refuse();
+    } else {
+        release_records(store, job);
+    }
+}
+
+/// Does a command about a job in records.
 pub(crate) fn on_job(
     alloc: Global,
     store: &mut ListStore,
-    verb: &[u8],
+    verb: JobVerb,
     words: &mut Words<'_>,
-    lines: &mut Lines<'_>,
-    told: &mut Vec<u8>,
-) -> Result<bool, AllocError> {
+    told: &mut Told,
+) {
     match verb {
-        b"WRITE" | b"ENTER" | b"ROOM" | b"PLAN" => {
-            on_deck(alloc, store, verb, words, lines, told)?;
-        }
-        b"READ" => {
-            let (job, first, units) = (words.short(), words.number(), words.short());
-            push_read(alloc, store, units, job, first, told)?;
-        }
-        b"FAULT" => {
-            let (job, first, units) = (words.short(), words.number(), words.short());
-            push_fault(told, first_fault(alloc, store, units, job, first)?)?;
-        }
-        b"TRY" => {
-            let (n, at) = (words.number(), words.byte());
-            let bytes = words.text(alloc)?;
-            push_tried(alloc, store, n, at, bytes.as_slice(), told)?;
-        }
-        b"RELEASE" => {
-            let job = words.short();
-            if job == 0 {
-                words.refuse();
-            } else {
-                release_records(store, job);
-            }
-        }
-        _ => return Ok(false),
+        JobVerb::Read => tell_strictly(alloc, store, true, words, told),
+        JobVerb::Fault => tell_strictly(alloc, store, false, words, told),
+        JobVerb::Try => tell_tried(alloc, store, words, told),
+        JobVerb::Release => release(store, words),
     }
-    Ok(true)
 }

@@ -15,7 +15,8 @@ mod waiting;
 
 use crate::desk::answer;
 use row_table::check::{Subject, check_tables};
-use std::alloc::{AllocError, Global};
+use row_table::told::Told;
+use std::alloc::Global;
 use std::io;
 use std::process::ExitCode;
 
@@ -23,8 +24,8 @@ use std::process::ExitCode;
 struct Records;
 
 impl Subject for Records {
-    fn answer(&self, alloc: Global, input: &[u8], told: &mut Vec<u8>) -> Result<(), AllocError> {
-        answer(alloc, input, told)
+    fn answer(&self, alloc: Global, input: &[u8], told: &mut Told) {
+        answer(alloc, input, told);
     }
 }
 

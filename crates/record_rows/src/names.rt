@@ -3,7 +3,6 @@ ghost use Rattle.std.specs.Prelude.{◌≡◌, true};
 ghost use Rattle.enq_core.specs.Holds.{HoldsNone};
 
 use crate::deck::next_job;
-use crate::store::allow;
 use admit_core::backlog::{Backlog, Listing};
 use admit_core::cancels::Cancels;
 use admit_core::names::{Named, hold_names};
@@ -11,9 +10,16 @@ use enq_core::table::{Blocked, EnqTable};
 use jcl_plan::entry::JobLine;
 use jcl_plan::plan::JobPlan;
 use plain::listed::Listed;
-use row_table::told::{push_line, push_numbered, push_numbered_line, push_two};
+use row_table::told::Told;
 use row_table::words::{Lines, Words};
-use std::alloc::{AllocError, Global};
+use std::alloc::Global;
+
+#[derive(Clone, Copy)]
+pub(crate) enum CancelVerb {
+    Cancel,
+    Acted,
+    Cancelled,
+}
 
 fn holds_none(table: &EnqTable, job: u16) -> bool
     ensures { result ≡ true → HoldsNone table.now job }
@@ -21,107 +27,97 @@ fn holds_none(table: &EnqTable, job: u16) -> bool
     table.holds().iter().all(|hold| hold.job() != job)
 }
 
-fn push_blocked(told: &mut Vec<u8>, blocked: &Blocked) -> Result<(), AllocError> {
-    push_numbered(told, b"BLOCKED ", u64::from(blocked.job))?;
-    push_two(told, b" ", blocked.name.as_slice())?;
-    told.extend_from_slice(b"\n")
+fn tell_blocked(told: &mut Told, blocked: &Blocked) {
+    told.numbered(b"BLOCKED ", u64::from(blocked.job));
+    told.line_of_two(b" ", blocked.name.as_slice());
 }
 
 /// Tells how many names a plan's job holds, or what stands in its way, and gives them free again.
-fn push_tried(
-    alloc: Global,
-    table: &mut EnqTable,
-    job: u16,
-    plan: &JobPlan,
-    told: &mut Vec<u8>,
-) -> Result<(), AllocError> {
+fn tell_tried(alloc: Global, table: &mut EnqTable, job: u16, plan: &JobPlan, told: &mut Told) {
     if !holds_none(table, job) {
-        return allow(told, false);
+        return told.not_allowed();
     }
-    match hold_names(alloc, table, job, plan)? {
-        Named::Blocked(blocked) => push_blocked(told, &blocked),
-        Named::Holds(held, count) => {
+    match told.got(hold_names(alloc, table, job, plan)) {
+        Some(Named::Blocked(blocked)) => tell_blocked(told, &blocked),
+        Some(Named::Holds(held, count)) => {
             table.release(held);
-            push_numbered_line(told, b"HOLDS ", count as u64)
+            told.numbered_line(b"HOLDS ", count as u64);
         }
+        None => {}
     }
 }
 
 /// A job holds the names of a plan, another tries to, and then the first gives them free: what is told of each, and how many are held then.
-fn push_held(
-    alloc: Global,
-    first: u16,
-    second: u16,
-    plan: &JobPlan,
-    told: &mut Vec<u8>,
-) -> Result<(), AllocError> {
+fn tell_both(alloc: Global, first: u16, second: u16, plan: &JobPlan, told: &mut Told) {
     let mut table = EnqTable::new(alloc);
     if !holds_none(&table, first) {
-        return Ok(());
+        return;
     }
-    match hold_names(alloc, &mut table, first, plan)? {
-        Named::Blocked(blocked) => push_blocked(told, &blocked)?,
-        Named::Holds(held, count) => {
-            let holds = push_numbered_line(told, b"HOLDS ", count as u64);
-            let tried = push_tried(alloc, &mut table, second, plan, told);
+    match told.got(hold_names(alloc, &mut table, first, plan)) {
+        Some(Named::Blocked(blocked)) => tell_blocked(told, &blocked),
+        Some(Named::Holds(held, count)) => {
+            told.numbered_line(b"HOLDS ", count as u64);
+            tell_tried(alloc, &mut table, second, plan, told);
             table.release(held);
-            holds?;
-            tried?;
         }
+        None => {}
     }
-    push_numbered_line(told, b"LEFT ", table.holds().len() as u64)
+    told.numbered_line(b"LEFT ", table.holds().len() as u64);
 }
 
-/// Enters the listing of a job, of one line, and tells of each other number what is taken under it.
-fn push_listings(
+/// Two jobs in turn hold the names of the deck that comes next.
+pub(crate) fn tell_held(
     alloc: Global,
-    words: &mut Words<'_>,
-    told: &mut Vec<u8>,
-) -> Result<(), AllocError> {
-    let mut lines = Listed::empty(alloc);
-    lines.push(JobLine::Cancelled)?;
-    let mut backlog = Backlog::new(alloc);
-    let job = words.short();
-    backlog.enter(Listing { job, lines })?;
-    for _ in 0..8u8 {
-        if words.is_empty() {
-            return Ok(());
-        }
-        match backlog.take(words.short()) {
-            None => push_line(told, b"NONE")?,
-            Some(listing) => {
-                push_numbered(told, b"LISTING ", u64::from(listing.job))?;
-                push_numbered_line(told, b" LINES ", listing.lines.len() as u64)?;
-            }
-        }
-    }
-    Ok(())
-}
-
-/// Does a command about cancels, listings or names. Whether there is such a command.
-pub(crate) fn on_names(
-    alloc: Global,
-    cancels: &mut Cancels,
-    verb: &[u8],
     words: &mut Words<'_>,
     lines: &mut Lines<'_>,
-    told: &mut Vec<u8>,
-) -> Result<bool, AllocError> {
-    match verb {
-        b"CANCEL" => cancels.add(words.short())?,
-        b"ACTED" => cancels.remove(words.short()),
-        b"CANCELLED" => {
-            let has = cancels.has(words.short());
-            push_line(told, if has { b"YES".as_slice() } else { b"NO" })?;
-        }
-        b"LISTINGS" => push_listings(alloc, words, told)?,
-        b"HOLD" => {
-            let (first, second) = (words.short(), words.short());
-            if let Some(plan) = next_job(alloc, lines, told)? {
-                push_held(alloc, first, second, &plan, told)?;
-            }
-        }
-        _ => return Ok(false),
+    told: &mut Told,
+) {
+    let first = words.short();
+    let second = words.short();
+    if let Some(plan) = next_job(alloc, lines, told) {
+        tell_both(alloc, first, second, &plan, told);
     }
-    Ok(true)
+}
+
+/// A backlog of the listing of a job, of one line.
+fn backlog_of(alloc: Global, job: u16, told: &mut Told) -> Backlog {
+    let mut lines = Listed::empty(alloc);
+    told.over(lines.push(JobLine::Cancelled));
+    let mut backlog = Backlog::new(alloc);
+    told.over(backlog.enter(Listing { job, lines }));
+    backlog
+}
+
+fn tell_taken(told: &mut Told, taken: Option<Listing>) {
+    let Some(listing) = taken else {
+        return told.line(b"NONE");
+    };
+    told.numbered(b"LISTING ", u64::from(listing.job));
+    told.numbered_line(b" LINES ", listing.lines.len() as u64);
+}
+
+/// Enters the listing of a job, and tells of each other number what is taken under it.
+pub(crate) fn tell_listings(alloc: Global, words: &mut Words<'_>, told: &mut Told) {
+    let mut backlog = backlog_of(alloc, words.short(), told);
+    for _ in 0..8u8 {
+        if words.is_empty() {
+            break;
+        }
+        tell_taken(told, backlog.take(words.short()));
+    }
+}
+
+/// Does a command about cancels.
+pub(crate) fn on_cancels(
+    cancels: &mut Cancels,
+    verb: CancelVerb,
+    words: &mut Words<'_>,
+    told: &mut Told,
+) {
+    let job = words.short();
+    match verb {
+        CancelVerb::Cancel => told.over(cancels.add(job)),
+        CancelVerb::Acted => cancels.remove(job),
+        CancelVerb::Cancelled => told.line(if cancels.has(job) { b"YES" } else { b"NO" }),
+    }
 }

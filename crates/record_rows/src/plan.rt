@@ -1,17 +1,16 @@
 //! The lines of a job.
 mod dds;
 
-use crate::plan::dds::push_dd;
+use crate::plan::dds::tell_dd;
 use jcl_plan::plan::{AfterAbend, DdPlan, JobPlan, Operator, StepPlan, Test};
 use jname_core::name8::Name8;
-use row_table::told::{push_numbered, push_two};
-use std::alloc::AllocError;
+use row_table::told::Told;
 
 /// A name, if there is one.
-fn push_name(told: &mut Vec<u8>, name: &Option<Name8>) -> Result<(), AllocError> {
+fn tell_name(told: &mut Told, name: &Option<Name8>) {
     match name {
-        None => Ok(()),
-        Some(name) => told.extend_from_slice(name.as_slice()),
+        None => {}
+        Some(name) => told.word(name.as_slice()),
     }
 }
 
@@ -35,80 +34,78 @@ fn after_abend_number(after: &AfterAbend) -> u64 {
 }
 
 /// A test's operator and code, behind a word.
-fn push_compared(told: &mut Vec<u8>, word: &[u8], test: &Test) -> Result<(), AllocError> {
-    push_numbered(told, word, operator_number(&test.operator))?;
-    push_numbered(told, b" ", u64::from(test.code.number()))
+fn tell_compared(told: &mut Told, word: &[u8], test: &Test) {
+    told.numbered(word, operator_number(&test.operator));
+    told.numbered(b" ", u64::from(test.code.number()))
 }
 
 /// A test of the JOB statement, behind a word.
-fn push_job_test(told: &mut Vec<u8>, word: &[u8], test: &Test) -> Result<(), AllocError> {
-    push_compared(told, word, test)?;
-    told.extend_from_slice(b")")
+fn tell_job_test(told: &mut Told, word: &[u8], test: &Test) {
+    tell_compared(told, word, test);
+    told.word(b")")
 }
 
 /// A test of a step, behind a word, with the step that it names, or 0.
-fn push_step_test(told: &mut Vec<u8>, word: &[u8], test: &Test) -> Result<(), AllocError> {
-    push_compared(told, word, test)?;
-    push_numbered(told, b" ", u64::from(test.step.unwrap_or(0)))?;
-    told.extend_from_slice(b")")
+fn tell_step_test(told: &mut Told, word: &[u8], test: &Test) {
+    tell_compared(told, word, test);
+    told.numbered(b" ", u64::from(test.step.unwrap_or(0)));
+    told.word(b")")
 }
 
-fn push_job_tests(told: &mut Vec<u8>, tests: &[Test]) -> Result<(), AllocError> {
-    told.extend_from_slice(b" tests (")?;
+fn tell_job_tests(told: &mut Told, tests: &[Test]) {
+    told.word(b" tests (");
     if let Some((first, others)) = tests.split_first() {
-        push_job_test(told, b"(", first)?;
+        tell_job_test(told, b"(", first);
         for test in others {
-            push_job_test(told, b" (", test)?;
+            tell_job_test(told, b" (", test);
         }
     }
-    told.extend_from_slice(b")\n")
+    told.line(b")")
 }
 
-fn push_step_tests(told: &mut Vec<u8>, tests: &[Test]) -> Result<(), AllocError> {
-    told.extend_from_slice(b" tests (")?;
+fn tell_step_tests(told: &mut Told, tests: &[Test]) {
+    told.word(b" tests (");
     if let Some((first, others)) = tests.split_first() {
-        push_step_test(told, b"(", first)?;
+        tell_step_test(told, b"(", first);
         for test in others {
-            push_step_test(told, b" (", test)?;
+            tell_step_test(told, b" (", test);
         }
     }
-    told.extend_from_slice(b")\n")
+    told.line(b")")
 }
 
-fn push_dds(told: &mut Vec<u8>, dds: &[DdPlan]) -> Result<(), AllocError> {
+fn tell_dds(told: &mut Told, dds: &[DdPlan]) {
     for (place, dd) in dds.iter().enumerate() {
-        push_dd(told, place + 1, dd)?;
+        tell_dd(told, place + 1, dd);
     }
-    Ok(())
 }
 
 /// The lines of the step of a number.
-fn push_step(told: &mut Vec<u8>, number: usize, step: &StepPlan) -> Result<(), AllocError> {
-    push_numbered(told, b"step ", number as u64)?;
-    told.extend_from_slice(b" ")?;
-    push_name(told, &step.name)?;
-    told.extend_from_slice(b" ")?;
-    push_name(told, &step.procedure_step)?;
-    push_two(told, b" program ", step.program.as_slice())?;
-    push_numbered(told, b" even/only ", after_abend_number(&step.after_abend))?;
-    push_step_tests(told, step.tests.as_slice())?;
-    push_dds(told, step.dds.as_slice())
+fn tell_step(told: &mut Told, number: usize, step: &StepPlan) {
+    told.numbered(b"step ", number as u64);
+    told.word(b" ");
+    tell_name(told, &step.name);
+    told.word(b" ");
+    tell_name(told, &step.procedure_step);
+    told.two(b" program ", step.program.as_slice());
+    told.numbered(b" even/only ", after_abend_number(&step.after_abend));
+    tell_step_tests(told, step.tests.as_slice());
+    tell_dds(told, step.dds.as_slice())
 }
 
 /// The line of a job, without its steps.
-fn push_head(told: &mut Vec<u8>, job: &JobPlan) -> Result<(), AllocError> {
-    push_two(told, b"job ", job.name.as_slice())?;
-    push_two(told, b" class ", &[job.class])?;
-    push_numbered(told, b" priority ", u64::from(job.priority))?;
-    push_two(told, b" message class ", &[job.message_class])?;
-    push_job_tests(told, job.tests.as_slice())
+fn tell_head(told: &mut Told, job: &JobPlan) {
+    told.two(b"job ", job.name.as_slice());
+    told.two(b" class ", &[job.class]);
+    told.numbered(b" priority ", u64::from(job.priority));
+    told.two(b" message class ", &[job.message_class]);
+    tell_job_tests(told, job.tests.as_slice())
 }
 
 /// The lines of a job.
-pub(crate) fn push_job(told: &mut Vec<u8>, job: &JobPlan) -> Result<(), AllocError> {
-    push_head(told, job)?;
+pub(crate) fn tell_job(told: &mut Told, job: &JobPlan) {
+    tell_head(told, job);
     for (place, step) in job.steps.as_slice().iter().enumerate() {
-        push_step(told, place + 1, step)?;
+        tell_step(told, place + 1, step);
     }
-    Ok(())
 }

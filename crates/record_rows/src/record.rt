@@ -1,12 +1,25 @@
 //! A record in hand: its bytes, and one field written at a time.
 ghost use Rattle.std.specs.Prelude.{◌≡◌, ◌+◌, ◌<◌, ◌≤◌, ◌^◌, length, true};
 
-use crate::fields::push_fields;
+use crate::fields::tell_fields;
 use cb_meaning::layout::Field;
 use cb_records::rec::{Rec, read_rec};
-use row_table::told::{push_bytes, push_line, push_numbered};
+use row_table::told::Told;
 use row_table::words::Words;
-use std::alloc::{AllocError, Global};
+use std::alloc::Global;
+
+#[derive(Clone, Copy)]
+pub(crate) enum RecordVerb {
+    Zeros,
+    Places,
+    All,
+    Byte,
+    Number,
+    Text,
+    Field,
+    Fields,
+    Show,
+}
 
 /// A record of a kind, in which each further byte is its own place.
 fn places(kind: u8) -> Option<Rec> {
@@ -16,12 +29,6 @@ fn places(kind: u8) -> Option<Rec> {
     }
     bytes[0] = kind;
     read_rec(&bytes)
-}
-
-/// The record that so many bytes of a value are.
-fn all(alloc: Global, count: u16, value: u8) -> Result<Option<Rec>, AllocError> {
-    let bytes = vec![in alloc; value; usize::from(count)]?;
-    Ok(read_rec(bytes.as_slice()))
 }
 
 /// A record with these bytes from a place on, where they lie in it.
@@ -37,16 +44,15 @@ pub(crate) fn with_bytes(rec: &Rec, at: u8, bytes: &[u8]) -> Option<Rec> {
 }
 
 /// The bytes, sixteen a line behind the place of the first, without the lines of zeros.
-pub(crate) fn push_record(told: &mut Vec<u8>, bytes: &[u8]) -> Result<(), AllocError> {
+pub(crate) fn tell_record(told: &mut Told, bytes: &[u8]) {
     for (line, part) in bytes.chunks(16).enumerate() {
-        if part.iter().any(|byte| *byte != 0) {
-            push_numbered(told, b"", line as u64 * 16)?;
-            told.extend_from_slice(b": ")?;
-            push_bytes(told, part)?;
-            told.extend_from_slice(b"\n")?;
+        if part != [0; 16].as_slice() {
+            told.numbered(b"", line as u64 * 16);
+            told.word(b": ");
+            told.bytes(part);
+            told.end_line();
         }
     }
-    Ok(())
 }
 
 /// Whether a number can stand in so many bytes.
@@ -63,93 +69,79 @@ fn is_within(number: u32, width: u8) -> bool
     }
 }
 
-fn write_number(rec: &mut Rec, at: u8, width: u8, number: u32) -> bool {
+/// Writes a number of the record in hand, unless it does not fit or its field does not lie in the record.
+fn write_number(rec: &mut Rec, at: u8, words: &mut Words<'_>, told: &mut Told) {
+    let width = words.byte();
+    let number = words.number();
     if !is_within(number, width) || at > 176 - width {
-        return false;
+        return told.not_allowed();
     }
     rec.write_number(Field { at, width }, number);
-    true
 }
 
-fn write_text(rec: &mut Rec, at: u8, width: u8, text: &[u8]) -> bool {
+/// Writes a text of the record in hand, unless it does not fit or its field does not lie in the record.
+fn write_text(alloc: Global, rec: &mut Rec, at: u8, words: &mut Words<'_>, told: &mut Told) {
+    let width = words.byte();
+    let Some(text) = told.got(words.text(alloc)) else {
+        return;
+    };
     if width > 176 || at > 176 - width || text.len() > usize::from(width) {
-        return false;
+        return told.not_allowed();
     }
-    rec.write_text(Field { at, width }, text);
-    true
+    rec.write_text(Field { at, width }, text.as_slice());
 }
 
-fn write_byte(rec: &mut Rec, at: u8, value: u8) -> bool {
+fn write_byte(rec: &mut Rec, at: u8, value: u8, told: &mut Told) {
     if at >= 176 {
-        return false;
+        return told.not_allowed();
     }
     rec.write_byte(at, value);
-    true
 }
 
 /// Takes a record in hand, if it is one.
-fn take_in_hand(rec: &mut Rec, made: Option<Rec>, told: &mut Vec<u8>) -> Result<(), AllocError> {
+fn take_in_hand(rec: &mut Rec, made: Option<Rec>, told: &mut Told) {
     match made {
-        None => push_line(told, b"NO RECORD"),
-        Some(made) => {
-            *rec = made;
-            Ok(())
-        }
+        None => told.line(b"NO RECORD"),
+        Some(made) => *rec = made,
     }
 }
 
-/// Writes a field of the record in hand, unless the field does not lie in it or what is written does not fit.
-fn write(
-    alloc: Global,
-    rec: &mut Rec,
-    verb: &[u8],
-    words: &mut Words<'_>,
-) -> Result<bool, AllocError> {
-    let at = words.byte();
-    match verb {
-        b"BYTE" => Ok(write_byte(rec, at, words.byte())),
-        b"NUMBER" => Ok(write_number(rec, at, words.byte(), words.number())),
-        _ => {
-            let width = words.byte();
-            let text = words.text(alloc)?;
-            Ok(write_text(rec, at, width, text.as_slice()))
-        }
+/// Takes the record in hand that so many bytes of a value are.
+fn take_all(alloc: Global, rec: &mut Rec, words: &mut Words<'_>, told: &mut Told) {
+    let count = usize::from(words.short());
+    let value = words.byte();
+    if let Some(bytes) = told.got(vec![in alloc; value; count]) {
+        take_in_hand(rec, read_rec(bytes.as_slice()), told);
     }
 }
 
 /// A number of the record in hand.
-fn push_field(told: &mut Vec<u8>, rec: &Rec, at: u8, width: u8) -> Result<(), AllocError> {
+fn tell_field(told: &mut Told, rec: &Rec, words: &mut Words<'_>) {
+    let at = words.byte();
+    let width = words.byte();
     if width > 4 || at > 176 - width {
-        return push_line(told, b"NOT ALLOWED");
+        return told.not_allowed();
     }
-    push_numbered(told, b"", u64::from(rec.number(Field { at, width })))?;
-    told.extend_from_slice(b"\n")
+    told.numbered_line(b"", u64::from(rec.number(Field { at, width })));
 }
 
-/// Does a command about the record in hand. Whether there is such a command.
+/// Does a command about the record in hand.
 pub(crate) fn on_record(
     alloc: Global,
     rec: &mut Rec,
-    verb: &[u8],
+    verb: RecordVerb,
     words: &mut Words<'_>,
-    told: &mut Vec<u8>,
-) -> Result<bool, AllocError> {
+    told: &mut Told,
+) {
     match verb {
-        b"ZEROS" => *rec = Rec::zeroed(),
-        b"PLACES" => take_in_hand(rec, places(words.byte()), told)?,
-        b"ALL" => {
-            let made = all(alloc, words.short(), words.byte())?;
-            take_in_hand(rec, made, told)?;
-        }
-        b"BYTE" | b"NUMBER" | b"TEXT" => {
-            if !write(alloc, rec, verb, words)? {
-                push_line(told, b"NOT ALLOWED")?;
-            }
-        }
-        b"SHOW" => push_record(told, rec.bytes())?,
-        b"FIELD" => push_field(told, rec, words.byte(), words.byte())?,
-        b"FIELDS" => push_fields(told, rec)?,
-        _ => return Ok(false),
+        RecordVerb::Zeros => *rec = Rec::zeroed(),
+        RecordVerb::Places => take_in_hand(rec, places(words.byte()), told),
+        RecordVerb::All => take_all(alloc, rec, words, told),
+        RecordVerb::Byte => write_byte(rec, words.byte(), words.byte(), told),
+        RecordVerb::Number => write_number(rec, words.byte(), words, told),
+        RecordVerb::Text => write_text(alloc, rec, words.byte(), words, told),
+        RecordVerb::Field => tell_field(told, rec, words),
+        RecordVerb::Fields => tell_fields(told, rec),
+        RecordVerb::Show => tell_record(told, rec.bytes()),
     }
-    Ok(true)
 }

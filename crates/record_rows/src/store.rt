@@ -1,14 +1,26 @@
 //! Records that are taken and given back, and what stands in them.
 ghost use Rattle.std.specs.Prelude.{◌≢◌};
 
-use crate::record::{push_record, with_bytes};
+use crate::record::{tell_record, with_bytes};
 use cb_meaning::layout::{LAYOUT_1, Layout};
 use cb_queue::list_store::ListStore;
 use cb_queue::store::RecordStore;
 use cb_records::rec::Rec;
-use row_table::told::{push_line, push_numbered, push_numbered_line};
+use row_table::told::Told;
 use row_table::words::Words;
 use std::alloc::{AllocError, Global};
+
+#[derive(Clone, Copy)]
+pub(crate) enum StoreVerb {
+    Take,
+    Give,
+    GiveAll,
+    Set,
+    Status,
+    Record,
+    Free,
+    Most,
+}
 
 /// A store of so few records.
 const FEW: Layout = Layout {
@@ -22,22 +34,17 @@ pub(crate) fn few_records(alloc: Global) -> Result<ListStore, AllocError> {
 }
 
 /// Takes so many records for a job, and tells their numbers.
-fn take<S: RecordStore>(
-    store: &mut S,
-    owner: u16,
-    count: u16,
-    told: &mut Vec<u8>,
-) -> Result<(), AllocError>
+fn take<S: RecordStore>(store: &mut S, owner: u16, count: u16, told: &mut Told)
     requires { owner ≢ 0 }
 {
-    told.extend_from_slice(b"TAKEN")?;
+    told.word(b"TAKEN");
     for _ in 0..count {
         match store.take_free(owner) {
-            None => told.extend_from_slice(b" NONE")?,
-            Some(n) => push_numbered(told, b" ", u64::from(n))?,
+            None => told.word(b" NONE"),
+            Some(n) => told.numbered(b" ", u64::from(n)),
         }
     }
-    told.extend_from_slice(b"\n")
+    told.end_line();
 }
 
 /// Writes a record in use anew, if it keeps its owner.
@@ -76,78 +83,79 @@ fn write_status<S: RecordStore>(store: &mut S, n: u32, text: &[u8]) -> bool {
 }
 
 /// Gives a record back, if it is in use.
-fn give_back<S: RecordStore>(store: &mut S, n: u32) -> bool {
+fn give_back<S: RecordStore>(store: &mut S, n: u32, told: &mut Told) {
     if store.get(n).is_none() {
-        return false;
+        return told.not_allowed();
     }
     store.give_back(n);
-    true
 }
 
 /// The bytes of a record in use. What stands in its link is the store's own, and not shown.
-fn push_record_of<S: RecordStore>(store: &S, n: u32, told: &mut Vec<u8>) -> Result<(), AllocError> {
+fn tell_record_of<S: RecordStore>(store: &S, n: u32, told: &mut Told) {
     match store.get(n) {
-        None => push_line(told, b"NONE"),
-        Some(rec) => match with_bytes(rec, 4, &[0, 0]) {
-            None => Ok(()),
-            Some(unlinked) => push_record(told, unlinked.bytes()),
-        },
+        None => told.line(b"NONE"),
+        Some(rec) => {
+            if let Some(unlinked) = with_bytes(rec, 4, &[0, 0]) {
+                tell_record(told, unlinked.bytes());
+            }
+        }
     }
-}
-
-/// Tells what was not allowed.
-pub(crate) fn allow(told: &mut Vec<u8>, allowed: bool) -> Result<(), AllocError> {
-    if allowed {
-        return Ok(());
-    }
-    push_line(told, b"NOT ALLOWED")
 }
 
 /// Takes records for an owner, or gives all of its records back.
-fn on_owner<S: RecordStore>(
-    store: &mut S,
-    verb: &[u8],
-    words: &mut Words<'_>,
-    told: &mut Vec<u8>,
-) -> Result<(), AllocError> {
+fn on_owner<S: RecordStore>(store: &mut S, takes: bool, words: &mut Words<'_>, told: &mut Told) {
     let owner = words.short();
     if owner == 0 {
-        return allow(told, false);
+        return told.not_allowed();
     }
-    match verb {
-        b"TAKE" => take(store, owner, words.short(), told),
-        _ => {
-            store.give_back_all(owner);
-            Ok(())
-        }
+    if takes {
+        take(store, owner, words.short(), told);
+    } else {
+        store.give_back_all(owner);
     }
 }
 
-/// Does a command about the records of a store. Whether there is such a command.
+/// Writes bytes of a record from a place on.
+fn set<S: RecordStore>(alloc: Global, store: &mut S, words: &mut Words<'_>, told: &mut Told) {
+    let n = words.number();
+    let at = words.byte();
+    if let Some(bytes) = told.got(words.text(alloc))
+        && !set_bytes(store, n, at, bytes.as_slice())
+    {
+        told.not_allowed();
+    }
+}
+
+fn set_status<S: RecordStore>(
+    alloc: Global,
+    store: &mut S,
+    words: &mut Words<'_>,
+    told: &mut Told,
+) {
+    let n = words.number();
+    if let Some(status) = told.got(words.text(alloc))
+        && !write_status(store, n, status.as_slice())
+    {
+        told.not_allowed();
+    }
+}
+
+/// Does a command about the records of a store.
 pub(crate) fn on_store<S: RecordStore>(
     alloc: Global,
     store: &mut S,
-    verb: &[u8],
+    verb: StoreVerb,
     words: &mut Words<'_>,
-    told: &mut Vec<u8>,
-) -> Result<bool, AllocError> {
+    told: &mut Told,
+) {
     match verb {
-        b"GIVE" => allow(told, give_back(store, words.number()))?,
-        b"SET" => {
-            let (n, at) = (words.number(), words.byte());
-            let bytes = words.text(alloc)?;
-            allow(told, set_bytes(store, n, at, bytes.as_slice()))?;
-        }
-        b"STATUS" => {
-            let n = words.number();
-            let status = words.text(alloc)?;
-            allow(told, write_status(store, n, status.as_slice()))?;
-        }
-        b"RECORD" => push_record_of(store, words.number(), told)?,
-        b"FREE" => push_numbered_line(told, b"FREE ", u64::from(store.free_count()))?,
-        b"MOST" => push_numbered_line(told, b"MOST ", u64::from(store.layout().most_records))?,
-        b"TAKE" | b"GIVE-ALL" => on_owner(store, verb, words, told)?,
-        _ => return Ok(false),
+        StoreVerb::Take => on_owner(store, true, words, told),
+        StoreVerb::Give => give_back(store, words.number(), told),
+        StoreVerb::GiveAll => on_owner(store, false, words, told),
+        StoreVerb::Set => set(alloc, store, words, told),
+        StoreVerb::Status => set_status(alloc, store, words, told),
+        StoreVerb::Record => tell_record_of(store, words.number(), told),
+        StoreVerb::Free => told.numbered_line(b"FREE ", u64::from(store.free_count())),
+        StoreVerb::Most => told.numbered_line(b"MOST ", u64::from(store.layout().most_records)),
     }
-    Ok(true)
 }

@@ -1,37 +1,50 @@
 //! Each byte of a record, from the eighth on, set to a value.
-use crate::job::push_read;
-use crate::store::{allow, put, set_bytes};
+use crate::job::tell_read;
+use crate::store::{put, set_bytes};
 use cb_queue::list_store::ListStore;
 use cb_queue::store::RecordStore;
-use row_table::told::{push_line, push_numbered, push_numbered_line, push_two};
-use std::alloc::{AllocError, Global};
+use row_table::told::Told;
+use row_table::words::{Lines, Words};
+use std::alloc::Global;
 
 /// The lines that are others than those before.
-fn push_others(told: &mut Vec<u8>, before: &[u8], now: &[u8]) -> Result<(), AllocError> {
-    push_line(told, b"reads")?;
-    let mut before = before.split(|byte| *byte == b'\n');
-    for line in now.split(|byte| *byte == b'\n') {
-        if before.next() != Some(line) {
-            push_two(told, b"  ", line)?;
-            told.extend_from_slice(b"\n")?;
+fn tell_others(told: &mut Told, before: &[u8], now: &[u8]) {
+    told.line(b"reads");
+    let mut before = Lines::new(before);
+    let mut now = Lines::new(now);
+    for _ in 0..now.len() {
+        let was = before.next_line();
+        let Some(line) = now.next_line() else {
+            break;
+        };
+        if was != Some(line) {
+            told.line_of_two(b"  ", line);
         }
     }
-    Ok(())
 }
 
-/// What is told of job 1 from record 1 on, with two lists of volumes: `same` as before, its other lines, or its fault.
-fn now_told(alloc: Global, store: &ListStore, before: &[u8]) -> Result<Vec<u8>, AllocError> {
-    let mut now = Vec::new(alloc);
-    push_read(alloc, store, 2, 1, 1, &mut now)?;
-    let mut told = Vec::new(alloc);
+/// What is told of job 1 from record 1 on, with two lists of volumes.
+fn read(alloc: Global, store: &ListStore) -> Told {
+    let mut told = Told::new(alloc);
+    tell_read(alloc, store, 2, 1, 1, &mut told);
+    told
+}
+
+/// What is told of the job: `same` as before, its other lines, or its fault.
+fn now_told(alloc: Global, store: &ListStore, before: &[u8]) -> Told {
+    let mut told = Told::new(alloc);
+    let now = read(alloc, store);
     if now.as_slice() == before {
-        push_line(&mut told, b"same")?;
-    } else if now.starts_with(b"job ") {
-        push_others(&mut told, before, now.as_slice())?;
+        told.line(b"same");
+    } else if now.as_slice().starts_with(b"job ") {
+        tell_others(&mut told, before, now.as_slice());
     } else {
-        told.extend_from_slice(now.as_slice())?;
+        told.word(now.as_slice());
     }
-    Ok(told)
+    if now.is_wanting() {
+        told.want();
+    }
+    told
 }
 
 /// What is told where a byte of a record is another; it is as it was again.
@@ -42,50 +55,58 @@ fn told_with(
     at: u8,
     value: u8,
     before: &[u8],
-) -> Result<Vec<u8>, AllocError> {
+) -> Told {
     let was = match store.get(n) {
-        None => return Ok(Vec::new(alloc)),
+        None => return Told::new(alloc),
         Some(rec) => *rec,
     };
     set_bytes(store, n, at, &[value]);
-    let told = now_told(alloc, store, before)?;
+    let told = now_told(alloc, store, before);
     put(store, n, &was);
-    Ok(told)
+    told
 }
 
 /// Neighbouring bytes, and what is told of each.
-fn push_run(told: &mut Vec<u8>, from: u8, to: u8, run: &[u8]) -> Result<(), AllocError> {
-    push_numbered(told, b"", u64::from(from))?;
+fn tell_run(told: &mut Told, from: u8, to: u8, run: &Told) {
+    told.numbered(b"", u64::from(from));
     if from != to {
-        push_numbered(told, b"-", u64::from(to))?;
+        told.numbered(b"-", u64::from(to));
     }
-    push_two(told, b" ", run)
+    told.two(b" ", run.as_slice());
+    if run.is_wanting() {
+        told.want();
+    }
 }
 
 /// What is told where each byte of a record in turn has a value.
-pub(crate) fn push_sweep(
-    alloc: Global,
-    store: &mut ListStore,
-    n: u32,
-    value: u8,
-    told: &mut Vec<u8>,
-) -> Result<(), AllocError> {
-    if store.get(n).is_none() {
-        return allow(told, false);
-    }
-    push_numbered(told, b"RECORD ", u64::from(n))?;
-    push_numbered_line(told, b" VALUE ", u64::from(value))?;
-    let mut before = Vec::new(alloc);
-    push_read(alloc, store, 2, 1, 1, &mut before)?;
+fn tell_bytes(alloc: Global, store: &mut ListStore, n: u32, value: u8, told: &mut Told) {
+    let before = read(alloc, store);
     let mut from = 8u8;
-    let mut run = told_with(alloc, store, n, from, value, before.as_slice())?;
+    let mut run = told_with(alloc, store, n, from, value, before.as_slice());
     for at in 9..176u8 {
-        let now = told_with(alloc, store, n, at, value, before.as_slice())?;
+        let now = told_with(alloc, store, n, at, value, before.as_slice());
         if now.as_slice() != run.as_slice() {
-            push_run(told, from, at - 1, run.as_slice())?;
+            tell_run(told, from, at - 1, &run);
             from = at;
             run = now;
         }
     }
-    push_run(told, from, 175, run.as_slice())
+    tell_run(told, from, 175, &run);
+}
+
+/// Sets each byte of a record in turn to a value.
+pub(crate) fn tell_sweep(
+    alloc: Global,
+    store: &mut ListStore,
+    words: &mut Words<'_>,
+    told: &mut Told,
+) {
+    let n = words.number();
+    let value = words.byte();
+    if store.get(n).is_none() {
+        return told.not_allowed();
+    }
+    told.numbered(b"RECORD ", u64::from(n));
+    told.numbered_line(b" VALUE ", u64::from(value));
+    tell_bytes(alloc, store, n, value, told);
 }

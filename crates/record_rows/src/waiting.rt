@@ -1,76 +1,76 @@
 //! Jobs that wait, and which of them is selected.
-use crate::store::allow;
 use admit_core::selecting::select;
 use cb_queue::store::RecordStore;
 use queue_core::queue::Queued;
-use row_table::told::{push_line, push_numbered, push_numbered_line, push_two};
+use row_table::told::Told;
 use row_table::words::Words;
-use std::alloc::{AllocError, Global};
+use std::alloc::Global;
+
+#[derive(Clone, Copy)]
+pub(crate) enum WaitingVerb {
+    Wait,
+    Waiting,
+    First,
+    Select,
+    Remove,
+}
 
 /// A job that waits: its number and that of its first record, its class and its priority.
-fn push_queued(told: &mut Vec<u8>, queued: Option<Queued>) -> Result<(), AllocError> {
+fn tell_queued(told: &mut Told, queued: Option<Queued>) {
     let Some(queued) = queued else {
-        return push_line(told, b"NONE");
+        return told.line(b"NONE");
     };
-    push_numbered(told, b"JOB ", u64::from(queued.job))?;
-    push_numbered(told, b" RECORD ", u64::from(queued.jct))?;
-    push_two(told, b" CLASS ", &[queued.class])?;
-    push_numbered_line(told, b" PRTY ", u64::from(queued.priority))
+    told.numbered(b"JOB ", u64::from(queued.job));
+    told.numbered(b" RECORD ", u64::from(queued.jct));
+    told.two(b" CLASS ", &[queued.class]);
+    told.numbered_line(b" PRTY ", u64::from(queued.priority));
 }
 
 /// The first byte of what is left of a line.
-fn class_of(alloc: Global, words: &mut Words<'_>) -> Result<u8, AllocError> {
-    let text = words.text(alloc)?;
-    match text.first() {
-        Some(class) => Ok(*class),
-        None => {
-            words.refuse();
-            Ok(0)
-        }
+fn class_of(alloc: Global, words: &mut Words<'_>, told: &mut Told) -> u8 {
+    let text = told.got(words.text(alloc));
+    if let Some(text) = text
+        && let Some(class) = text.first()
+    {
+        return *class;
     }
+    words.refuse();
+    0
 }
 
 /// Lets a job wait where nobody waits yet, which is all that a text can be sure of: each job has to be behind all others.
-fn wait<S: RecordStore>(
-    alloc: Global,
-    store: &mut S,
-    words: &mut Words<'_>,
-) -> Result<bool, AllocError> {
-    let (job, jct, priority) = (words.short(), words.number(), words.byte());
-    let class = class_of(alloc, words)?;
+fn wait<S: RecordStore>(alloc: Global, store: &mut S, words: &mut Words<'_>, told: &mut Told) {
+    let job = words.short();
+    let jct = words.number();
+    let priority = words.byte();
+    let class = class_of(alloc, words, told);
     if store.waiting_count() != 0 {
-        return Ok(false);
+        return told.not_allowed();
     }
-    store.enter(Queued {
+    told.over(store.enter(Queued {
         job,
         jct,
         class,
         priority,
-    })?;
-    Ok(true)
+    }));
 }
 
-/// Does a command about the jobs that wait. Whether there is such a command.
+/// Does a command about the jobs that wait.
 pub(crate) fn on_waiting<S: RecordStore>(
     alloc: Global,
     store: &mut S,
-    verb: &[u8],
+    verb: WaitingVerb,
     words: &mut Words<'_>,
-    told: &mut Vec<u8>,
-) -> Result<bool, AllocError> {
+    told: &mut Told,
+) {
     match verb {
-        b"WAIT" => {
-            let waits = wait(alloc, store, words)?;
-            allow(told, waits)?;
+        WaitingVerb::Wait => wait(alloc, store, words, told),
+        WaitingVerb::Waiting => told.numbered_line(b"WAITING ", store.waiting_count() as u64),
+        WaitingVerb::First => {
+            let class = class_of(alloc, words, told);
+            tell_queued(told, store.first(class));
         }
-        b"WAITING" => push_numbered_line(told, b"WAITING ", store.waiting_count() as u64)?,
-        b"FIRST" => {
-            let class = class_of(alloc, words)?;
-            push_queued(told, store.first(class))?;
-        }
-        b"SELECT" => push_queued(told, select(store, words.next_word()))?,
-        b"REMOVE" => push_queued(told, store.remove(words.short()))?,
-        _ => return Ok(false),
+        WaitingVerb::Select => tell_queued(told, select(store, words.next_word())),
+        WaitingVerb::Remove => tell_queued(told, store.remove(words.short())),
     }
-    Ok(true)
 }

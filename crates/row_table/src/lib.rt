@@ -2,7 +2,9 @@
 #![tactic(auto)]
 
 pub mod check;
+pub mod desk;
 pub mod escapes;
+pub mod names;
 pub mod table;
 pub mod told;
 pub mod words;

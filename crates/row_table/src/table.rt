@@ -1,6 +1,6 @@
 //! A table: what stands before its first row is a remark. A row is a line `== NAME`, what is put in, a line `=>`, and what is wanted,
 //! up to the next row; blank lines at the end of either are no part of it.
-ghost use Rattle.std.specs.Prelude.{◌<◌, ◌≤◌, ◌+◌, length};
+ghost use Rattle.std.specs.Prelude.{◌<◌, ◌≤◌, ◌+◌, IfSome, length};
 
 /// A row of a table.
 #[derive(Clone, Copy)]
@@ -16,12 +16,19 @@ pub struct Table<'a> {
     rest: &'a [u8],
 }
 
+/// The place of the first such byte.
+pub(crate) fn place_of_byte(text: &[u8], byte: u8) -> Option<usize>
+    ensures { IfSome result (λ at. at < length text.now) }
+{
+    text.iter().position(|b| *b == byte)
+}
+
 /// The place behind the first line of a text.
 fn line_end(text: &[u8]) -> usize
     ensures within { result ≤ length text.now }
     ensures some { 0 < length text.now → 0 < result }
 {
-    match text.iter().position(|b| *b == b'\n') {
+    match place_of_byte(text, b'\n') {
         None => text.len(),
         Some(at) => at + 1,
     }

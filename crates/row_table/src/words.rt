@@ -1,11 +1,13 @@
 //! The lines of an input, and the words of a line.
 use crate::escapes::unescaped;
+use crate::table::place_of_byte;
+use crate::told::Told;
 use std::alloc::{AllocError, Global};
 
 /// What stands before the first such byte, and what stands behind it.
 fn split_first(text: &[u8], byte: u8) -> (&[u8], &[u8]) {
-    match text.iter().position(|b| *b == byte) {
-        None => text.split_at(text.len()),
+    match place_of_byte(text, byte) {
+        None => (text, &[]),
         Some(at) => (&text[..at], &text[at + 1..]),
     }
 }
@@ -42,6 +44,16 @@ impl<'a> Lines<'a> {
 pub struct Words<'a> {
     rest: &'a [u8],
     is_wrong: bool,
+}
+
+/// The value of a text, where the table has it.
+pub fn value_of<V: Copy>(table: &[(&str, V)], text: &[u8]) -> Option<V> {
+    for (name, value) in table {
+        if name.as_bytes() == text {
+            return Some(*value);
+        }
+    }
+    None
 }
 
 /// The number that a text of digits is.
@@ -86,6 +98,18 @@ impl<'a> Words<'a> {
         word
     }
 
+    /// What a word was understood as. Where there is none, the line is not understood.
+    pub fn some<V>(&mut self, value: Option<V>) -> Option<V> {
+        self.is_wrong |= value.is_none();
+        value
+    }
+
+    /// Takes the next word as one of a table.
+    pub fn one_of<V: Copy>(&mut self, table: &[(&str, V)]) -> Option<V> {
+        let word = self.next_word();
+        self.some(value_of(table, word))
+    }
+
     /// Takes the next word as a number, 0 where it is none.
     pub fn number(&mut self) -> u32 {
         match number_of(self.next_word()) {
@@ -95,6 +119,16 @@ impl<'a> Words<'a> {
                 0
             }
         }
+    }
+
+    /// Takes the next word as a number, or none of `-`.
+    pub fn some_number(&mut self) -> Option<u32> {
+        let mut ahead = *self;
+        if ahead.next_word() == b"-".as_slice() {
+            *self = ahead;
+            return None;
+        }
+        Some(self.number())
     }
 
     /// Takes the next word as a number of two bytes, 0 where it is none.
@@ -119,10 +153,24 @@ impl<'a> Words<'a> {
         }
     }
 
+    /// Takes what is left of the line, as it stands.
+    pub fn left(&mut self) -> &'a [u8] {
+        let left = self.rest;
+        self.rest = &[];
+        left
+    }
+
     /// Takes what is left of the line as a text, in which `\XY` stands for the byte of these two digits of sixteen.
     pub fn text(&mut self, alloc: Global) -> Result<Vec<u8>, AllocError> {
         let text = unescaped(alloc, self.rest)?;
         self.rest = &[];
         Ok(text)
+    }
+
+    /// Ends the line: a word of it that was not understood, or that is left, is told.
+    pub fn end(&self, line: &[u8], told: &mut Told) {
+        if self.is_wrong || !self.rest.is_empty() {
+            told.not_understood(line);
+        }
     }
 }

@@ -1,116 +1,136 @@
 //! What a row asks for, by commands.
 use crate::streams::{Calls, Failure};
+use row_table::words::{Words, value_of};
 use session_core::{Options, RiskChoice};
 use session_text::statement::Ending;
 
 /// Which calls fail, one after another.
-#[derive(Clone, Copy, PartialEq, Eq)]
-pub enum Failing {
+#[derive(Clone, Copy)]
+pub(crate) enum Failing {
     Reads,
     Writes,
 }
 
 /// What is asked for.
 #[derive(Clone, Copy)]
-pub struct Asked {
-    pub options: Options,
-    pub reads: Calls,
-    pub writes: Calls,
+pub(crate) struct Asked {
+    pub(crate) options: Options,
+    pub(crate) reads: Calls,
+    pub(crate) writes: Calls,
     /// How many lines of the listing's end are told, where not all are.
-    pub last: Option<usize>,
+    pub(crate) last: Option<usize>,
     /// Whether it is told how often the reader and the writer were called.
-    pub counts: bool,
+    pub(crate) counts: bool,
     /// Whether the session is run for each call, which fails.
-    pub failing: Option<Failing>,
+    pub(crate) failing: Option<Failing>,
     /// Whether the events are driven one after another too.
-    pub driven: bool,
+    pub(crate) driven: bool,
     /// How the text ends, where its statements are told and it is not run.
-    pub statements: Option<Ending>,
+    pub(crate) statements: Option<Ending>,
+}
+
+/// A command without a number.
+#[derive(Clone, Copy)]
+enum Command {
+    Risk(RiskChoice),
+    Calls,
+    Driven,
+    Statements(Ending),
+    Fails(Failing, Failure),
+}
+
+const COMMANDS: [(&str, Command); 12] = [
+    ("risk run", Command::Risk(RiskChoice::Run)),
+    ("risk refuse", Command::Risk(RiskChoice::Refuse)),
+    ("calls", Command::Calls),
+    ("driven", Command::Driven),
+    ("statements", Command::Statements(Ending::Whole)),
+    ("statements of a long text", Command::Statements(Ending::TooLong)),
+    ("statements of a cut text", Command::Statements(Ending::ReadFailed)),
+    ("each read fails", Command::Fails(Failing::Reads, Failure::Other)),
+    ("each read is interrupted", Command::Fails(Failing::Reads, Failure::Interrupted)),
+    ("each write fails", Command::Fails(Failing::Writes, Failure::Other)),
+    ("each write is interrupted", Command::Fails(Failing::Writes, Failure::Interrupted)),
+    ("each write takes nothing", Command::Fails(Failing::Writes, Failure::TakesNone)),
+];
+
+/// A command with a number.
+#[derive(Clone, Copy)]
+enum Numbered {
+    Views,
+    Read,
+    Write,
+    Last,
+}
+
+const NUMBERED: [(&str, Numbered); 4] = [
+    ("views", Numbered::Views),
+    ("read", Numbered::Read),
+    ("write", Numbered::Write),
+    ("last", Numbered::Last),
+];
+
+/// Calls of so many bytes at most, of which none fails.
+fn calls_of(most: usize) -> Calls {
+    Calls {
+        most,
+        fails_at: 0,
+        failure: Failure::Other,
+    }
+}
+
+/// What is asked for without a command.
+pub(crate) fn asked_first() -> Asked {
+    Asked {
+        options: Options {
+            risk: RiskChoice::Run,
+            views: 1024,
+        },
+        reads: calls_of(1),
+        writes: calls_of(usize::MAX),
+        last: None,
+        counts: false,
+        failing: None,
+        driven: false,
+        statements: None,
+    }
 }
 
 impl Asked {
-    /// What is asked for without a command.
-    pub fn new() -> Asked {
-        Asked {
-            options: Options {
-                risk: RiskChoice::Run,
-                views: 1024,
-            },
-            reads: Calls {
-                most: 1,
-                fails_at: 0,
-                failure: Failure::Other,
-            },
-            writes: Calls {
-                most: usize::MAX,
-                fails_at: 0,
-                failure: Failure::Other,
-            },
-            last: None,
-            counts: false,
-            failing: None,
-            driven: false,
-            statements: None,
-        }
-    }
-
-    /// Takes a command that has a number. `false` is no command.
-    fn take_number(&mut self, word: &str, number: u16) -> bool {
-        match word {
-            "views" => self.options.views = number,
-            "read" => self.reads.most = usize::from(number),
-            "write" => self.writes.most = usize::from(number),
-            "last" => self.last = Some(usize::from(number)),
-            _ => return false,
-        }
-        true
-    }
-
     fn fail(&mut self, failing: Failing, failure: Failure) {
         self.failing = Some(failing);
         self.reads.failure = failure;
         self.writes.failure = failure;
     }
 
-    /// Takes a command of calls that fail. `false` is another command.
-    fn take_failing(&mut self, command: &str) -> bool {
-        match command {
-            "each read fails" => self.fail(Failing::Reads, Failure::Other),
-            "each read is interrupted" => self.fail(Failing::Reads, Failure::Interrupted),
-            "each write fails" => self.fail(Failing::Writes, Failure::Other),
-            "each write is interrupted" => self.fail(Failing::Writes, Failure::Interrupted),
-            "each write takes nothing" => self.fail(Failing::Writes, Failure::TakesNone),
-            _ => return false,
+    /// Takes a command with a number.
+    fn take_number(&mut self, words: &mut Words<'_>) {
+        let verb = words.one_of(&NUMBERED);
+        let number = words.short();
+        match verb {
+            Some(Numbered::Views) => self.options.views = number,
+            Some(Numbered::Read) => self.reads.most = usize::from(number),
+            Some(Numbered::Write) => self.writes.most = usize::from(number),
+            Some(Numbered::Last) => self.last = Some(usize::from(number)),
+            None => {}
         }
-        true
     }
 
-    /// Takes a command of one word or more. `false` is another command.
-    fn take_words(&mut self, command: &str) -> bool {
+    /// Takes a command.
+    pub(crate) fn take(&mut self, words: &mut Words<'_>) {
+        let mut ahead = *words;
+        let command = value_of(&COMMANDS, ahead.left());
+        if command.is_none() {
+            return self.take_number(words);
+        }
+        *words = ahead;
         match command {
-            "risk run" => self.options.risk = RiskChoice::Run,
-            "risk refuse" => self.options.risk = RiskChoice::Refuse,
-            "calls" => self.counts = true,
-            "driven" => self.driven = true,
-            "statements" => self.statements = Some(Ending::Whole),
-            "statements of a long text" => self.statements = Some(Ending::TooLong),
-            "statements of a cut text" => self.statements = Some(Ending::ReadFailed),
-            _ => return self.take_failing(command),
-        }
-        true
-    }
-
-    /// Takes a command. `false` is no command.
-    pub fn take(&mut self, command: &str) -> bool {
-        if self.take_words(command) {
-            return true;
-        }
-        match command.split_once(' ') {
-            None => false,
-            Some((word, number)) => match number.parse::<u16>() {
-                Err(_) => false,
-                Ok(number) => self.take_number(word, number),
-            },
+            Some(Command::Risk(risk)) => self.options.risk = risk,
+            Some(Command::Calls) => self.counts = true,
+            Some(Command::Driven) => self.driven = true,
+            Some(Command::Statements(ending)) => self.statements = Some(ending),
+            Some(Command::Fails(failing, failure)) => self.fail(failing, failure),
+            None => {}
         }
     }
 }

@@ -104,7 +104,7 @@ fn drive(alloc: Global, config: Config, events: &[Event<'_>]) -> Result<Draft, A
 }
 
 /// The listing of a session whose events are driven one after another.
-pub fn list_driven(alloc: Global, text: &[u8]) -> Result<Draft, AllocError> {
+pub(crate) fn list_driven(alloc: Global, text: &[u8]) -> Result<Draft, AllocError> {
     let read = statements(alloc, text, Ending::Whole)?;
     let mut config = Config::new(alloc);
     let mut events = Vec::new(alloc);

@@ -1,9 +1,9 @@
 //! A session run as the program `mvt` runs it.
 use crate::commands::{Asked, Failing};
 use crate::streams::{Page, Parts};
-use crate::words::{digest_of, push_number};
+use row_table::told::Told;
 use session_core::{SessionEnd, SessionFault, run_session};
-use std::alloc::{AllocError, Global};
+use std::alloc::Global;
 
 /// What came of a session: its listing, how often its streams were called, and how it ended.
 #[derive(Drop)]
@@ -14,11 +14,11 @@ struct Outcome {
 }
 
 /// Runs a session once.
-fn run_once(alloc: Global, asked: &Asked, text: &[u8]) -> Result<Outcome, AllocError> {
+fn run_once(alloc: Global, asked: &Asked, text: &[u8], told: &mut Told) -> Option<Outcome> {
     let mut reader = Parts::new(text, asked.reads);
-    let mut page = Page::new(alloc, asked.writes)?;
+    let mut page = told.got(Page::new(alloc, asked.writes))?;
     let end = run_session(alloc, &mut reader, &mut page, asked.options);
-    Ok(Outcome {
+    Some(Outcome {
         page,
         reads: reader.calls,
         end,
@@ -31,166 +31,148 @@ fn is_beginning(text: &[u8], whole: &[u8]) -> bool {
 }
 
 /// Runs a session. Where memory is wanting, whole lines of its listing were written, which is told if it is not so, and it is run again.
-fn run_whole(
-    alloc: Global,
-    out: &mut Vec<u8>,
-    asked: &Asked,
-    text: &[u8],
-) -> Result<Outcome, AllocError> {
-    let first = run_once(alloc, asked, text)?;
+fn run_whole(alloc: Global, asked: &Asked, text: &[u8], told: &mut Told) -> Option<Outcome> {
+    let first = run_once(alloc, asked, text, told)?;
     if first.end != Err(SessionFault::Memory) {
-        return Ok(first);
+        return Some(first);
     }
-    let second = run_once(alloc, asked, text)?;
+    let second = run_once(alloc, asked, text, told)?;
     if !is_beginning(first.page.held.as_slice(), second.page.held.as_slice()) {
-        out.extend_from_slice(b"CHANGED\n")?;
+        told.line(b"CHANGED");
     }
-    Ok(second)
+    Some(second)
 }
 
-/// A word, and a number behind it.
-fn push_count(out: &mut Vec<u8>, word: &[u8], number: usize) -> Result<(), AllocError> {
-    out.extend_from_slice(word)?;
-    push_number(out, number as u64)
+/// How many lines a text has.
+fn lines_in(text: &[u8]) -> usize {
+    let mut lines = 0usize;
+    for byte in text {
+        if *byte == b'\n' {
+            lines = lines.saturating_add(1);
+        }
+    }
+    lines
+}
+
+/// The sum of all bytes times their places, which count from 1, modulo 2 ^ 32.
+fn digest_of(text: &[u8]) -> u32 {
+    let mut place = 0u32;
+    let mut sum = 0u32;
+    for byte in text {
+        place = place.wrapping_add(1);
+        sum = sum.wrapping_add(place.wrapping_mul(u32::from(*byte)));
+    }
+    sum
 }
 
 /// What stands behind so many lines.
-fn push_behind(out: &mut Vec<u8>, listing: &[u8], lines: usize) -> Result<(), AllocError> {
+fn tell_behind(told: &mut Told, listing: &[u8], lines: usize) {
     let mut left = lines;
     for (at, byte) in listing.iter().enumerate() {
         if left == 0 {
-            return out.extend_from_slice(&listing[at..]);
+            return told.word(&listing[at..]);
         }
         if *byte == b'\n' {
             left = left.saturating_sub(1);
         }
     }
-    Ok(())
 }
 
 /// The last lines of a listing, behind how many it has and its digest.
-fn push_last(out: &mut Vec<u8>, listing: &[u8], last: usize) -> Result<(), AllocError> {
-    let lines = listing.iter().filter(|b| **b == b'\n').count();
-    push_count(out, b"LINES ", lines)?;
-    push_count(out, b" DIGEST ", digest_of(listing) as usize)?;
-    out.push(b'\n')?;
-    push_behind(out, listing, lines.saturating_sub(last))
+fn tell_last(told: &mut Told, listing: &[u8], last: usize) {
+    let lines = lines_in(listing);
+    told.numbered(b"LINES ", lines as u64);
+    told.numbered_line(b" DIGEST ", u64::from(digest_of(listing)));
+    tell_behind(told, listing, lines.saturating_sub(last));
 }
 
 /// How the program ends, where it does not end well.
-fn push_end(out: &mut Vec<u8>, end: &Result<SessionEnd, SessionFault>) -> Result<(), AllocError> {
+fn tell_end(told: &mut Told, end: &Result<SessionEnd, SessionFault>) {
     let Err(fault) = end else {
-        return Ok(());
+        return;
     };
     match fault.number_and_line() {
-        None => out.extend_from_slice(b"status 3: out of memory\n"),
+        None => told.line(b"status 3: out of memory"),
         Some((number, line)) => {
-            push_count(out, b"status 1: session fault S", usize::from(number))?;
-            push_count(out, b" at line ", line)?;
-            out.push(b'\n')?;
-            Ok(())
+            told.numbered(b"status 1: session fault S", u64::from(number));
+            told.numbered_line(b" at line ", line as u64);
         }
     }
 }
 
-/// How often the reader and the writer were called.
-fn push_calls(out: &mut Vec<u8>, outcome: &Outcome) -> Result<(), AllocError> {
-    push_count(out, b"READS ", outcome.reads)?;
-    push_count(out, b" WRITES ", outcome.page.calls)?;
-    out.push(b'\n')?;
-    Ok(())
-}
-
 /// Runs a session, and tells its listing, or the end of it where that is asked for, and how the program ends.
-fn list(alloc: Global, out: &mut Vec<u8>, asked: &Asked, text: &[u8]) -> Result<(), AllocError> {
-    let outcome = run_whole(alloc, out, asked, text)?;
+fn list(alloc: Global, asked: &Asked, text: &[u8], told: &mut Told) {
+    let Some(outcome) = run_whole(alloc, asked, text, told) else {
+        return;
+    };
     match asked.last {
-        None => out.extend_from_slice(outcome.page.held.as_slice())?,
-        Some(last) => push_last(out, outcome.page.held.as_slice(), last)?,
+        None => told.word(outcome.page.held.as_slice()),
+        Some(last) => tell_last(told, outcome.page.held.as_slice(), last),
     }
-    push_end(out, &outcome.end)?;
+    tell_end(told, &outcome.end);
     if asked.counts {
-        push_calls(out, &outcome)?;
+        told.numbered(b"READS ", outcome.reads as u64);
+        told.numbered_line(b" WRITES ", outcome.page.calls as u64);
     }
-    Ok(())
 }
 
 /// What came of a session of which a call failed: the call, how often its stream was called, how many bytes of the listing were written, and
 /// how the program ends.
-fn push_failed(
-    out: &mut Vec<u8>,
-    outcome: &Outcome,
-    call: usize,
-    calls: usize,
-    whole: &[u8],
-) -> Result<(), AllocError> {
+fn tell_failed(told: &mut Told, outcome: &Outcome, call: usize, calls: usize, whole: &[u8]) {
     let held = outcome.page.held.as_slice();
-    push_count(out, b"call ", call)?;
+    told.numbered(b"call ", call as u64);
     if calls != call {
-        push_count(out, b" of ", calls)?;
+        told.numbered(b" of ", calls as u64);
     }
-    push_count(out, b", bytes ", held.len())?;
+    told.numbered(b", bytes ", held.len() as u64);
     if !whole.starts_with(held) {
-        out.extend_from_slice(b" that are no beginning")?;
+        told.word(b" that are no beginning");
     }
-    out.extend_from_slice(b", ")?;
-    push_end(out, &outcome.end)
+    told.word(b", ");
+    tell_end(told, &outcome.end);
 }
 
-/// Runs a session of which a call fails, and tells what came. `false` where there is no such call.
-fn list_failing(
-    alloc: Global,
-    out: &mut Vec<u8>,
-    asked: &Asked,
-    text: &[u8],
-    failing: Failing,
-    call: usize,
-    whole: &[u8],
-) -> Result<bool, AllocError> {
+/// How often the stream whose calls fail was called.
+fn calls_of(failing: Failing, outcome: &Outcome) -> usize {
+    match failing {
+        Failing::Reads => outcome.reads,
+        Failing::Writes => outcome.page.calls,
+    }
+}
+
+/// What is asked for where a call fails.
+fn failing_at(asked: &Asked, failing: Failing, call: usize) -> Asked {
     let mut asked = *asked;
     match failing {
         Failing::Reads => asked.reads.fails_at = call,
         Failing::Writes => asked.writes.fails_at = call,
     }
-    let outcome = run_whole(alloc, out, &asked, text)?;
-    let calls = match failing {
-        Failing::Reads => outcome.reads,
-        Failing::Writes => outcome.page.calls,
-    };
-    if calls < call {
-        return Ok(false);
-    }
-    push_failed(out, &outcome, call, calls, whole)?;
-    Ok(true)
+    asked
 }
 
 /// Runs a session once for each call, which fails.
-fn list_each(
-    alloc: Global,
-    out: &mut Vec<u8>,
-    asked: &Asked,
-    text: &[u8],
-    failing: Failing,
-) -> Result<(), AllocError> {
-    let whole = run_whole(alloc, out, asked, text)?;
+fn list_each(alloc: Global, asked: &Asked, text: &[u8], failing: Failing, told: &mut Told) {
+    let Some(whole) = run_whole(alloc, asked, text, told) else {
+        return;
+    };
     for call in 1..u16::MAX {
-        let whole = whole.page.held.as_slice();
-        if !list_failing(alloc, out, asked, text, failing, usize::from(call), whole)? {
-            return Ok(());
+        let call = usize::from(call);
+        let asked = failing_at(asked, failing, call);
+        let Some(outcome) = run_whole(alloc, &asked, text, told) else {
+            return;
+        };
+        let calls = calls_of(failing, &outcome);
+        if calls < call {
+            return;
         }
+        tell_failed(told, &outcome, call, calls, whole.page.held.as_slice());
     }
-    Ok(())
 }
 
 /// Runs a session as it is asked for, and tells what came.
-pub fn tell_runs(
-    alloc: Global,
-    out: &mut Vec<u8>,
-    asked: &Asked,
-    text: &[u8],
-) -> Result<(), AllocError> {
+pub(crate) fn tell_runs(alloc: Global, asked: &Asked, text: &[u8], told: &mut Told) {
     match asked.failing {
-        None => list(alloc, out, asked, text),
-        Some(failing) => list_each(alloc, out, asked, text, failing),
+        None => list(alloc, asked, text, told),
+        Some(failing) => list_each(alloc, asked, text, failing, told),
     }
 }

@@ -7,64 +7,47 @@ mod listing;
 mod row;
 mod statements;
 mod streams;
-mod words;
 
 use crate::commands::Asked;
 use crate::driven::list_driven;
 use crate::listing::tell_runs;
-use crate::row::Row;
-use crate::statements::push_statements;
+use crate::row::new_row;
+use crate::statements::tell_statements;
 use row_table::check::{Subject, check_tables};
-use std::alloc::{AllocError, Global};
+use row_table::escapes::unescaped;
+use row_table::told::Told;
+use std::alloc::Global;
+use std::io;
 use std::process::ExitCode;
-use std::{io, str};
 
 /// Sessions, and what is told of each.
 struct Sessions;
 
 /// Tells the listing of a session, and that of its events where these are driven one after another and list something else.
-fn tell_listing(
-    alloc: Global,
-    asked: &Asked,
-    text: &[u8],
-    told: &mut Vec<u8>,
-) -> Result<(), AllocError> {
-    tell_runs(alloc, told, asked, text)?;
-    if asked.driven {
-        let driven = list_driven(alloc, text)?;
-        if driven.kept() != told.as_slice() {
-            told.extend_from_slice(b"DRIVEN\n")?;
-            told.extend_from_slice(driven.kept())?;
-        }
-    }
-    Ok(())
-}
-
-/// Tells what a row asks for.
-fn tell(alloc: Global, input: &[u8], told: &mut Vec<u8>) -> Result<(), AllocError> {
-    let Ok(text) = str::from_utf8(input) else {
-        return told.extend_from_slice(b"? bytes that are no text\n");
-    };
-    let mut row = Row::new(alloc);
-    for line in text.lines() {
-        row.take_line(alloc, line, told)?;
-    }
-    let (asked, text) = row.read(alloc)?;
-    match asked.statements {
-        Some(ending) => push_statements(alloc, told, text.as_slice(), ending),
-        None => tell_listing(alloc, &asked, text.as_slice(), told),
+fn tell_listing(alloc: Global, asked: &Asked, text: &[u8], told: &mut Told) {
+    tell_runs(alloc, asked, text, told);
+    if asked.driven
+        && let Some(driven) = told.got(list_driven(alloc, text))
+        && driven.kept() != told.as_slice()
+    {
+        told.line_of_two(b"DRIVEN\n", driven.kept());
     }
 }
 
 impl Subject for Sessions {
-    /// Where memory is wanting it is told anew.
-    fn answer(&self, alloc: Global, input: &[u8], told: &mut Vec<u8>) -> Result<(), AllocError> {
-        match tell(alloc, input, told) {
-            Ok(()) => Ok(()),
-            Err(_) => {
-                told.clear();
-                tell(alloc, input, told)
-            }
+    /// Tells what a row asks for.
+    fn answer(&self, alloc: Global, input: &[u8], told: &mut Told) {
+        let mut row = new_row(alloc);
+        row.take(input, told);
+        if row.text.is_wanting() {
+            told.want();
+        }
+        let Some(text) = told.got(unescaped(alloc, row.text.as_slice())) else {
+            return;
+        };
+        match row.asked.statements {
+            Some(ending) => tell_statements(alloc, told, text.as_slice(), ending),
+            None => tell_listing(alloc, &row.asked, text.as_slice(), told),
         }
     }
 }

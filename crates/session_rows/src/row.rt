@@ -1,131 +1,142 @@
 //! The input of a row: lines of a session, and commands, which are lines that begin with `!`.
-use crate::commands::Asked;
-use crate::words::push_padded;
-use row_table::escapes::unescaped;
-use std::alloc::{AllocError, Global};
-
-/// The lines between `!times N` and `!end`, which stand N times in the session.
-#[derive(Drop)]
-struct Block<'a> {
-    times: u16,
-    lines: Vec<&'a str>,
-}
+use crate::commands::{Asked, asked_first};
+use itoa::Buffer;
+use row_table::told::Told;
+use row_table::words::{Lines, Words};
+use std::alloc::Global;
 
 /// What was read of a row.
 #[derive(Drop)]
-pub struct Row<'a> {
-    asked: Asked,
-    text: Vec<u8>,
-    block: Option<Block<'a>>,
+pub(crate) struct Row {
+    pub(crate) asked: Asked,
+    pub(crate) text: Told,
+    /// The lines between `!times N` and `!end`.
+    block: Told,
+    /// How often these stand in the session; none outside of a block.
+    times: Option<u16>,
 }
 
-/// A number in as many digits as there are `#` before the text, and one, and then the text behind these.
-fn push_part(out: &mut Vec<u8>, part: &str, number: u16) -> Result<(), AllocError> {
-    let text = part.trim_start_matches('#');
-    let digits = part.len().saturating_sub(text.len()).saturating_add(1);
-    push_padded(out, u64::from(number), digits)?;
-    out.extend_from_slice(text.as_bytes())
+#[derive(Clone, Copy)]
+enum Mark {
+    Times,
+    End,
+}
+
+const MARKS: [(&str, Mark); 2] = [("times", Mark::Times), ("end", Mark::End)];
+
+/// A number in so many digits at least.
+fn tell_padded(text: &mut Told, number: u16, digits: usize) {
+    let mut buffer = Buffer::new();
+    let shown = buffer.format(u64::from(number)).as_bytes();
+    for _ in shown.len()..digits {
+        text.word(b"0");
+    }
+    text.word(shown);
+}
+
+/// How many `#` a text begins with.
+fn hashes(text: &[u8]) -> usize {
+    for (at, byte) in text.iter().enumerate() {
+        if *byte != b'#' {
+            return at;
+        }
+    }
+    text.len()
 }
 
 /// A line in which `\#` stands for a number, and `\###` for one in three digits.
-fn push_numbered(out: &mut Vec<u8>, line: &str, number: u16) -> Result<(), AllocError> {
-    for (i, part) in line.split("\\#").enumerate() {
-        if i == 0 {
-            out.extend_from_slice(part.as_bytes())?;
+fn tell_numbered(text: &mut Told, line: &[u8], number: u16) {
+    let mut rest = line;
+    for _ in 0..line.len() {
+        let Some((byte, more)) = rest.split_first() else {
+            break;
+        };
+        let digits = hashes(more);
+        if *byte == b'\\' && digits > 0 {
+            tell_padded(text, number, digits);
+            rest = more.split_at(digits.min(more.len())).1;
         } else {
-            push_part(out, part, number)?;
+            text.word(&[*byte]);
+            rest = more;
         }
     }
-    out.push(b'\n')?;
-    Ok(())
+    text.end_line();
 }
 
-fn push_block(out: &mut Vec<u8>, lines: &[&str], number: u16) -> Result<(), AllocError> {
-    for line in lines {
-        push_numbered(out, line, number)?;
-    }
-    Ok(())
-}
-
-/// A block as often as it says, with its running number.
-fn push_times(out: &mut Vec<u8>, block: &Block<'_>) -> Result<(), AllocError> {
-    for number in 0..block.times {
-        push_block(out, block.lines.as_slice(), number + 1)?;
-    }
-    Ok(())
-}
-
-impl<'a> Row<'a> {
-    pub fn new(alloc: Global) -> Row<'a> {
-        Row {
-            asked: Asked::new(),
-            text: Vec::new(alloc),
-            block: None,
-        }
-    }
-
-    /// Takes a line of the session.
-    fn take_text(&mut self, line: &'a str) -> Result<(), AllocError> {
-        match &mut self.block {
-            Some(block) => block.lines.push(line)?,
-            None => {
-                self.text.extend_from_slice(line.as_bytes())?;
-                self.text.push(b'\n')?;
-            }
-        }
-        Ok(())
-    }
-
-    /// Ends a block. `false` is an end of none.
-    fn end_block(&mut self) -> Result<bool, AllocError> {
-        match self.block.take() {
-            None => Ok(false),
-            Some(block) => {
-                push_times(&mut self.text, &block)?;
-                Ok(true)
-            }
-        }
-    }
-
-    /// Takes a command. `false` is no command.
-    fn take_command(&mut self, alloc: Global, command: &str) -> Result<bool, AllocError> {
-        if command == "end" {
-            return self.end_block();
-        }
-        let Some(times) = command.strip_prefix("times ") else {
-            return Ok(self.asked.take(command));
+/// The lines of a block, with its running number.
+fn tell_block(text: &mut Told, block: &[u8], number: u16) {
+    let mut lines = Lines::new(block);
+    for _ in 0..block.len() {
+        let Some(line) = lines.next_line() else {
+            break;
         };
-        let Ok(times) = times.parse::<u16>() else {
-            return Ok(false);
+        tell_numbered(text, line, number);
+    }
+}
+
+pub(crate) fn new_row(alloc: Global) -> Row {
+    Row {
+        asked: asked_first(),
+        text: Told::new(alloc),
+        block: Told::new(alloc),
+        times: None,
+    }
+}
+
+impl Row {
+    /// Ends a block, which stands in the session as often as it says.
+    fn end_block(&mut self, words: &mut Words<'_>) {
+        let Some(times) = self.times else {
+            return words.refuse();
         };
-        self.block = Some(Block {
-            times,
-            lines: Vec::new(alloc),
-        });
-        Ok(true)
+        for number in 0..times {
+            tell_block(&mut self.text, self.block.as_slice(), number + 1);
+        }
+        if self.block.is_wanting() {
+            self.text.want();
+        }
+        self.block.go_back(0);
+        self.times = None;
+    }
+
+    /// Takes a command.
+    fn take_command(&mut self, words: &mut Words<'_>) {
+        let mut ahead = *words;
+        match ahead.one_of(&MARKS) {
+            Some(Mark::Times) => {
+                *words = ahead;
+                self.times = Some(words.short());
+            }
+            Some(Mark::End) => {
+                *words = ahead;
+                self.end_block(words);
+            }
+            None => self.asked.take(words),
+        }
     }
 
     /// Takes a line. A command that is none is told.
-    pub fn take_line(
-        &mut self,
-        alloc: Global,
-        line: &'a str,
-        told: &mut Vec<u8>,
-    ) -> Result<(), AllocError> {
-        let Some(command) = line.strip_prefix('!') else {
-            return self.take_text(line);
-        };
-        if !self.take_command(alloc, command)? {
-            told.extend_from_slice(b"? ")?;
-            told.extend_from_slice(line.as_bytes())?;
-            told.push(b'\n')?;
+    fn take_line(&mut self, line: &[u8], told: &mut Told) {
+        if let Some((b'!', command)) = line.split_first() {
+            let mut words = Words::new(command);
+            self.take_command(&mut words);
+            return words.end(line, told);
         }
-        Ok(())
+        if self.times.is_some() {
+            self.block.line(line);
+        } else {
+            self.text.line(line);
+        }
     }
 
-    /// What the row asks for, and the text of its session.
-    pub fn read(&self, alloc: Global) -> Result<(Asked, Vec<u8>), AllocError> {
-        let text = unescaped(alloc, self.text.as_slice())?;
-        Ok((self.asked, text))
+    /// Takes the lines of a row.
+    pub(crate) fn take(&mut self, input: &[u8], told: &mut Told) {
+        let mut lines = Lines::new(input);
+        for _ in 0..input.len() {
+            let Some(line) = lines.next_line() else {
+                break;
+            };
+            self.take_line(line, told);
+        }
     }
 }

@@ -1,5 +1,4 @@
 //! The statements of a text, and what each says.
-use crate::words::push_number;
 use input_core::event::Event;
 use input_core::statement::{ConfigStatement, SetStatement};
 use jcl_meaning::program::Request;
@@ -7,92 +6,87 @@ use jcl_plan::plan::Record;
 use plain::lent::Lent;
 use session_text::parse::statements;
 use session_text::statement::{Ending, Says, Statement};
-use std::alloc::{AllocError, Global};
-
-/// A word, and a text behind it.
-fn push_text(out: &mut Vec<u8>, word: &[u8], text: &[u8]) -> Result<(), AllocError> {
-    out.extend_from_slice(word)?;
-    out.extend_from_slice(text)
-}
+use row_table::told::Told;
+use std::alloc::Global;
 
 /// A word, and a number behind it.
-fn push_count(out: &mut Vec<u8>, word: &[u8], number: u16) -> Result<(), AllocError> {
-    out.extend_from_slice(word)?;
-    push_number(out, u64::from(number))
+fn tell_count(told: &mut Told, word: &[u8], number: u16) {
+    told.numbered(word, u64::from(number));
 }
 
-fn push_lines(out: &mut Vec<u8>, lines: &[Lent<'_>]) -> Result<(), AllocError> {
+fn tell_lines(told: &mut Told, lines: &[Lent<'_>]) {
     for line in lines {
-        push_text(out, b"\n|", line.as_slice())?;
-        out.push(b'|')?;
+        told.two(b"\n|", line.as_slice());
+        told.word(b"|");
     }
-    Ok(())
 }
 
 /// A record without the blanks at its end.
-fn push_record(out: &mut Vec<u8>, word: &[u8], record: &Record) -> Result<(), AllocError> {
-    let blanks = record.iter().rev().take_while(|b| **b == b' ').count();
-    let (text, _) = record.split_at(80usize.saturating_sub(blanks));
-    push_text(out, word, text)
-}
-
-fn push_records(out: &mut Vec<u8>, records: &[Record]) -> Result<(), AllocError> {
-    for record in records {
-        push_record(out, b"\n|", record)?;
-        out.push(b'|')?;
-    }
-    Ok(())
-}
-
-fn push_request(out: &mut Vec<u8>, request: &Request) -> Result<(), AllocError> {
-    match request {
-        Request::Get(dd) => push_text(out, b"\n|GET ", dd.as_slice()),
-        Request::Put { dd, text } => {
-            push_text(out, b"\n|PUT ", dd.as_slice())?;
-            push_record(out, b" ", text)
+fn tell_record(told: &mut Told, word: &[u8], record: &Record) {
+    let mut length = 0;
+    for (place, byte) in record.iter().enumerate() {
+        if *byte != b' ' {
+            length = place + 1;
         }
-        Request::End(code) => push_count(out, b"\n|CODE ", code.number()),
-        Request::Abend(code) => push_count(out, b"\n|ABEND ", code.number()),
+    }
+    told.two(word, record.split_at(length.min(80)).0);
+}
+
+fn tell_records(told: &mut Told, records: &[Record]) {
+    for record in records {
+        tell_record(told, b"\n|", record);
+        told.word(b"|");
     }
 }
 
-fn push_requests(out: &mut Vec<u8>, requests: &[Request]) -> Result<(), AllocError> {
+fn tell_request(told: &mut Told, request: &Request) {
+    match request {
+        Request::Get(dd) => told.two(b"\n|GET ", dd.as_slice()),
+        Request::Put { dd, text } => {
+            told.two(b"\n|PUT ", dd.as_slice());
+            tell_record(told, b" ", text)
+        }
+        Request::End(code) => tell_count(told, b"\n|CODE ", code.number()),
+        Request::Abend(code) => tell_count(told, b"\n|ABEND ", code.number()),
+    }
+}
+
+fn tell_requests(told: &mut Told, requests: &[Request]) {
     for request in requests {
-        push_request(out, request)?;
-        out.push(b'|')?;
+        tell_request(told, request);
+        told.word(b"|");
     }
-    Ok(())
 }
 
-fn push_set(out: &mut Vec<u8>, set: &SetStatement) -> Result<(), AllocError> {
-    push_text(out, b"SET ", set.name.as_slice())?;
-    push_text(out, b" ", set.serial.as_slice())?;
-    push_count(out, b" ", set.tracks)?;
+fn tell_set(told: &mut Told, set: &SetStatement) {
+    told.two(b"SET ", set.name.as_slice());
+    told.two(b" ", set.serial.as_slice());
+    tell_count(told, b" ", set.tracks);
     if set.catalogued {
-        out.extend_from_slice(b" CAT")?;
+        told.word(b" CAT");
     }
-    push_records(out, set.records.as_slice())
+    tell_records(told, set.records.as_slice())
 }
 
 /// The statements of volumes and groups.
-fn push_store(out: &mut Vec<u8>, statement: &ConfigStatement<'_>) -> Result<(), AllocError> {
+fn tell_store(told: &mut Told, statement: &ConfigStatement<'_>) {
     match statement {
         ConfigStatement::Volume {
             serial,
             tracks,
             used,
         } => {
-            push_text(out, b"VOLUME ", serial.as_slice())?;
-            push_count(out, b" ", *tracks)?;
+            told.two(b"VOLUME ", serial.as_slice());
+            tell_count(told, b" ", *tracks);
             for extent in used.as_slice() {
-                push_count(out, b" ", extent.start)?;
-                push_count(out, b"+", extent.tracks)?;
+                tell_count(told, b" ", extent.start);
+                tell_count(told, b"+", extent.tracks);
             }
         }
         ConfigStatement::Unit { name, serials } => {
-            push_text(out, b"UNIT ", name.as_slice())?;
+            told.two(b"UNIT ", name.as_slice());
             for serial in serials.as_slice() {
-                push_text(out, b" ", serial.as_slice())?;
+                told.two(b" ", serial.as_slice());
             }
         }
         ConfigStatement::Group {
@@ -100,88 +94,80 @@ fn push_store(out: &mut Vec<u8>, statement: &ConfigStatement<'_>) -> Result<(), 
             limit,
             scratch,
         } => {
-            push_text(out, b"GROUP ", base.as_slice())?;
-            push_count(out, b" ", *limit)?;
+            told.two(b"GROUP ", base.as_slice());
+            tell_count(told, b" ", *limit);
             if *scratch {
-                out.extend_from_slice(b" SCRATCH")?;
+                told.word(b" SCRATCH");
             }
         }
         _ => {}
     }
-    Ok(())
 }
 
-fn push_config(out: &mut Vec<u8>, statement: &ConfigStatement<'_>) -> Result<(), AllocError> {
+fn tell_config(told: &mut Told, statement: &ConfigStatement<'_>) {
     match statement {
-        ConfigStatement::Set(set) => push_set(out, set),
+        ConfigStatement::Set(set) => tell_set(told, set),
         ConfigStatement::Procedure { name, lines } => {
-            push_text(out, b"PROC ", name.as_slice())?;
-            push_lines(out, lines.as_slice())
+            told.two(b"PROC ", name.as_slice());
+            tell_lines(told, lines.as_slice())
         }
         ConfigStatement::Program { name, requests } => {
-            push_text(out, b"PROGRAM ", name.as_slice())?;
-            push_requests(out, requests.as_slice())
+            told.two(b"PROGRAM ", name.as_slice());
+            tell_requests(told, requests.as_slice())
         }
         ConfigStatement::Initiator { number, classes } => {
-            push_count(out, b"INIT ", *number)?;
-            push_text(out, b" ", classes.as_slice())
+            tell_count(told, b"INIT ", *number);
+            told.two(b" ", classes.as_slice())
         }
-        _ => push_store(out, statement),
+        _ => tell_store(told, statement),
     }
 }
 
-fn push_event(out: &mut Vec<u8>, event: &Event<'_>) -> Result<(), AllocError> {
+fn tell_event(told: &mut Told, event: &Event<'_>) {
     match event {
         Event::Read(cards) => {
-            out.extend_from_slice(b"READ")?;
-            push_lines(out, cards.as_slice())
+            told.word(b"READ");
+            tell_lines(told, cards.as_slice())
         }
-        Event::Turn(number) => push_count(out, b"TURN ", u16::from(*number)),
-        Event::DeviceEnd(serial) => push_text(out, b"DEV ", serial.as_slice()),
-        Event::Write(class) => push_text(out, b"WRITE ", &[*class]),
-        Event::Cancel(job) => push_count(out, b"CANCEL ", *job),
-        Event::Display => push_text(out, b"DISPLAY", b""),
+        Event::Turn(number) => tell_count(told, b"TURN ", u16::from(*number)),
+        Event::DeviceEnd(serial) => told.two(b"DEV ", serial.as_slice()),
+        Event::Write(class) => told.two(b"WRITE ", &[*class]),
+        Event::Cancel(job) => tell_count(told, b"CANCEL ", *job),
+        Event::Display => told.two(b"DISPLAY", b""),
     }
 }
 
-fn push_says(out: &mut Vec<u8>, says: &Says<'_>) -> Result<(), AllocError> {
+fn tell_says(told: &mut Told, says: &Says<'_>) {
     match says {
         Says::Config { statement, has_end } => {
-            push_config(out, statement)?;
+            tell_config(told, statement);
             if !*has_end {
-                out.extend_from_slice(b"\nWITHOUT END")?;
+                told.word(b"\nWITHOUT END");
             }
-            Ok(())
         }
         Says::Events(event, times) => {
-            push_event(out, event)?;
+            tell_event(told, event);
             if *times != 1 {
-                push_count(out, b"*", *times)?;
+                tell_count(told, b"*", *times);
             }
-            Ok(())
         }
-        Says::Refused(fault) => push_count(out, b"S", u16::from(fault.number())),
+        Says::Refused(fault) => tell_count(told, b"S", u16::from(fault.number())),
     }
 }
 
-fn push_statement(out: &mut Vec<u8>, statement: &Statement<'_>) -> Result<(), AllocError> {
-    push_number(out, statement.line as u64)?;
-    out.extend_from_slice(b": ")?;
-    push_says(out, &statement.says)?;
-    out.push(b'\n')?;
-    Ok(())
+fn tell_statement(told: &mut Told, statement: &Statement<'_>) {
+    told.numbered(b"", statement.line as u64);
+    told.word(b": ");
+    tell_says(told, &statement.says);
+    told.end_line();
 }
 
 /// The statements of a text that ends so: the first line of each, and what it says, with the lines of its block behind `|`.
-pub fn push_statements(
-    alloc: Global,
-    out: &mut Vec<u8>,
-    text: &[u8],
-    ending: Ending,
-) -> Result<(), AllocError> {
-    let read = statements(alloc, text, ending)?;
+pub(crate) fn tell_statements(alloc: Global, told: &mut Told, text: &[u8], ending: Ending) {
+    let Some(read) = told.got(statements(alloc, text, ending)) else {
+        return;
+    };
     for statement in read.as_slice() {
-        push_statement(out, statement)?;
+        tell_statement(told, statement);
     }
-    Ok(())
 }

@@ -1,11 +1,10 @@
 //! A job alone: by its solo meaning, over lists, and over volumes with their tracks.
-use crate::agenda::agenda_of;
-use crate::case::{Case, Period};
+use crate::case::Case;
 use crate::kept::{Known, known_in};
-use crate::mounts::{Unmounted, shared_of};
+use crate::mounts::shared_of;
 use crate::run::{Answers, JOB, Looked, Run, Way, fresh, run_job};
-use crate::shown::{push_free, push_lines, push_names, push_seen};
-use crate::words::push_number;
+use crate::shown::{tell_free, tell_lines, tell_names, tell_seen};
+use crate::terms::Period;
 use disp_core::course::Given;
 use jcl_meaning::budget::budget_of;
 use jcl_meaning::names::names_of;
@@ -14,8 +13,8 @@ use jcl_meaning::solo::SoloRun;
 use jcl_meaning::state::KeyMeaning;
 use jcl_plan::outcome::Outcome;
 use jcl_plan::plan::{DdKind, Expiry, JobPlan, StepPlan};
-use plain::draft::Draft;
 use plain::listed::Listed;
+use row_table::told::Told;
 use solo_core::{solo, solo_path};
 use std::alloc::{AllocError, Global};
 use std::mem;
@@ -33,9 +32,8 @@ fn keep_for(alloc: Global, step: &mut StepPlan, period: &Period) {
     step.dds = Listed::new(dds);
 }
 
-/// A plan with the periods for which sets are to be kept, which no card says.
-fn with_periods(alloc: Global, plan: JobPlan, periods: &[Period]) -> JobPlan {
-    let mut plan = plan;
+/// Gives a plan the periods for which sets are to be kept, which no card says.
+fn set_periods(alloc: Global, plan: &mut JobPlan, periods: &[Period]) {
     let mut steps = mem::replace(&mut plan.steps, Listed::empty(alloc)).into_vec();
     for period in periods {
         if let Some(step) = steps.as_mut_slice().get_mut(period.step.saturating_sub(1)) {
@@ -43,33 +41,27 @@ fn with_periods(alloc: Global, plan: JobPlan, periods: &[Period]) -> JobPlan {
         }
     }
     plan.steps = Listed::new(steps);
-    plan
 }
 
 /// The programs of a case, of which there are none where it is given how steps end.
 fn programs_of<'a>(case: &'a Case<'_>) -> &'a [SoloProgram] {
-    match &case.path {
-        None => case.programs.as_slice(),
+    match &case.terms.path {
+        None => case.coded.programs.as_slice(),
         Some(_) => &[],
     }
 }
 
 /// The solo meaning of a job, or along the outcomes that are given.
 fn solo_of(alloc: Global, case: &Case<'_>, plan: &JobPlan) -> Result<SoloRun, AllocError> {
-    let places = case.places.as_slice();
-    let store = &case.store;
-    let date = case.date;
-    match &case.path {
-        None => solo(
-            alloc,
-            plan,
-            store,
-            places,
-            case.programs.as_slice(),
-            &case.answers,
-            date,
-        ),
-        Some(path) => solo_path(alloc, plan, store, places, path.as_slice(), date),
+    let store = &case.found.store;
+    let terms = &case.terms;
+    let places = terms.places.as_slice();
+    match &terms.path {
+        None => {
+            let programs = case.coded.programs.as_slice();
+            solo(alloc, plan, store, places, programs, &terms.answers, terms.date)
+        }
+        Some(path) => solo_path(alloc, plan, store, places, path.as_slice(), terms.date),
     }
 }
 
@@ -79,8 +71,8 @@ fn outcomes_of(
     case: &Case<'_>,
     plan: &JobPlan,
 ) -> Result<Listed<Outcome>, AllocError> {
-    match &case.path {
-        None => endings(alloc, plan.steps.as_slice(), case.programs.as_slice()),
+    match &case.terms.path {
+        None => endings(alloc, plan.steps.as_slice(), case.coded.programs.as_slice()),
         Some(path) => Listed::copy_of(alloc, path.as_slice()),
     }
 }
@@ -95,152 +87,149 @@ struct Job<'a> {
     known: Known,
 }
 
-impl<'a> Job<'a> {
+impl Job<'_> {
     /// The job before its first action.
     fn way(&self, alloc: Global) -> Way<'_> {
+        let terms = &self.case.terms;
         Way {
             alloc,
-            plan: self.plan,
             given: Given {
                 job_tests: self.plan.tests.as_slice(),
-                volumes: self.case.store.volumes.as_slice(),
-                places: self.case.places.as_slice(),
+                volumes: self.case.found.store.volumes.as_slice(),
+                places: terms.places.as_slice(),
                 meanings: self.meanings.as_slice(),
-                date: self.case.date,
+                date: terms.date,
             },
             answers: Answers {
                 outcomes: self.outcomes.as_slice(),
-                cancels: self.case.answers.cancels.as_slice(),
-                grants: self.case.answers.grants.as_slice(),
+                cancels: terms.answers.cancels.as_slice(),
+                grants: terms.answers.grants.as_slice(),
             },
             course: fresh(alloc),
+            changed: false,
         }
     }
 
     fn looked(&self) -> Looked<'_> {
         Looked {
             known: &self.known,
-            serials: self.case.store.volumes.as_slice(),
+            serials: self.case.found.store.volumes.as_slice(),
         }
     }
 }
 
 /// The lines of a job alone, and what it leaves.
-fn shown_alone(alloc: Global, job: &Job<'_>, solo: SoloRun) -> Result<Draft, AllocError> {
-    let mut out = Draft::empty(alloc);
-    push_lines(&mut out, solo.lines.as_slice())?;
+fn shown_alone(alloc: Global, job: &Job<'_>, solo: SoloRun, told: &mut Told) -> Told {
+    let mut shown = Told::new(alloc);
+    tell_lines(alloc, &mut shown, solo.lines.as_slice());
     let alone = Alone {
         alloc,
         store: solo.store,
         growth: true,
     };
     let looked = job.looked();
-    push_seen(&mut out, &alone, JOB, looked.known, looked.serials)?;
-    out.keep();
-    Ok(out)
+    tell_seen(&mut shown, &alone, looked.known, looked.serials);
+    if shown.is_wanting() {
+        told.want();
+    }
+    shown
 }
 
 /// The job over lists.
-fn run_alone(alloc: Global, job: &Job<'_>) -> Result<Run, AllocError> {
+fn run_alone(alloc: Global, job: &Job<'_>, told: &mut Told) -> Option<Run> {
+    let store = told.got(job.case.found.store.copy_of(alloc))?;
     let mut alone = Alone {
         alloc,
-        store: job.case.store.copy_of(alloc)?,
+        store,
         growth: true,
     };
-    let agenda = agenda_of(alloc, job.plan, programs_of(job.case))?;
-    let looked = job.looked();
     let mut way = job.way(alloc);
-    run_job(&mut way, &mut alone, &agenda, &looked)
+    let programs = programs_of(job.case);
+    let run = run_job(&mut way, &mut alone, &job.looked(), job.plan, programs, told);
+    tell_changed(told, &way);
+    Some(run)
 }
 
 /// The job over volumes, with the tracks that are free in the end.
-fn run_shared(alloc: Global, job: &Job<'_>, free: &mut Draft) -> Result<Run, Unmounted> {
-    let mut shared = shared_of(alloc, job.case, JOB)?;
-    let agenda = agenda_of(alloc, job.plan, programs_of(job.case))?;
-    let looked = job.looked();
+fn run_shared(alloc: Global, job: &Job<'_>, free: &mut Told, told: &mut Told) -> Option<Run> {
+    let mut shared = shared_of(alloc, &job.case.found, JOB, told)?;
     let mut way = job.way(alloc);
-    let run = run_job(&mut way, &mut shared, &agenda, &looked)?;
-    push_free(free, shared.volumes.as_slice())?;
-    free.keep();
-    Ok(run)
+    let programs = programs_of(job.case);
+    let run = run_job(&mut way, &mut shared, &job.looked(), job.plan, programs, told);
+    tell_changed(told, &way);
+    tell_free(free, shared.volumes.as_slice());
+    Some(run)
+}
+
+fn tell_changed(told: &mut Told, way: &Way<'_>) {
+    if way.changed {
+        told.line(b"CHANGED");
+    }
 }
 
 /// What the three ways tell: once where it is the same.
-fn push_runs(
-    told: &mut Vec<u8>,
-    alone: &Draft,
-    lists: &Run,
-    volumes: &Run,
-) -> Result<(), AllocError> {
-    if lists.changed || volumes.changed {
-        told.extend_from_slice(b"CHANGED\n")?;
+fn tell_runs(told: &mut Told, alone: &Told, lists: &Run, volumes: &Run) {
+    let (shown, other) = (lists.shown.as_slice(), volumes.shown.as_slice());
+    told.word(other);
+    if shown != other {
+        told.line_of_two(b"OVER LISTS\n", shown);
     }
-    told.extend_from_slice(volumes.shown.kept())?;
-    if lists.shown.kept() != volumes.shown.kept() {
-        told.extend_from_slice(b"OVER LISTS\n")?;
-        told.extend_from_slice(lists.shown.kept())?;
+    if alone.as_slice() != shown.split_at(lists.alone.min(shown.len())).0 {
+        told.line_of_two(b"ALONE\n", alone.as_slice());
     }
-    let shown = lists.shown.kept();
-    if alone.kept() != shown.split_at(lists.alone.min(shown.len())).0 {
-        told.extend_from_slice(b"ALONE\n")?;
-        told.extend_from_slice(alone.kept())?;
-    }
-    Ok(())
 }
 
 /// What is known of a job from its plan: its budget, and the names that it holds.
-fn push_plan(alloc: Global, told: &mut Vec<u8>, job: &Job<'_>) -> Result<(), AllocError> {
-    let mut out = Draft::empty(alloc);
-    let budget = budget_of(alloc, job.plan, programs_of(job.case))?;
-    push_number(&mut out, b"BUDGET", budget as u64)?;
-    out.push(b"\n")?;
-    push_names(&mut out, names_of(alloc, job.plan)?.as_slice())?;
-    out.keep();
-    told.extend_from_slice(out.kept())
+fn tell_plan(alloc: Global, told: &mut Told, job: &Job<'_>) {
+    if let Some(budget) = told.got(budget_of(alloc, job.plan, programs_of(job.case))) {
+        told.numbered_line(b"BUDGET ", budget as u64);
+    }
+    if let Some(names) = told.got(names_of(alloc, job.plan)) {
+        tell_names(told, names.as_slice());
+    }
 }
 
 /// Runs a job in three ways, and tells what came.
-fn push_ways(
-    alloc: Global,
-    told: &mut Vec<u8>,
-    job: &Job<'_>,
-    solo: SoloRun,
-) -> Result<(), AllocError> {
+fn tell_ways(alloc: Global, told: &mut Told, job: &Job<'_>, solo: SoloRun) {
     let clean = solo.clean;
-    let alone = shown_alone(alloc, job, solo)?;
-    let lists = run_alone(alloc, job)?;
-    let mut free = Draft::empty(alloc);
-    match run_shared(alloc, job, &mut free) {
-        Err(Unmounted::Memory) => return Err(AllocError),
-        Err(Unmounted::Wrong) => return told.extend_from_slice(b"UNMOUNTED\n"),
-        Ok(volumes) => push_runs(told, &alone, &lists, &volumes)?,
+    let mut free = Told::new(alloc);
+    let alone = shown_alone(alloc, job, solo, told);
+    let Some(lists) = run_alone(alloc, job, told) else {
+        return;
+    };
+    let Some(volumes) = run_shared(alloc, job, &mut free, told) else {
+        return told.line(b"UNMOUNTED");
+    };
+    tell_runs(told, &alone, &lists, &volumes);
+    told.word(free.as_slice());
+    if free.is_wanting() {
+        told.want();
     }
-    told.extend_from_slice(free.kept())?;
     if clean {
-        told.extend_from_slice(b"CLEAN\n")?;
+        told.line(b"CLEAN");
     }
-    Ok(())
 }
 
 /// Tells of a job what it writes and leaves, the tracks that are free then, whether it met no fault, the most lines that it writes, and
 /// the names that it holds.
-pub fn push_job(
-    alloc: Global,
-    told: &mut Vec<u8>,
-    case: &Case<'_>,
-    plan: JobPlan,
-) -> Result<(), AllocError> {
-    let plan = with_periods(alloc, plan, case.periods.as_slice());
-    let solo = solo_of(alloc, case, &plan)?;
-    let meanings = meanings_of(alloc, &plan, &case.store)?;
-    let known = known_in(alloc, &case.store, meanings.as_slice(), &solo.store)?;
+pub(crate) fn tell_job(alloc: Global, told: &mut Told, case: &Case<'_>, plan: JobPlan) {
+    let mut plan = plan;
+    set_periods(alloc, &mut plan, case.terms.periods.as_slice());
+    let solo = told.got(solo_of(alloc, case, &plan));
+    let meanings = told.got(meanings_of(alloc, &plan, &case.found.store));
+    let outcomes = told.got(outcomes_of(alloc, case, &plan));
+    let (Some(solo), Some(meanings), Some(outcomes)) = (solo, meanings, outcomes) else {
+        return;
+    };
+    let store = &case.found.store;
+    let known = known_in(alloc, store, meanings.as_slice(), &solo.store, told);
     let job = Job {
         case,
         plan: &plan,
         meanings,
-        outcomes: outcomes_of(alloc, case, &plan)?,
+        outcomes,
         known,
     };
-    push_ways(alloc, told, &job, solo)?;
-    push_plan(alloc, told, &job)
+    tell_ways(alloc, told, &job, solo);
+    tell_plan(alloc, told, &job);
 }

@@ -1,5 +1,5 @@
-//! The store of volumes with their tracks that the job of a case finds.
-use crate::case::{Case, CaseVolume, Used};
+//! The store of volumes with their tracks that the job of a case finds. There is none where a volume, a set or an entry of it cannot be.
+use crate::found::{CaseVolume, Found, Used};
 use cat_core::catalog::Catalog;
 use group_core::entry::CatEntry;
 use group_core::group::Group;
@@ -9,64 +9,55 @@ use jname_core::serial::Serial;
 use mount_core::mounted::Mounted;
 use mount_core::place::KeptPlace;
 use plain::listed::Listed;
+use row_table::told::Told;
 use shared_core::key::world_key;
 use shared_core::store::SharedStore;
-use std::alloc::{AllocError, Global};
+use std::alloc::Global;
 use vtoc_core::entry::{Extent, SetKey};
 use vtoc_core::fault::VolumeFault;
 
-/// Why a case has no store of volumes.
-#[derive(Clone, Copy)]
-pub enum Unmounted {
-    /// A volume, a set or an entry of it cannot be.
-    Wrong,
-    Memory,
-}
-
-impl From<AllocError> for Unmounted {
-    fn from(_error: AllocError) -> Unmounted {
-        Unmounted::Memory
-    }
-}
-
 /// The tracks that no set has.
-fn unusable_of(alloc: Global, used: &[Used]) -> Result<Listed<Extent>, Unmounted> {
+fn unusable_of(alloc: Global, used: &[Used], told: &mut Told) -> Option<Listed<Extent>> {
     let mut extents = Listed::empty(alloc);
     for tracks in used {
-        let Some(more) = tracks.last.checked_sub(tracks.first) else {
-            return Err(Unmounted::Wrong);
-        };
-        extents.push(Extent {
+        let more = tracks.last.checked_sub(tracks.first)?;
+        told.over(extents.push(Extent {
             start: tracks.first,
             tracks: more.saturating_add(1),
-        })?;
+        }));
     }
-    Ok(extents)
+    Some(extents)
 }
 
 /// An empty volume.
-fn mounted(alloc: Global, volume: &CaseVolume) -> Result<Mounted, Unmounted> {
+fn mounted(alloc: Global, volume: &CaseVolume, told: &mut Told) -> Option<Mounted> {
     if volume.tracks > 4000 {
-        return Err(Unmounted::Wrong);
+        return None;
     }
-    let unusable = unusable_of(alloc, volume.used.as_slice())?;
-    Ok(Mounted::new(alloc, volume.serial, volume.tracks, unusable.as_slice())?)
+    let unusable = unusable_of(alloc, volume.used.as_slice(), told)?;
+    told.got(Mounted::new(alloc, volume.serial, volume.tracks, unusable.as_slice()))
 }
 
-fn mounted_all(alloc: Global, case: &Case<'_>) -> Result<Listed<Mounted>, Unmounted> {
-    let mut volumes = Listed::empty(alloc);
-    for volume in case.volumes.as_slice() {
-        volumes.push(mounted(alloc, volume)?)?;
+fn mounted_all(alloc: Global, volumes: &[CaseVolume], told: &mut Told) -> Option<Vec<Mounted>> {
+    let mut all = Vec::new(alloc);
+    for volume in volumes {
+        let mounted = mounted(alloc, volume, told)?;
+        if all.push(mounted).is_err() {
+            told.want();
+        }
     }
-    Ok(volumes)
+    Some(all)
 }
 
-/// An answer of a volume, which has to grant what a case asks.
-fn granted(answer: Result<(), VolumeFault>) -> Result<(), Unmounted> {
+/// Whether a volume grants what a case asks.
+fn is_granted(answer: Result<(), VolumeFault>, told: &mut Told) -> bool {
     match answer {
-        Ok(()) => Ok(()),
-        Err(VolumeFault::Memory) => Err(Unmounted::Memory),
-        Err(_) => Err(Unmounted::Wrong),
+        Ok(()) => true,
+        Err(VolumeFault::Memory) => {
+            told.want();
+            false
+        }
+        Err(_) => false,
     }
 }
 
@@ -77,46 +68,48 @@ const NOWHERE: KeptPlace = KeptPlace {
     dd: 0,
 };
 
-/// Puts a set with its records on a volume.
+/// Puts a set with its records on a volume. Whether it can stand there.
 fn put_on(
     alloc: Global,
     mounted: &mut Mounted,
     key: SetKey,
     set: &SoloSet,
-) -> Result<(), Unmounted> {
+    told: &mut Told,
+) -> bool {
     let Ok(tracks) = u16::try_from(set.set.tracks) else {
-        return Err(Unmounted::Wrong);
+        return false;
     };
-    granted(mounted.make(alloc, &NOWHERE, key, tracks, set.set.expires))?;
-    for text in set.set.records.as_slice() {
-        granted(mounted.append(&key, *text))?;
+    let made = mounted.make(alloc, &NOWHERE, key, tracks, set.set.expires);
+    if !is_granted(made, told) {
+        return false;
     }
-    Ok(())
+    for text in set.set.records.as_slice() {
+        if !is_granted(mounted.append(&key, *text), told) {
+            return false;
+        }
+    }
+    true
 }
 
-/// Where the volume of a serial stands.
-fn place_of(volumes: &[Mounted], serial: &Serial) -> Option<usize> {
-    volumes
-        .iter()
-        .position(|m| m.serial().as_slice() == serial.as_slice())
-}
-
+/// Puts a set on the volume of its serial.
 fn put_set(
     alloc: Global,
-    volumes: &mut Vec<Mounted>,
+    volumes: &mut [Mounted],
     job: u16,
     set: &SoloSet,
-) -> Result<(), Unmounted> {
-    let Some(key) = world_key(job, &set.key) else {
-        return Err(Unmounted::Wrong);
-    };
-    let Some(at) = place_of(volumes.as_slice(), &set.serial) else {
-        return Err(Unmounted::Wrong);
-    };
-    match volumes.as_mut_slice().get_mut(at) {
-        None => Err(Unmounted::Wrong),
-        Some(m) => put_on(alloc, m, key, set),
+    told: &mut Told,
+) -> Option<()> {
+    let key = world_key(job, &set.key)?;
+    for at in 0..volumes.len() {
+        if volumes[at].serial() == set.serial {
+            return if put_on(alloc, &mut volumes[at], key, set, told) {
+                Some(())
+            } else {
+                None
+            };
+        }
     }
+    None
 }
 
 /// Enters a group with its generations.
@@ -125,54 +118,60 @@ fn put_group(
     catalog: &mut Catalog,
     base: &DsName,
     group: &Group,
-) -> Result<(), Unmounted> {
-    if catalog
-        .make_group(alloc, *base, group.limit(), group.scratches())
-        .is_err()
-    {
-        return Err(Unmounted::Memory);
+    told: &mut Told,
+) -> Option<()> {
+    let made = catalog.make_group(alloc, *base, group.limit(), group.scratches());
+    if made.is_err() {
+        told.want();
+        return None;
     }
     for generation in group.generations() {
-        if generation.number == 0 || generation.number > 9999 {
-            return Err(Unmounted::Wrong);
-        }
-        if catalog
-            .enter_generation(base, generation.number, generation.serial)
-            .is_err()
+        if generation.number == 0
+            || generation.number > 9999
+            || catalog
+                .enter_generation(base, generation.number, generation.serial)
+                .is_err()
         {
-            return Err(Unmounted::Wrong);
+            return None;
         }
     }
-    Ok(())
+    Some(())
 }
 
-fn put_entry(alloc: Global, catalog: &mut Catalog, entry: &SoloEntry) -> Result<(), Unmounted> {
+fn put_entry(
+    alloc: Global,
+    catalog: &mut Catalog,
+    entry: &SoloEntry,
+    told: &mut Told,
+) -> Option<()> {
     match &entry.entry {
-        CatEntry::Volume(serial) => {
-            catalog.put(entry.name, *serial)?;
-            Ok(())
-        }
-        CatEntry::Group(group) => put_group(alloc, catalog, &entry.name, group),
+        CatEntry::Volume(serial) => told.got(catalog.put(entry.name, *serial)),
+        CatEntry::Group(group) => put_group(alloc, catalog, &entry.name, group, told),
     }
 }
 
-fn catalog_of(alloc: Global, case: &Case<'_>) -> Result<Catalog, Unmounted> {
+fn catalog_of(alloc: Global, entries: &[SoloEntry], told: &mut Told) -> Option<Catalog> {
     let mut catalog = Catalog::new(alloc);
-    for entry in case.store.catalog.as_slice() {
-        put_entry(alloc, &mut catalog, entry)?;
+    for entry in entries {
+        put_entry(alloc, &mut catalog, entry, told)?;
     }
-    Ok(catalog)
+    Some(catalog)
 }
 
-/// The store of volumes that the job of a case, of this number, finds.
-pub fn shared_of(alloc: Global, case: &Case<'_>, job: u16) -> Result<SharedStore, Unmounted> {
-    let mut volumes = mounted_all(alloc, case)?.into_vec();
-    for set in case.store.sets.as_slice() {
-        put_set(alloc, &mut volumes, job, set)?;
+/// The store of volumes that the job of this number finds.
+pub(crate) fn shared_of(
+    alloc: Global,
+    found: &Found,
+    job: u16,
+    told: &mut Told,
+) -> Option<SharedStore> {
+    let mut volumes = mounted_all(alloc, found.volumes.as_slice(), told)?;
+    for set in found.store.sets.as_slice() {
+        put_set(alloc, volumes.as_mut_slice(), job, set, told)?;
     }
-    Ok(SharedStore {
+    Some(SharedStore {
         alloc,
-        catalog: catalog_of(alloc, case)?,
+        catalog: catalog_of(alloc, found.store.catalog.as_slice(), told)?,
         volumes: Listed::new(volumes),
     })
 }

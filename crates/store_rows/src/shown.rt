@@ -1,6 +1,6 @@
 //! The lines of a job, and what its store holds, as text.
 use crate::kept::Known;
-use crate::words::{push_key, push_number, push_two};
+use crate::run::JOB;
 use group_core::group::Group;
 use jcl_meaning::names::HeldName;
 use jcl_meaning::state::Output;
@@ -11,196 +11,152 @@ use jname_core::key::Key;
 use jname_core::serial::Serial;
 use mount_core::mounted::Mounted;
 use plain::draft::Draft;
-use std::alloc::AllocError;
+use row_table::told::Told;
+use std::alloc::Global;
 use store_core::job_store::{JobStore, SetFacts};
 
-/// A text without the blanks at its end.
-fn trimmed(text: &[u8]) -> &[u8] {
-    match text.split_last() {
-        Some((b' ', others)) => trimmed(others),
-        _ => text,
+/// The lines of a job.
+pub(crate) fn tell_lines(alloc: Global, told: &mut Told, lines: &[JobLine]) {
+    let mut draft = Draft::empty(alloc);
+    for line in lines {
+        told.over(line.write_to(&mut draft));
+        told.over(draft.push(b"\n"));
     }
+    draft.keep();
+    told.word(draft.kept());
 }
 
-/// The lines of a job.
-pub fn push_lines(out: &mut Draft, lines: &[JobLine]) -> Result<(), AllocError> {
-    for line in lines {
-        line.write_to(out)?;
-        out.push(b"\n")?;
+/// A record without the blanks at its end.
+fn tell_record(told: &mut Told, text: &Record) {
+    let mut length = 0;
+    for (place, byte) in text.iter().enumerate() {
+        if *byte != b' ' {
+            length = place + 1;
+        }
     }
-    Ok(())
+    told.line_of_two(b"RECORD ", text.split_at(length.min(80)).0);
+}
+
+/// A key as `A.B`, `&T` of a temporary set, or `*1.2` of an unnamed one.
+fn tell_key(told: &mut Told, key: &Key) {
+    match key {
+        Key::Named(name) => told.two(b" ", name.as_slice()),
+        Key::Temporary(name) => told.two(b" &", name.as_slice()),
+        Key::Unnamed { step, dd } => {
+            told.numbered(b" * ", u64::from(*step));
+            told.numbered(b" ", u64::from(*dd));
+        }
+        Key::Relative { base, .. } => told.two(b" relative ", base.as_slice()),
+    }
 }
 
 /// A set: its volume, its key, its tracks, its day or `-`, and how many records it has.
-fn push_facts(
-    out: &mut Draft,
-    key: &Key,
-    serial: Serial,
-    facts: &SetFacts,
-) -> Result<(), AllocError> {
-    push_two(out, b"SET", serial.as_slice())?;
-    push_key(out, key)?;
-    push_number(out, b"", facts.tracks)?;
+fn tell_facts(told: &mut Told, key: &Key, serial: Serial, facts: &SetFacts) {
+    told.two(b"SET ", serial.as_slice());
+    tell_key(told, key);
+    told.numbered(b" ", facts.tracks);
     match facts.expires {
-        None => out.push(b" -")?,
-        Some(day) => push_number(out, b"", u64::from(day))?,
+        None => told.word(b" -"),
+        Some(day) => told.numbered(b" ", u64::from(day)),
     }
-    push_number(out, b"", facts.records as u64)?;
-    out.push(b"\n")
-}
-
-fn push_record(out: &mut Draft, text: &Record) -> Result<(), AllocError> {
-    push_two(out, b"RECORD", trimmed(text))?;
-    out.push(b"\n")
+    told.numbered_line(b" ", facts.records as u64);
 }
 
 /// The records of a set.
-fn push_records<S: JobStore>(
-    out: &mut Draft,
-    store: &S,
-    job: u16,
-    key: &Key,
-    serial: Serial,
-    count: usize,
-) -> Result<(), AllocError> {
+fn tell_records<S: JobStore>(told: &mut Told, store: &S, key: &Key, serial: Serial, count: usize) {
     for place in 0..count {
-        match store.record(job, key, serial, place) {
-            None => out.push(b"RECORD MISSING\n")?,
-            Some(text) => push_record(out, &text)?,
-        }
-    }
-    Ok(())
-}
-
-fn push_set<S: JobStore>(
-    out: &mut Draft,
-    store: &S,
-    job: u16,
-    key: &Key,
-    serial: Serial,
-) -> Result<(), AllocError> {
-    match store.set(job, key, serial) {
-        None => Ok(()),
-        Some(facts) => {
-            push_facts(out, key, serial, &facts)?;
-            push_records(out, store, job, key, serial, facts.records)
+        match store.record(JOB, key, serial, place) {
+            None => told.line(b"RECORD MISSING"),
+            Some(text) => tell_record(told, &text),
         }
     }
 }
 
 /// The sets of a key on these volumes.
-fn push_sets<S: JobStore>(
-    out: &mut Draft,
-    store: &S,
-    job: u16,
-    key: &Key,
-    serials: &[Serial],
-) -> Result<(), AllocError> {
+fn tell_sets<S: JobStore>(told: &mut Told, store: &S, key: &Key, serials: &[Serial]) {
     for serial in serials {
-        push_set(out, store, job, key, *serial)?;
-    }
-    Ok(())
-}
-
-/// A group: its base, its limit, whether it scratches, and its generations.
-fn push_group(out: &mut Draft, base: &DsName, group: &Group) -> Result<(), AllocError> {
-    push_two(out, b"GROUP", base.as_slice())?;
-    push_number(out, b"", u64::from(group.limit()))?;
-    out.push(if group.scratches() {
-        b" SCRATCH\n"
-    } else {
-        b" KEEP\n"
-    })?;
-    for generation in group.generations() {
-        push_number(out, b"MEMBER", u64::from(generation.number))?;
-        push_two(out, b"", generation.serial.as_slice())?;
-        out.push(b"\n")?;
-    }
-    Ok(())
-}
-
-/// Records that are at hand.
-fn push_texts(out: &mut Draft, texts: &[Record]) -> Result<(), AllocError> {
-    for text in texts {
-        push_record(out, text)?;
-    }
-    Ok(())
-}
-
-/// What a SYSOUT DD was put: its step, its number, its class, and its records.
-fn push_output(out: &mut Draft, output: &Output) -> Result<(), AllocError> {
-    push_number(out, b"OUTPUT", output.step as u64)?;
-    push_number(out, b"", output.dd as u64)?;
-    push_two(out, b"", &[output.class])?;
-    push_number(out, b"", output.records.len() as u64)?;
-    out.push(b"\n")?;
-    push_texts(out, output.records.as_slice())
-}
-
-/// What the SYSOUT DDs of a job were put.
-pub fn push_outputs(out: &mut Draft, outputs: &[Output]) -> Result<(), AllocError> {
-    for output in outputs {
-        push_output(out, output)?;
-    }
-    Ok(())
-}
-
-/// What the catalog has for a name.
-fn push_entry<S: JobStore>(
-    out: &mut Draft,
-    store: &S,
-    job: u16,
-    name: &DsName,
-) -> Result<(), AllocError> {
-    if let Some(group) = store.group(job, name) {
-        push_group(out, name, group)?;
-    }
-    match store.volume(job, name) {
-        None => Ok(()),
-        Some(serial) => {
-            push_two(out, b"ENTRY", name.as_slice())?;
-            push_two(out, b"", serial.as_slice())?;
-            out.push(b"\n")
+        if let Some(facts) = store.set(JOB, key, *serial) {
+            tell_facts(told, key, *serial, &facts);
+            tell_records(told, store, key, *serial, facts.records);
         }
     }
 }
 
+/// A group: its base, its limit, whether it scratches, and its generations.
+fn tell_group(told: &mut Told, base: &DsName, group: &Group) {
+    told.two(b"GROUP ", base.as_slice());
+    told.numbered(b" ", u64::from(group.limit()));
+    told.line(if group.scratches() {
+        b" SCRATCH"
+    } else {
+        b" KEEP"
+    });
+    for generation in group.generations() {
+        told.numbered(b"MEMBER ", u64::from(generation.number));
+        told.line_of_two(b" ", generation.serial.as_slice());
+    }
+}
+
+/// What a SYSOUT DD was put: its step, its number, its class, and its records.
+fn tell_output(told: &mut Told, output: &Output) {
+    told.numbered(b"OUTPUT ", output.step as u64);
+    told.numbered(b" ", output.dd as u64);
+    told.two(b" ", &[output.class]);
+    told.numbered_line(b" ", output.records.len() as u64);
+    for text in output.records.as_slice() {
+        tell_record(told, text);
+    }
+}
+
+/// What the SYSOUT DDs of a job were put.
+pub(crate) fn tell_outputs(told: &mut Told, outputs: &[Output]) {
+    for output in outputs {
+        tell_output(told, output);
+    }
+}
+
+/// What the catalog has for a name.
+fn tell_entry<S: JobStore>(told: &mut Told, store: &S, name: &DsName) {
+    if let Some(group) = store.group(JOB, name) {
+        tell_group(told, name, group);
+    }
+    if let Some(serial) = store.volume(JOB, name) {
+        told.two(b"ENTRY ", name.as_slice());
+        told.line_of_two(b" ", serial.as_slice());
+    }
+}
+
 /// What a job sees of its store under these keys and names: sets with their records, then entries.
-pub fn push_seen<S: JobStore>(
-    out: &mut Draft,
+pub(crate) fn tell_seen<S: JobStore>(
+    told: &mut Told,
     store: &S,
-    job: u16,
     known: &Known,
     serials: &[Serial],
-) -> Result<(), AllocError> {
+) {
     for key in known.keys.as_slice() {
-        push_sets(out, store, job, key, serials)?;
+        tell_sets(told, store, key, serials);
     }
     for name in known.names.as_slice() {
-        push_entry(out, store, job, name)?;
+        tell_entry(told, store, name);
     }
-    Ok(())
 }
 
 /// How many tracks of each volume are free.
-pub fn push_free(out: &mut Draft, volumes: &[Mounted]) -> Result<(), AllocError> {
+pub(crate) fn tell_free(told: &mut Told, volumes: &[Mounted]) {
     for mounted in volumes {
-        push_two(out, b"FREE", mounted.serial().as_slice())?;
-        push_number(out, b"", mounted.volume().free_tracks() as u64)?;
-        out.push(b"\n")?;
+        told.two(b"FREE ", mounted.serial().as_slice());
+        told.numbered_line(b" ", mounted.volume().free_tracks() as u64);
     }
-    Ok(())
 }
 
 /// The names that a job holds.
-pub fn push_names(out: &mut Draft, names: &[HeldName]) -> Result<(), AllocError> {
+pub(crate) fn tell_names(told: &mut Told, names: &[HeldName]) {
     for held in names {
-        push_two(out, b"NAME", held.name.as_slice())?;
-        out.push(if held.exclusive {
-            b" EXCLUSIVE\n"
+        told.two(b"NAME ", held.name.as_slice());
+        told.line(if held.exclusive {
+            b" EXCLUSIVE"
         } else {
-            b" SHARED\n"
-        })?;
+            b" SHARED"
+        });
     }
-    Ok(())
 }

@@ -1,91 +1,82 @@
-//! The catalog. A call that answers want of memory is made again, when what is shown of the names so far is as before.
+//! The catalog.
 ghost use Rattle.std.specs.Prelude.{◌<◌, ◌≤◌};
 
-use crate::keys::{ds_name, serial};
-use crate::tells::{
-    not_allowed, push_fault, push_found, push_group, push_rolled, push_unless_understood,
-    push_wanting,
-};
+use crate::keys::base_or_name;
+use crate::tells::{tell_fault, tell_found, tell_group, tell_rolled};
 use cat_core::catalog::Catalog;
 use cat_core::fault::CatFault;
 use group_core::group::Rolled;
 use jname_core::ds_name::DsName;
 use jname_core::key::Sign;
-use jname_core::serial::Serial;
-use row_table::told::{push_line, push_numbered, push_numbered_line};
+use row_table::desk::Desk;
+use row_table::names::serial;
+use row_table::told::Told;
 use row_table::words::{Lines, Words};
-use std::alloc::{AllocError, Global};
+use std::alloc::Global;
 
-fn push_refusal(told: &mut Vec<u8>, fault: CatFault) -> Result<(), AllocError> {
-    push_fault(told, b"K", fault.number())
+#[derive(Clone, Copy)]
+enum Verb {
+    Enter,
+    Put,
+    Remove,
+    Clear,
+    Group,
+    Number,
+    Plus,
+    Minus,
+    Find,
+    Show,
+    Member,
 }
+
+const VERBS: [(&str, Verb); 11] = [
+    ("ENTER", Verb::Enter),
+    ("PUT", Verb::Put),
+    ("REMOVE", Verb::Remove),
+    ("CLEAR", Verb::Clear),
+    ("GROUP", Verb::Group),
+    ("NUMBER", Verb::Number),
+    ("PLUS", Verb::Plus),
+    ("MINUS", Verb::Minus),
+    ("FIND", Verb::Find),
+    ("SHOW", Verb::Show),
+    ("MEMBER", Verb::Member),
+];
 
 /// The group of a base, or NO GROUP.
-fn push_group_of(told: &mut Vec<u8>, catalog: &Catalog, base: &DsName) -> Result<(), AllocError> {
+fn tell_group_of(told: &mut Told, catalog: &Catalog, base: &DsName) {
     match catalog.group(base) {
-        Some(group) => push_group(told, group),
-        None => push_line(told, b"NO GROUP"),
+        Some(group) => tell_group(told, group),
+        None => told.line(b"NO GROUP"),
     }
 }
 
-/// What is entered of these names.
-fn shown(alloc: Global, catalog: &Catalog, names: &[DsName]) -> Result<Vec<u8>, AllocError> {
-    let mut out = Vec::new(alloc);
-    for name in names {
-        push_found(&mut out, catalog.find(name))?;
-        push_group_of(&mut out, catalog, name)?;
-    }
-    Ok(out)
-}
-
-fn push_entered(told: &mut Vec<u8>, answer: Result<Rolled, CatFault>) -> Result<(), AllocError> {
+fn tell_done(told: &mut Told, answer: Result<(), CatFault>) {
     match answer {
-        Ok(rolled) => push_rolled(told, rolled),
-        Err(fault) => push_refusal(told, fault),
+        Ok(()) => told.line(b"OK"),
+        Err(fault) => tell_fault(told, b"K", fault.number()),
+    }
+}
+
+fn tell_entered(told: &mut Told, answer: Result<Rolled, CatFault>) {
+    match answer {
+        Ok(rolled) => tell_rolled(told, rolled),
+        Err(fault) => tell_fault(told, b"K", fault.number()),
     }
 }
 
 /// Enters a name for a volume.
-fn enter(
-    alloc: Global,
-    catalog: &mut Catalog,
-    names: &[DsName],
-    name: DsName,
-    serial: Serial,
-    told: &mut Vec<u8>,
-) -> Result<(), AllocError> {
-    let before = shown(alloc, catalog, names)?;
-    let mut answer = catalog.enter(name, serial);
-    if answer == Err(CatFault::Memory) {
-        let after = shown(alloc, catalog, names)?;
-        push_wanting(told, before.as_slice(), after.as_slice())?;
-        answer = catalog.enter(name, serial);
+fn enter(catalog: &mut Catalog, name: DsName, words: &mut Words<'_>, told: &mut Told) {
+    if let Some(serial) = serial(words) {
+        tell_entered(told, catalog.enter(name, serial));
     }
-    push_entered(told, answer)
 }
 
 /// Puts a name, whatever is there.
-fn put(
-    alloc: Global,
-    catalog: &mut Catalog,
-    names: &[DsName],
-    name: DsName,
-    serial: Serial,
-    told: &mut Vec<u8>,
-) -> Result<(), AllocError> {
-    let before = shown(alloc, catalog, names)?;
-    if catalog.put(name, serial).is_err() {
-        let after = shown(alloc, catalog, names)?;
-        push_wanting(told, before.as_slice(), after.as_slice())?;
-        catalog.put(name, serial)?;
-    }
-    push_line(told, b"OK")
-}
-
-fn push_done(told: &mut Vec<u8>, answer: Result<(), CatFault>) -> Result<(), AllocError> {
-    match answer {
-        Ok(()) => push_line(told, b"OK"),
-        Err(fault) => push_refusal(told, fault),
+fn put(catalog: &mut Catalog, name: DsName, words: &mut Words<'_>, told: &mut Told) {
+    if let Some(serial) = serial(words) {
+        told.over(catalog.put(name, serial));
+        told.line(b"OK");
     }
 }
 
@@ -93,160 +84,114 @@ fn push_done(told: &mut Vec<u8>, answer: Result<(), CatFault>) -> Result<(), All
 fn make_group(
     alloc: Global,
     catalog: &mut Catalog,
-    names: &[DsName],
     base: DsName,
     words: &mut Words<'_>,
-    told: &mut Vec<u8>,
-) -> Result<(), AllocError> {
+    told: &mut Told,
+) {
     let limit = words.byte();
-    let scratch = words.next_word() == b"SCRATCH".as_slice();
-    let before = shown(alloc, catalog, names)?;
-    let mut answer = catalog.make_group(alloc, base, limit, scratch);
-    if answer == Err(CatFault::Memory) {
-        let after = shown(alloc, catalog, names)?;
-        push_wanting(told, before.as_slice(), after.as_slice())?;
-        answer = catalog.make_group(alloc, base, limit, scratch);
+    let scratches = !words.is_empty();
+    if scratches {
+        words.one_of(&[("SCRATCH", ())]);
     }
-    push_done(told, answer)
+    tell_done(told, catalog.make_group(alloc, base, limit, scratches));
 }
 
 /// Enters a number in the group of a base.
-fn enter_number(
-    catalog: &mut Catalog,
-    base: &DsName,
-    number: u16,
-    serial: Serial,
-    told: &mut Vec<u8>,
-) -> Result<(), AllocError> {
+fn enter_number(catalog: &mut Catalog, base: &DsName, words: &mut Words<'_>, told: &mut Told) {
+    let number = words.short();
+    let Some(serial) = serial(words) else {
+        return;
+    };
     if number == 0 || number > 9999 {
-        return not_allowed(told);
+        return told.not_allowed();
     }
-    push_entered(told, catalog.enter_generation(base, number, serial))
+    tell_entered(told, catalog.enter_generation(base, number, serial));
 }
 
 /// Tells the number that a relative number means.
-fn resolve(
-    catalog: &Catalog,
-    base: &DsName,
-    sign: Sign,
-    amount: u8,
-    told: &mut Vec<u8>,
-) -> Result<(), AllocError> {
+fn resolve(catalog: &Catalog, base: &DsName, sign: Sign, amount: u8, told: &mut Told) {
     match catalog.resolve_relative(base, sign, amount) {
-        Ok(number) => push_numbered_line(told, b"", number.into()),
-        Err(fault) => push_refusal(told, fault),
+        Ok(number) => told.numbered_line(b"", number.into()),
+        Err(fault) => tell_fault(told, b"K", fault.number()),
     }
 }
 
 /// The number of a generation, and its group, or NONE.
-fn push_member(told: &mut Vec<u8>, catalog: &Catalog, name: &DsName) -> Result<(), AllocError> {
+fn tell_member(told: &mut Told, catalog: &Catalog, name: &DsName) {
     match catalog.member(name) {
         Some((number, group)) => {
-            push_numbered(told, b"", number.into())?;
-            told.extend_from_slice(b" OF ")?;
-            push_group(told, group)
+            told.numbered(b"", number.into());
+            told.word(b" OF ");
+            tell_group(told, group);
         }
-        None => push_line(told, b"NONE"),
+        None => told.line(b"NONE"),
     }
 }
 
-/// Tells what is entered.
-fn tell(
-    catalog: &Catalog,
-    verb: &[u8],
-    name: &DsName,
-    words: &mut Words<'_>,
-    told: &mut Vec<u8>,
-) -> Result<(), AllocError> {
-    match verb {
-        b"FIND" => push_found(told, catalog.find(name)),
-        b"SHOW" => push_group_of(told, catalog, name),
-        b"MEMBER" => push_member(told, catalog, name),
-        b"PLUS" => resolve(catalog, name, Sign::Plus, words.byte(), told),
-        b"MINUS" => resolve(catalog, name, Sign::Minus, words.byte(), told),
-        _ => {
-            words.refuse();
-            Ok(())
+/// A catalog, and the names of its row.
+#[derive(Drop)]
+pub(crate) struct Cataloged {
+    catalog: Catalog,
+    names: Vec<DsName>,
+}
+
+impl Desk for Cataloged {
+    fn show(&mut self, _alloc: Global, told: &mut Told) {
+        for name in self.names.as_slice() {
+            tell_found(told, self.catalog.find(name));
+            tell_group_of(told, &self.catalog, name);
+        }
+    }
+
+    fn act(
+        &mut self,
+        alloc: Global,
+        words: &mut Words<'_>,
+        _lines: &mut Lines<'_>,
+        told: &mut Told,
+    ) {
+        let verb = words.one_of(&VERBS);
+        let Some(name) = base_or_name(words) else {
+            return;
+        };
+        let catalog = &mut self.catalog;
+        match verb {
+            Some(Verb::Enter) => enter(catalog, name, words, told),
+            Some(Verb::Put) => put(catalog, name, words, told),
+            Some(Verb::Remove) => tell_done(told, catalog.remove(&name)),
+            Some(Verb::Clear) => {
+                catalog.clear(&name);
+                told.line(b"OK");
+            }
+            Some(Verb::Group) => make_group(alloc, catalog, name, words, told),
+            Some(Verb::Number) => enter_number(catalog, &name, words, told),
+            Some(Verb::Plus) => resolve(catalog, &name, Sign::Plus, words.byte(), told),
+            Some(Verb::Minus) => resolve(catalog, &name, Sign::Minus, words.byte(), told),
+            Some(Verb::Find) => tell_found(told, catalog.find(&name)),
+            Some(Verb::Show) => tell_group_of(told, catalog, &name),
+            Some(Verb::Member) => tell_member(told, catalog, &name),
+            None => {}
         }
     }
 }
 
-/// Enters or puts a name, or a number of its group, for a volume.
-fn enter_for(
-    alloc: Global,
-    catalog: &mut Catalog,
-    names: &[DsName],
-    verb: &[u8],
-    name: DsName,
-    words: &mut Words<'_>,
-    told: &mut Vec<u8>,
-) -> Result<(), AllocError> {
-    let number = if verb == b"NUMBER".as_slice() {
-        words.short()
-    } else {
-        0
-    };
-    let Some(serial) = serial(words) else {
-        return Ok(());
-    };
-    match verb {
-        b"ENTER" => enter(alloc, catalog, names, name, serial, told),
-        b"PUT" => put(alloc, catalog, names, name, serial, told),
-        _ => enter_number(catalog, &name, number, serial, told),
-    }
-}
-
-/// Does a command about a name, one of these.
-fn on_name(
-    alloc: Global,
-    catalog: &mut Catalog,
-    names: &[DsName],
-    verb: &[u8],
-    name: DsName,
-    words: &mut Words<'_>,
-    told: &mut Vec<u8>,
-) -> Result<(), AllocError> {
-    match verb {
-        b"ENTER" | b"PUT" | b"NUMBER" => {
-            enter_for(alloc, catalog, names, verb, name, words, told)
-        }
-        b"GROUP" => make_group(alloc, catalog, names, name, words, told),
-        b"REMOVE" => push_done(told, catalog.remove(&name)),
-        b"CLEAR" => {
-            catalog.clear(&name);
-            push_line(told, b"OK")
-        }
-        _ => tell(catalog, verb, &name, words, told),
-    }
-}
-
-/// Answers commands about a catalog.
-pub(crate) fn answer(
-    alloc: Global,
-    mut lines: Lines<'_>,
-    told: &mut Vec<u8>,
-) -> Result<(), AllocError> {
-    let mut catalog = Catalog::new(alloc);
+/// An empty catalog, beside the names that the lines say, each behind a verb.
+pub(crate) fn new_catalog(alloc: Global, mut lines: Lines<'_>, told: &mut Told) -> Cataloged {
     let mut names = Vec::new(alloc);
     for _ in 0..lines.len() {
         let Some(line) = lines.next_line() else {
             break;
         };
         let mut words = Words::new(line);
-        let verb = words.next_word();
-        if let Some(name) = ds_name(&mut words) {
-            names.push(name)?;
-            on_name(
-                alloc,
-                &mut catalog,
-                names.as_slice(),
-                verb,
-                name,
-                &mut words,
-                told,
-            )?;
+        words.next_word();
+        if let Some(name) = base_or_name(&mut words)
+            && names.push(name).is_err()
+        {
+            told.want();
         }
-        push_unless_understood(told, line, &words)?;
     }
-    Ok(())
+    Cataloged {
+        catalog: Catalog::new(alloc),
+        names,
+    }
 }

@@ -3,12 +3,33 @@ ghost use Rattle.std.specs.Prelude.{◌≡◌, ◌<◌, ◌≤◌};
 
 use crate::compared::{free_both, is_same, take_both};
 use crate::keys::volume_tracks;
-use crate::tells::{not_allowed, push_place, push_unless_understood};
+use crate::tells::tell_place;
 use extent_core::extent::Extent;
 use extent_core::free::FreeExtents;
-use row_table::told::{push_line, push_numbered_line};
+use row_table::told::Told;
 use row_table::words::{Lines, Words};
-use std::alloc::{AllocError, Global};
+use std::alloc::Global;
+
+#[derive(Clone, Copy)]
+enum Verb {
+    Free,
+    Take,
+    First,
+    Largest,
+    At,
+    Tracks,
+    Change,
+}
+
+const VERBS: [(&str, Verb); 7] = [
+    ("FREE", Verb::Free),
+    ("TAKE", Verb::Take),
+    ("FIRST", Verb::First),
+    ("LARGEST", Verb::Largest),
+    ("AT", Verb::At),
+    ("TRACKS", Verb::Tracks),
+    ("CHANGE", Verb::Change),
+];
 
 /// A number that follows another, as if by chance.
 fn next_number(number: u32) -> u32 {
@@ -61,98 +82,67 @@ fn change_often(fast: &mut FreeExtents, slow: &mut [bool], rounds: u16) -> Optio
 }
 
 /// Tells whether over 100 extents were freed, and the slow search always found the same.
-fn push_often(told: &mut Vec<u8>, freed: Option<u16>) -> Result<(), AllocError> {
+fn tell_often(told: &mut Told, freed: Option<u16>) {
     match freed {
-        None => push_line(told, b"DIFFERS"),
-        Some(freed) if freed > 100 => push_line(told, b"OVER 100 FREED"),
-        Some(freed) => push_numbered_line(told, b"FREED ", freed.into()),
+        None => told.line(b"DIFFERS"),
+        Some(freed) if freed > 100 => told.line(b"OVER 100 FREED"),
+        Some(freed) => told.numbered_line(b"FREED ", freed.into()),
     }
 }
 
 /// Frees tracks of which none is free.
-fn free(
-    fast: &mut FreeExtents,
-    slow: &mut [bool],
-    words: &mut Words<'_>,
-    told: &mut Vec<u8>,
-) -> Result<(), AllocError>
+fn free(fast: &mut FreeExtents, slow: &mut [bool], words: &mut Words<'_>, told: &mut Told)
     requires { fast.old ≡ slow.old }
     ensures { fast.new ≡ slow.new }
 {
     let start = words.short();
     let tracks = words.short();
     if free_both(fast, slow, Extent { start, tracks }) {
-        push_line(told, b"OK")
+        told.line(b"OK");
     } else {
-        not_allowed(told)
-    }
-}
-
-/// Tells what is free.
-fn tell(
-    fast: &FreeExtents,
-    verb: &[u8],
-    words: &mut Words<'_>,
-    told: &mut Vec<u8>,
-) -> Result<(), AllocError> {
-    match verb {
-        b"FIRST" => push_place(told, fast.first(words.short())),
-        b"LARGEST" => push_place(told, fast.largest()),
-        b"AT" => push_place(told, fast.extent_at(words.short())),
-        b"TRACKS" => push_numbered_line(told, b"", fast.tracks() as u64),
-        _ => {
-            words.refuse();
-            Ok(())
-        }
+        told.not_allowed();
     }
 }
 
 /// Does a command about free extents.
-fn on_extents(
-    fast: &mut FreeExtents,
-    slow: &mut [bool],
-    verb: &[u8],
-    words: &mut Words<'_>,
-    told: &mut Vec<u8>,
-) -> Result<(), AllocError>
+fn on_extents(fast: &mut FreeExtents, slow: &mut [bool], words: &mut Words<'_>, told: &mut Told)
     requires { fast.old ≡ slow.old }
     ensures { fast.new ≡ slow.new }
 {
-    match verb {
-        b"FREE" => free(fast, slow, words, told),
-        b"TAKE" => {
-            let taken = take_both(fast, slow, words.short());
-            push_place(told, taken)
-        }
-        b"CHANGE" => {
-            let freed = change_often(fast, slow, words.short());
-            push_often(told, freed)
-        }
-        _ => tell(fast, verb, words, told),
+    match words.one_of(&VERBS) {
+        Some(Verb::Free) => free(fast, slow, words, told),
+        Some(Verb::Take) => tell_place(told, take_both(fast, slow, words.short())),
+        Some(Verb::First) => tell_place(told, fast.first(words.short())),
+        Some(Verb::Largest) => tell_place(told, fast.largest()),
+        Some(Verb::At) => tell_place(told, fast.extent_at(words.short())),
+        Some(Verb::Tracks) => told.numbered_line(b"", fast.tracks() as u64),
+        Some(Verb::Change) => tell_often(told, change_often(fast, slow, words.short())),
+        None => {}
+    }
+    if !is_same(fast, slow, 1) {
+        told.line(b"DIFFERS");
     }
 }
 
 /// Answers commands about the free extents of a volume of which no track is free at first.
-pub(crate) fn answer(
+pub(crate) fn answer_extents(
     alloc: Global,
     words: &mut Words<'_>,
-    mut lines: Lines<'_>,
-    told: &mut Vec<u8>,
-) -> Result<(), AllocError> {
+    lines: &mut Lines<'_>,
+    told: &mut Told,
+) {
     let tracks = volume_tracks(words);
-    let mut fast = FreeExtents::new(alloc, tracks)?;
-    let mut slow = vec![in alloc; false; usize::from(tracks)]?;
+    let fast = told.got(FreeExtents::new(alloc, tracks));
+    let slow = told.got(vec![in alloc; false; usize::from(tracks)]);
+    let (Some(mut fast), Some(mut slow)) = (fast, slow) else {
+        return;
+    };
     'commands: for _ in 0..lines.len() {
         let Some(line) = lines.next_line() else {
             break;
         };
         let mut words = Words::new(line);
-        let verb = words.next_word();
-        on_extents(&mut fast, slow.as_mut_slice(), verb, &mut words, told)?;
-        if !is_same(&fast, slow.as_slice(), 1) {
-            push_line(told, b"DIFFERS")?;
-        }
-        push_unless_understood(told, line, &words)?;
+        on_extents(&mut fast, slow.as_mut_slice(), &mut words, told);
+        words.end(line, told);
     }
-    Ok(())
 }

@@ -1,105 +1,123 @@
 //! Generation data groups by themselves.
-use crate::keys::serial;
-use crate::tells::{not_allowed, push_found, push_group, push_rolled, push_unless_understood};
+use crate::tells::{tell_found, tell_group, tell_rolled};
 use group_core::group::{Group, GroupFault};
 use jname_core::key::Sign;
-use row_table::told::{push_line, push_numbered_line};
+use row_table::desk::Desk;
+use row_table::names::serial;
+use row_table::told::Told;
 use row_table::words::{Lines, Words};
-use std::alloc::{AllocError, Global};
+use std::alloc::Global;
 
-fn push_fault(told: &mut Vec<u8>, fault: GroupFault) -> Result<(), AllocError> {
+#[derive(Clone, Copy)]
+enum Verb {
+    Enter,
+    Remove,
+    Plus,
+    Minus,
+    Find,
+    Show,
+    Copy,
+    Copied,
+}
+
+const VERBS: [(&str, Verb); 8] = [
+    ("ENTER", Verb::Enter),
+    ("REMOVE", Verb::Remove),
+    ("PLUS", Verb::Plus),
+    ("MINUS", Verb::Minus),
+    ("FIND", Verb::Find),
+    ("SHOW", Verb::Show),
+    ("COPY", Verb::Copy),
+    ("COPIED", Verb::Copied),
+];
+
+fn tell_fault(told: &mut Told, fault: GroupFault) {
     match fault {
-        GroupFault::Elsewhere => push_line(told, b"ELSEWHERE"),
-        GroupFault::NoGeneration => push_line(told, b"NO GENERATION"),
-        GroupFault::TooHigh => push_line(told, b"TOO HIGH"),
+        GroupFault::Elsewhere => told.line(b"ELSEWHERE"),
+        GroupFault::NoGeneration => told.line(b"NO GENERATION"),
+        GroupFault::TooHigh => told.line(b"TOO HIGH"),
     }
 }
 
 /// Enters a number for a volume.
-fn enter(group: &mut Group, words: &mut Words<'_>, told: &mut Vec<u8>) -> Result<(), AllocError> {
+fn enter(group: &mut Group, words: &mut Words<'_>, told: &mut Told) {
     let number = words.short();
     let Some(serial) = serial(words) else {
-        return Ok(());
+        return;
     };
     if number == 0 || number > 9999 {
-        return not_allowed(told);
+        return told.not_allowed();
     }
     match group.enter(number, serial) {
-        Ok(rolled) => push_rolled(told, rolled),
-        Err(fault) => push_fault(told, fault),
+        Ok(rolled) => tell_rolled(told, rolled),
+        Err(fault) => tell_fault(told, fault),
     }
 }
 
 /// Tells the number that a relative number means.
-fn resolve(group: &Group, sign: Sign, amount: u8, told: &mut Vec<u8>) -> Result<(), AllocError> {
+fn resolve(group: &Group, sign: Sign, amount: u8, told: &mut Told) {
     match group.resolve(sign, amount) {
-        Ok(number) => push_numbered_line(told, b"", number.into()),
-        Err(fault) => push_fault(told, fault),
+        Ok(number) => told.numbered_line(b"", number.into()),
+        Err(fault) => tell_fault(told, fault),
     }
 }
 
-fn remove(group: &mut Group, number: u16, told: &mut Vec<u8>) -> Result<(), AllocError> {
+fn remove(group: &mut Group, number: u16, told: &mut Told) {
     match group.remove(number) {
-        Ok(()) => push_line(told, b"OK"),
-        Err(fault) => push_fault(told, fault),
+        Ok(()) => told.line(b"OK"),
+        Err(fault) => tell_fault(told, fault),
     }
 }
 
-/// Does a command about a group.
-fn on_group(
-    group: &mut Group,
-    verb: &[u8],
-    words: &mut Words<'_>,
-    told: &mut Vec<u8>,
-) -> Result<(), AllocError> {
-    match verb {
-        b"ENTER" => enter(group, words, told),
-        b"REMOVE" => remove(group, words.short(), told),
-        b"PLUS" => resolve(group, Sign::Plus, words.byte(), told),
-        b"MINUS" => resolve(group, Sign::Minus, words.byte(), told),
-        b"FIND" => push_found(told, group.find(words.short())),
-        b"SHOW" => push_group(told, group),
-        _ => {
-            words.refuse();
-            Ok(())
+/// A group, and a copy of it.
+#[derive(Drop)]
+pub(crate) struct Groups {
+    group: Group,
+    copy: Group,
+}
+
+impl Groups {
+    fn copy_group(&mut self, told: &mut Told) {
+        if let Some(copy) = told.got(self.group.clone()) {
+            self.copy = copy;
         }
     }
 }
 
-/// The group of a limit, which scratches what rolls off where the word says so.
-fn group_in(alloc: Global, words: &mut Words<'_>) -> Result<Group, AllocError> {
+impl Desk for Groups {
+    fn show(&mut self, _alloc: Global, told: &mut Told) {
+        tell_group(told, &self.group);
+    }
+
+    fn act(
+        &mut self,
+        _alloc: Global,
+        words: &mut Words<'_>,
+        _lines: &mut Lines<'_>,
+        told: &mut Told,
+    ) {
+        match words.one_of(&VERBS) {
+            Some(Verb::Enter) => enter(&mut self.group, words, told),
+            Some(Verb::Remove) => remove(&mut self.group, words.short(), told),
+            Some(Verb::Plus) => resolve(&self.group, Sign::Plus, words.byte(), told),
+            Some(Verb::Minus) => resolve(&self.group, Sign::Minus, words.byte(), told),
+            Some(Verb::Find) => tell_found(told, self.group.find(words.short())),
+            Some(Verb::Show) => tell_group(told, &self.group),
+            Some(Verb::Copy) => self.copy_group(told),
+            Some(Verb::Copied) => tell_group(told, &self.copy),
+            None => {}
+        }
+    }
+}
+
+/// A group of the limit that comes next, which scratches what rolls off where the word behind it is SCRATCH.
+pub(crate) fn new_groups(alloc: Global, words: &mut Words<'_>, told: &mut Told) -> Option<Groups> {
     let limit = words.byte();
-    let scratches = match words.next_word() {
-        b"SCRATCH" => true,
-        b"" => false,
-        _ => {
-            words.refuse();
-            false
-        }
-    };
-    Group::new(alloc, limit, scratches)
-}
-
-/// Answers commands about a group, and about a copy of it.
-pub(crate) fn answer(
-    alloc: Global,
-    words: &mut Words<'_>,
-    mut lines: Lines<'_>,
-    told: &mut Vec<u8>,
-) -> Result<(), AllocError> {
-    let mut group = group_in(alloc, words)?;
-    let mut copy = Group::new(alloc, 0, false)?;
-    for _ in 0..lines.len() {
-        let Some(line) = lines.next_line() else {
-            break;
-        };
-        let mut words = Words::new(line);
-        match words.next_word() {
-            b"COPY" => copy = group.clone()?,
-            b"COPIED" => push_group(told, &copy)?,
-            verb => on_group(&mut group, verb, &mut words, told)?,
-        }
-        push_unless_understood(told, line, &words)?;
+    let scratches = !words.is_empty();
+    if scratches {
+        words.one_of(&[("SCRATCH", ())])?;
     }
-    Ok(())
+    let group = told.got(Group::new(alloc, limit, scratches))?;
+    let copy = told.got(Group::new(alloc, 0, false))?;
+    Some(Groups { group, copy })
 }

@@ -1,69 +1,79 @@
-//! Names, serials, keys and tracks as words.
+//! Names, keys and tracks as words.
 ghost use Rattle.std.specs.Prelude.{◌≤◌};
 
 use jname_core::ds_name::{DsName, read_ds_name};
-use jname_core::name8::Name8;
-use jname_core::serial::Serial;
-use row_table::words::Words;
-use std::alloc::{AllocError, Global};
+use row_table::names::{ds_name, name8};
+use row_table::told::Told;
+use row_table::words::{Lines, Words};
+use std::alloc::Global;
 use vtoc_core::entry::{Extent, SetKey};
 
-/// The name that a word is, or behind `BASE:` the base of a name.
-fn name_of(word: &[u8]) -> Option<DsName> {
-    match word.strip_prefix(b"BASE:".as_slice()) {
-        Some(name) => Some(read_ds_name(name).ok()?.base_of()),
-        None => read_ds_name(word).ok(),
-    }
+/// Takes the next word as the name of a data set, or behind `BASE:` as one whose base is meant.
+pub(crate) fn base_or_name(words: &mut Words<'_>) -> Option<DsName> {
+    let mut ahead = *words;
+    let Some(name) = ahead.next_word().strip_prefix(b"BASE:") else {
+        return ds_name(words);
+    };
+    *words = ahead;
+    let name = words.some(read_ds_name(name).ok())?;
+    Some(name.base_of())
 }
 
-/// Takes the next word as the name of a data set.
-pub(crate) fn ds_name(words: &mut Words<'_>) -> Option<DsName> {
-    let name = name_of(words.next_word());
-    if name.is_none() {
-        words.refuse();
-    }
-    name
+#[derive(Clone, Copy)]
+enum Kind {
+    Named,
+    Temporary,
+    Unnamed,
 }
 
-fn name8(words: &mut Words<'_>) -> Option<Name8> {
-    match Name8::read(words.next_word()) {
-        Ok(name) => Some(name),
-        Err(_) => {
-            words.refuse();
-            None
-        }
-    }
-}
-
-/// Takes the next word as the serial of a volume.
-pub(crate) fn serial(words: &mut Words<'_>) -> Option<Serial> {
-    let serial = Serial::read(words.next_word());
-    if serial.is_none() {
-        words.refuse();
-    }
-    serial
-}
+const KINDS: [(&str, Kind); 3] = [
+    ("NAMED", Kind::Named),
+    ("TEMP", Kind::Temporary),
+    ("DD", Kind::Unnamed),
+];
 
 /// Takes the next words as the key of a set: NAMED and a name, TEMP with a job and a name, or DD with a job, a step and a DD.
 pub(crate) fn key(words: &mut Words<'_>) -> Option<SetKey> {
-    match words.next_word() {
-        b"NAMED" => Some(SetKey::Named(ds_name(words)?)),
-        b"TEMP" => {
+    match words.one_of(&KINDS)? {
+        Kind::Named => Some(SetKey::Named(ds_name(words)?)),
+        Kind::Temporary => {
             let job = words.short();
             let name = name8(words)?;
             Some(SetKey::Temporary { job, name })
         }
-        b"DD" => {
+        Kind::Unnamed => {
             let job = words.short();
             let step = words.short();
             let dd = words.short();
             Some(SetKey::Unnamed { job, step, dd })
         }
-        _ => {
-            words.refuse();
-            None
-        }
     }
+}
+
+/// Adds the keys that a line says.
+fn add_keys(keys: &mut Vec<SetKey>, line: &[u8], told: &mut Told) {
+    let mut words = Words::new(line);
+    for _ in 0..line.len() {
+        let mut ahead = words;
+        if let Some(key) = key(&mut ahead)
+            && keys.push(key).is_err()
+        {
+            told.want();
+        }
+        words.next_word();
+    }
+}
+
+/// The keys that lines say.
+pub(crate) fn keys_in(alloc: Global, mut lines: Lines<'_>, told: &mut Told) -> Vec<SetKey> {
+    let mut keys = Vec::new(alloc);
+    for _ in 0..lines.len() {
+        let Some(line) = lines.next_line() else {
+            break;
+        };
+        add_keys(&mut keys, line, told);
+    }
+    keys
 }
 
 /// Takes the next word as the tracks of a volume, 4,000 at most.
@@ -79,19 +89,18 @@ pub(crate) fn volume_tracks(words: &mut Words<'_>) -> u16
 }
 
 /// Takes all further words as tracks that are never free.
-pub(crate) fn holes(alloc: Global, words: &mut Words<'_>) -> Result<Vec<Extent>, AllocError> {
+pub(crate) fn holes(alloc: Global, words: &mut Words<'_>, told: &mut Told) -> Vec<Extent> {
     let mut holes = Vec::new(alloc);
     for _ in 0..64u8 {
         if words.is_empty() {
-            return Ok(holes);
+            break;
         }
-        holes.push(Extent {
-            start: words.short(),
-            tracks: 1,
-        })?;
+        let start = words.short();
+        if holes.push(Extent { start, tracks: 1 }).is_err() {
+            told.want();
+        }
     }
-    words.refuse();
-    Ok(holes)
+    holes
 }
 
 /// Takes the next word as the byte that stands in all columns of a record.

@@ -14,7 +14,8 @@ mod volumes;
 
 use crate::desk::answer;
 use row_table::check::{Subject, check_tables};
-use std::alloc::{AllocError, Global};
+use row_table::told::Told;
+use std::alloc::Global;
 use std::io;
 use std::process::ExitCode;
 
@@ -22,8 +23,8 @@ use std::process::ExitCode;
 struct Commands;
 
 impl Subject for Commands {
-    fn answer(&self, alloc: Global, input: &[u8], told: &mut Vec<u8>) -> Result<(), AllocError> {
-        answer(alloc, input, told)
+    fn answer(&self, alloc: Global, input: &[u8], told: &mut Told) {
+        answer(alloc, input, told);
     }
 }
 

@@ -1,26 +1,33 @@
-//! A mounted volume, and the tracks that are kept on it. A call that answers want of memory is made again, when what is shown is as before.
+//! A mounted volume, and the tracks that are kept on it.
 ghost use Rattle.std.specs.Prelude.{◌≤◌};
 
-use crate::keys::{holes, key, volume_tracks};
-use crate::tells::{push_answer, push_counts, push_set, push_unless_understood, push_wanting};
+use crate::keys::{holes, key, keys_in, volume_tracks};
+use crate::tells::{tell_answer, tell_counts, tell_set};
 use jname_core::serial::Serial;
 use mount_core::mounted::Mounted;
 use mount_core::place::KeptPlace;
-use row_table::told::push_line;
+use row_table::desk::Desk;
+use row_table::told::Told;
 use row_table::words::{Lines, Words};
-use std::alloc::{AllocError, Global};
+use std::alloc::Global;
 use vtoc_core::entry::SetKey;
-use vtoc_core::fault::VolumeFault;
 
-/// The tracks of each kind, and the sets of these keys.
-fn shown(alloc: Global, mounted: &Mounted, keys: &[SetKey]) -> Result<Vec<u8>, AllocError> {
-    let mut out = Vec::new(alloc);
-    push_counts(&mut out, &mounted.volume().track_counts())?;
-    for key in keys {
-        push_set(&mut out, mounted.volume().find(key))?;
-    }
-    Ok(out)
+#[derive(Clone, Copy)]
+enum Verb {
+    Keep,
+    Make,
+    Give,
+    Counts,
+    Show,
 }
+
+const VERBS: [(&str, Verb); 5] = [
+    ("KEEP", Verb::Keep),
+    ("MAKE", Verb::Make),
+    ("GIVE", Verb::Give),
+    ("COUNTS", Verb::Counts),
+    ("SHOW", Verb::Show),
+];
 
 /// Takes the next words as the place of a DD: its job, its step and its number.
 fn place(words: &mut Words<'_>) -> KeptPlace {
@@ -31,113 +38,77 @@ fn place(words: &mut Words<'_>) -> KeptPlace {
 }
 
 /// Keeps tracks for a place.
-fn keep(
-    alloc: Global,
-    mounted: &mut Mounted,
-    keys: &[SetKey],
-    words: &mut Words<'_>,
-    told: &mut Vec<u8>,
-) -> Result<(), AllocError> {
+fn keep(mounted: &mut Mounted, words: &mut Words<'_>, told: &mut Told) {
     let place = place(words);
-    let tracks = words.short();
-    let before = shown(alloc, mounted, keys)?;
-    let mut answer = mounted.keep(place, tracks);
-    if answer == Err(VolumeFault::Memory) {
-        let after = shown(alloc, mounted, keys)?;
-        push_wanting(told, before.as_slice(), after.as_slice())?;
-        answer = mounted.keep(place, tracks);
-    }
-    push_answer(told, answer)
+    tell_answer(told, mounted.keep(place, words.short()));
 }
 
 /// Makes a set of the tracks that are kept for a place, or of free ones.
-fn make_set(
-    alloc: Global,
-    mounted: &mut Mounted,
-    keys: &[SetKey],
-    place: &KeptPlace,
-    key: &SetKey,
-    tracks: u16,
-    told: &mut Vec<u8>,
-) -> Result<(), AllocError> {
-    let before = shown(alloc, mounted, keys)?;
-    let mut answer = mounted.make(alloc, place, *key, tracks, None);
-    if answer == Err(VolumeFault::Memory) {
-        let after = shown(alloc, mounted, keys)?;
-        push_wanting(told, before.as_slice(), after.as_slice())?;
-        answer = mounted.make(alloc, place, *key, tracks, None);
-    }
-    push_answer(told, answer)
-}
-
-/// Makes a set at a place, by the key behind it.
-fn make(
-    alloc: Global,
-    mounted: &mut Mounted,
-    keys: &mut Vec<SetKey>,
-    words: &mut Words<'_>,
-    told: &mut Vec<u8>,
-) -> Result<(), AllocError> {
+fn make(alloc: Global, mounted: &mut Mounted, words: &mut Words<'_>, told: &mut Told) {
     let place = place(words);
-    let Some(key) = key(words) else {
-        return Ok(());
-    };
-    let tracks = words.short();
-    keys.push(key)?;
-    match keys.last() {
-        Some(key) => make_set(alloc, mounted, keys.as_slice(), &place, key, tracks, told),
-        None => Ok(()),
+    if let Some(key) = key(words) {
+        tell_answer(told, mounted.make(alloc, &place, key, words.short(), None));
     }
 }
-/// Does a command about the mounted volume.
-fn on_mounted(
-    alloc: Global,
-    mounted: &mut Mounted,
-    keys: &mut Vec<SetKey>,
-    words: &mut Words<'_>,
-    told: &mut Vec<u8>,
-) -> Result<(), AllocError> {
-    match words.next_word() {
-        b"KEEP" => keep(alloc, mounted, keys.as_slice(), words, told),
-        b"MAKE" => make(alloc, mounted, keys, words, told),
-        b"GIVE" => {
-            let place = place(words);
-            mounted.give_back(&place);
-            push_line(told, b"OK")
+
+fn give(mounted: &mut Mounted, words: &mut Words<'_>, told: &mut Told) {
+    let place = place(words);
+    mounted.give_back(&place);
+    told.line(b"OK");
+}
+
+fn show(mounted: &Mounted, words: &mut Words<'_>, told: &mut Told) {
+    if let Some(key) = key(words) {
+        tell_set(told, mounted.volume().find(&key));
+    }
+}
+
+/// A mounted volume, and the keys of its row.
+#[derive(Drop)]
+pub(crate) struct Kept {
+    mounted: Mounted,
+    keys: Vec<SetKey>,
+}
+
+impl Desk for Kept {
+    fn show(&mut self, _alloc: Global, told: &mut Told) {
+        let volume = self.mounted.volume();
+        tell_counts(told, &volume.track_counts());
+        for key in self.keys.as_slice() {
+            tell_set(told, volume.find(key));
         }
-        b"COUNTS" => push_counts(told, &mounted.volume().track_counts()),
-        b"SHOW" => match key(words) {
-            Some(key) => push_set(told, mounted.volume().find(&key)),
-            None => Ok(()),
-        },
-        _ => {
-            words.refuse();
-            Ok(())
+    }
+
+    fn act(
+        &mut self,
+        alloc: Global,
+        words: &mut Words<'_>,
+        _lines: &mut Lines<'_>,
+        told: &mut Told,
+    ) {
+        let mounted = &mut self.mounted;
+        match words.one_of(&VERBS) {
+            Some(Verb::Keep) => keep(mounted, words, told),
+            Some(Verb::Make) => make(alloc, mounted, words, told),
+            Some(Verb::Give) => give(mounted, words, told),
+            Some(Verb::Counts) => tell_counts(told, &mounted.volume().track_counts()),
+            Some(Verb::Show) => show(mounted, words, told),
+            None => {}
         }
     }
 }
 
-/// Answers commands about a mounted volume.
-pub(crate) fn answer(
+/// A volume of so many tracks, beside the keys that the lines say.
+pub(crate) fn new_kept(
     alloc: Global,
     words: &mut Words<'_>,
-    mut lines: Lines<'_>,
-    told: &mut Vec<u8>,
-) -> Result<(), AllocError> {
-    let Some(serial) = Serial::read(b"VOL001") else {
-        return Ok(());
-    };
+    lines: Lines<'_>,
+    told: &mut Told,
+) -> Option<Kept> {
+    let serial = Serial::read(b"VOL001")?;
     let tracks = volume_tracks(words);
-    let holes = holes(alloc, words)?;
-    let mut mounted = Mounted::new(alloc, serial, tracks, holes.as_slice())?;
-    let mut keys = Vec::new(alloc);
-    for _ in 0..lines.len() {
-        let Some(line) = lines.next_line() else {
-            break;
-        };
-        let mut words = Words::new(line);
-        on_mounted(alloc, &mut mounted, &mut keys, &mut words, told)?;
-        push_unless_understood(told, line, &words)?;
-    }
-    Ok(())
+    let holes = holes(alloc, words, told);
+    let mounted = told.got(Mounted::new(alloc, serial, tracks, holes.as_slice()))?;
+    let keys = keys_in(alloc, lines, told);
+    Some(Kept { mounted, keys })
 }

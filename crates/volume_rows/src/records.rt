@@ -1,130 +1,109 @@
-//! The records of a set by themselves. A call that answers want of memory is made again, when the records are as before.
+//! The records of a set by themselves.
 use crate::keys::column;
-use crate::tells::{column_of, push_records, push_unless_understood, push_wanting};
-use row_table::told::{push_line, push_numbered_line};
+use crate::tells::{column_of, tell_records};
+use row_table::desk::Desk;
+use row_table::told::Told;
 use row_table::words::{Lines, Words};
 use set_core::records::Records;
-use std::alloc::{AllocError, Global};
+use std::alloc::Global;
 
-fn shown(alloc: Global, records: &Records) -> Result<Vec<u8>, AllocError> {
-    let mut out = Vec::new(alloc);
-    push_records(&mut out, records)?;
-    Ok(out)
+#[derive(Clone, Copy)]
+enum Verb {
+    Fill,
+    Append,
+    Write,
+    Clear,
+    Show,
+    Count,
+    Tracks,
+    Read,
+    Full,
 }
 
-/// Appends a record.
-fn append(
-    alloc: Global,
-    records: &mut Records,
-    byte: u8,
-    told: &mut Vec<u8>,
-) -> Result<(), AllocError> {
-    let before = shown(alloc, records)?;
-    if records.append([byte; 80]).is_err() {
-        let after = shown(alloc, records)?;
-        push_wanting(told, before.as_slice(), after.as_slice())?;
-        records.append([byte; 80])?;
-    }
-    push_line(told, b"OK")
-}
+const VERBS: [(&str, Verb); 9] = [
+    ("FILL", Verb::Fill),
+    ("APPEND", Verb::Append),
+    ("WRITE", Verb::Write),
+    ("CLEAR", Verb::Clear),
+    ("SHOW", Verb::Show),
+    ("COUNT", Verb::Count),
+    ("TRACKS", Verb::Tracks),
+    ("READ", Verb::Read),
+    ("FULL", Verb::Full),
+];
 
-/// Puts a record in place of all.
-fn write(
-    alloc: Global,
-    records: &mut Records,
-    byte: u8,
-    told: &mut Vec<u8>,
-) -> Result<(), AllocError> {
-    let before = shown(alloc, records)?;
-    if records.write_first([byte; 80]).is_err() {
-        let after = shown(alloc, records)?;
-        push_wanting(told, before.as_slice(), after.as_slice())?;
-        records.write_first([byte; 80])?;
-    }
-    push_line(told, b"OK")
-}
-
-/// Appends so many records.
-fn fill(records: &mut Records, count: u16, byte: u8) -> Result<(), AllocError> {
+/// Appends so many records. One for which memory is wanting is appended again.
+fn fill(records: &mut Records, count: u16, byte: u8, told: &mut Told) {
     for _ in 0..count {
-        records.append([byte; 80])?;
+        if records.append([byte; 80]).is_err() {
+            told.over(records.append([byte; 80]));
+        }
     }
-    Ok(())
 }
 
 /// The byte in all columns of a record, or NONE.
-fn push_read(told: &mut Vec<u8>, records: &Records, place: u16) -> Result<(), AllocError> {
+fn tell_read(told: &mut Told, records: &Records, place: u16) {
     match records.read_at(usize::from(place)) {
-        Some(record) => push_line(told, &[column_of(record)]),
-        None => push_line(told, b"NONE"),
+        Some(record) => told.line(&[column_of(record)]),
+        None => told.line(b"NONE"),
     }
 }
 
-/// Tells what is there.
-fn tell(
-    records: &Records,
-    verb: &[u8],
-    words: &mut Words<'_>,
-    told: &mut Vec<u8>,
-) -> Result<(), AllocError> {
-    match verb {
-        b"SHOW" => push_records(told, records),
-        b"COUNT" => push_numbered_line(told, b"", records.len() as u64),
-        b"TRACKS" => push_numbered_line(told, b"", records.tracks_used() as u64),
-        b"READ" => push_read(told, records, words.short()),
-        b"FULL" => {
-            let word: &[u8] = if records.fills(usize::from(words.short())) {
-                b"YES"
-            } else {
-                b"NO"
-            };
-            push_line(told, word)
-        }
-        _ => {
-            words.refuse();
-            Ok(())
+fn tell_full(told: &mut Told, records: &Records, tracks: u16) {
+    if records.fills(usize::from(tracks)) {
+        told.line(b"YES");
+    } else {
+        told.line(b"NO");
+    }
+}
+
+/// Records, of which there is none at first.
+#[derive(Drop)]
+pub(crate) struct Written {
+    records: Records,
+}
+
+impl Written {
+    pub(crate) fn new(alloc: Global) -> Written {
+        Written {
+            records: Records::new(alloc),
         }
     }
 }
 
-/// Does a command about records.
-fn on_records(
-    alloc: Global,
-    records: &mut Records,
-    verb: &[u8],
-    words: &mut Words<'_>,
-    told: &mut Vec<u8>,
-) -> Result<(), AllocError> {
-    match verb {
-        b"FILL" => {
-            let count = words.short();
-            fill(records, count, column(words))
-        }
-        b"APPEND" => append(alloc, records, column(words), told),
-        b"WRITE" => write(alloc, records, column(words), told),
-        b"CLEAR" => {
-            records.clear();
-            Ok(())
-        }
-        _ => tell(records, verb, words, told),
+impl Desk for Written {
+    fn show(&mut self, _alloc: Global, told: &mut Told) {
+        tell_records(told, &self.records);
     }
-}
 
-/// Answers commands about records, of which there is none at first.
-pub(crate) fn answer(
-    alloc: Global,
-    mut lines: Lines<'_>,
-    told: &mut Vec<u8>,
-) -> Result<(), AllocError> {
-    let mut records = Records::new(alloc);
-    for _ in 0..lines.len() {
-        let Some(line) = lines.next_line() else {
-            break;
-        };
-        let mut words = Words::new(line);
-        let verb = words.next_word();
-        on_records(alloc, &mut records, verb, &mut words, told)?;
-        push_unless_understood(told, line, &words)?;
+    fn act(
+        &mut self,
+        _alloc: Global,
+        words: &mut Words<'_>,
+        _lines: &mut Lines<'_>,
+        told: &mut Told,
+    ) {
+        let records = &mut self.records;
+        match words.one_of(&VERBS) {
+            Some(Verb::Fill) => {
+                let count = words.short();
+                fill(records, count, column(words), told);
+            }
+            Some(Verb::Append) => {
+                told.over(records.append([column(words); 80]));
+                told.line(b"OK");
+            }
+            Some(Verb::Write) => {
+                told.over(records.write_first([column(words); 80]));
+                told.line(b"OK");
+            }
+            Some(Verb::Clear) => records.clear(),
+            Some(Verb::Show) => tell_records(told, records),
+            Some(Verb::Count) => told.numbered_line(b"", records.len() as u64),
+            Some(Verb::Tracks) => told.numbered_line(b"", records.tracks_used() as u64),
+            Some(Verb::Read) => tell_read(told, records, words.short()),
+            Some(Verb::Full) => tell_full(told, records, words.short()),
+            None => {}
+        }
     }
-    Ok(())
 }

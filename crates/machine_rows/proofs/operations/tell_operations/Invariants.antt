@@ -1,5 +1,5 @@
 use Rattle.std.proofs.Common.{◌≤◌, length}
-use Rattle.machine_rows.proofs.operations.push_operations.Given as goal
+use Rattle.machine_rows.proofs.operations.tell_operations.Given as goal
 
 abbrev pub invariant-loop-started : goal.invariant-loop-started
 invariant-loop-started l = length l.units ≤ l.started

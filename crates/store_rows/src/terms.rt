@@ -1,0 +1,141 @@
+//! The terms on which a job runs: its places, its answers, how its steps end, and its date.
+use jcl_meaning::solo::SoloAnswers;
+use jcl_meaning::state::Place;
+use jcl_plan::day::Day;
+use jcl_plan::outcome::{Abend, Code, Outcome};
+use plain::listed::Listed;
+use row_table::names::serial;
+use row_table::told::Told;
+use row_table::words::Words;
+use std::alloc::Global;
+
+/// For how many days the set of a DD is to be kept.
+#[derive(Clone, Copy)]
+pub(crate) struct Period {
+    pub(crate) step: usize,
+    pub(crate) dd: usize,
+    pub(crate) days: u16,
+}
+
+/// What a job is given.
+#[derive(Drop)]
+pub(crate) struct Terms {
+    pub(crate) places: Listed<Place>,
+    pub(crate) answers: SoloAnswers,
+    /// How the steps end, where that is given.
+    pub(crate) path: Option<Listed<Outcome>>,
+    pub(crate) periods: Listed<Period>,
+    pub(crate) date: Day,
+}
+
+#[derive(Clone, Copy)]
+pub(crate) enum TermsVerb {
+    Place,
+    Grant,
+    Cancel,
+    Date,
+    Retpd,
+    Path,
+}
+
+const OUTCOMES: [(&str, Outcome); 3] = [
+    ("S222", Outcome::Abend(Abend::S222)),
+    ("B", Outcome::Bypassed),
+    ("F", Outcome::Flushed),
+];
+
+pub(crate) fn no_terms(alloc: Global, date: Day) -> Terms {
+    Terms {
+        places: Listed::empty(alloc),
+        answers: SoloAnswers {
+            grants: Listed::empty(alloc),
+            cancels: Listed::empty(alloc),
+        },
+        path: None,
+        periods: Listed::empty(alloc),
+        date,
+    }
+}
+
+/// Takes the next word as how a step ends: as `C0004` or `U0000` by itself; `S222` is a step that is cancelled, `B` one that is bypassed, and
+/// `F` one that is flushed.
+fn outcome(words: &mut Words<'_>) -> Option<Outcome> {
+    let mut ahead = *words;
+    if let Some(outcome) = ahead.one_of(&OUTCOMES) {
+        *words = ahead;
+        return Some(outcome);
+    }
+    let word = words.next_word();
+    let (letter, digits) = words.some(word.split_first())?;
+    let code = words.some(Code::new(Words::new(digits).short()))?;
+    match *letter {
+        b'C' => Some(Outcome::Code(code)),
+        b'U' => Some(Outcome::Abend(Abend::User(code))),
+        _ => words.some(None),
+    }
+}
+
+impl Terms {
+    fn add_place(&mut self, words: &mut Words<'_>, told: &mut Told) {
+        let step = usize::from(words.short());
+        let dd = usize::from(words.short());
+        if let Some(serial) = serial(words) {
+            told.over(self.places.push(Place { step, dd, serial }));
+        }
+    }
+
+    fn add_grant(&mut self, words: &mut Words<'_>, told: &mut Told) {
+        if let Some(granted) = words.one_of(&[("YES", true), ("NO", false)]) {
+            told.over(self.answers.grants.push(granted));
+        }
+    }
+
+    fn set_date(&mut self, words: &mut Words<'_>) {
+        let date = Day::new(words.number());
+        if let Some(date) = words.some(date) {
+            self.date = date;
+        }
+    }
+
+    fn add_period(&mut self, words: &mut Words<'_>, told: &mut Told) {
+        let step = usize::from(words.short());
+        let dd = usize::from(words.short());
+        let days = words.short();
+        told.over(self.periods.push(Period { step, dd, days }));
+    }
+
+    /// Takes all further words as how the steps end.
+    fn set_path(&mut self, alloc: Global, words: &mut Words<'_>, told: &mut Told) {
+        let mut path = Listed::empty(alloc);
+        for _ in 0..255u8 {
+            if words.is_empty() {
+                break;
+            }
+            if let Some(outcome) = outcome(words) {
+                told.over(path.push(outcome));
+            }
+        }
+        self.path = Some(path);
+    }
+
+    /// Takes a line of what a job is given.
+    pub(crate) fn take(
+        &mut self,
+        alloc: Global,
+        verb: TermsVerb,
+        words: &mut Words<'_>,
+        told: &mut Told,
+    ) {
+        match verb {
+            TermsVerb::Place => self.add_place(words, told),
+            TermsVerb::Grant => self.add_grant(words, told),
+            TermsVerb::Cancel => {
+                let lines = words.some_number();
+                told.over(self.answers.cancels.push(lines));
+            }
+            TermsVerb::Date => self.set_date(words),
+            TermsVerb::Retpd => self.add_period(words, told),
+            TermsVerb::Path => self.set_path(alloc, words, told),
+        }
+    }
+}
