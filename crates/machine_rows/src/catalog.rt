@@ -5,9 +5,9 @@ use cat_core::fault::CatFault;
 use group_core::group::Rolled;
 use jname_core::ds_name::DsName;
 use jname_core::serial::Serial;
+use row_table::desk::Line;
 use row_table::names::{ds_name, serial};
 use row_table::told::Told;
-use row_table::words::Words;
 use shared_core::store::SharedStore;
 use std::alloc::Global;
 use store_core::job_store::JobStore;
@@ -40,31 +40,34 @@ fn tell_rolled(told: &mut Told, rolled: Rolled) {
     }
 }
 
-/// Whether the group of a base is there, and a number is not in it.
-fn is_new(store: &SharedStore, base: &DsName, number: u16) -> bool {
-    match store.group(1, base) {
-        None => false,
-        Some(group) => group.find(number).is_none(),
-    }
-}
-
 /// Enters a number that is not in the group of a base.
-fn enter_number(store: &mut SharedStore, base: &DsName, words: &mut Words<'_>, told: &mut Told) {
-    let number = words.short();
-    let Some(serial) = serial(words) else {
-        return;
-    };
-    if number == 0 || number > 9999 || !is_new(store, base, number) {
+fn enter_for(store: &mut SharedStore, base: &DsName, number: u16, serial: Serial, told: &mut Told) {
+    if number == 0 || number > 9999 {
         return told.not_allowed();
+    }
+    match store.group(1, base) {
+        None => return told.not_allowed(),
+        Some(group) => {
+            if group.find(number).is_some() {
+                return told.not_allowed();
+            }
+        }
     }
     tell_rolled(told, store.enter_number(1, base, number, serial));
 }
 
+fn enter_number(store: &mut SharedStore, base: &DsName, line: &mut Line<'_>) {
+    let number = line.words.short();
+    if let Some(serial) = serial(&mut line.words) {
+        enter_for(store, base, number, serial, &mut line.told);
+    }
+}
+
 /// Enters a name for a volume.
-fn enter(store: &mut SharedStore, name: &DsName, words: &mut Words<'_>, told: &mut Told) {
-    let job = words.short();
-    if let Some(serial) = serial(words) {
-        told.over(store.enter(job, name, serial));
+fn enter(store: &mut SharedStore, name: &DsName, line: &mut Line<'_>) {
+    let job = line.words.short();
+    if let Some(serial) = serial(&mut line.words) {
+        line.told.over(store.enter(job, name, serial));
     }
 }
 
@@ -90,18 +93,20 @@ pub(crate) fn on_catalog(
     alloc: Global,
     store: &mut SharedStore,
     verb: CatalogVerb,
-    words: &mut Words<'_>,
-    told: &mut Told,
+    line: &mut Line<'_>,
 ) {
-    let Some(name) = ds_name(words) else {
+    let Some(name) = ds_name(&mut line.words) else {
         return;
     };
     match verb {
-        CatalogVerb::Enter => enter(store, &name, words, told),
-        CatalogVerb::Uncatalog => store.uncatalog(words.short(), &name),
-        CatalogVerb::Cataloged => tell_volume(told, store.volume(words.short(), &name)),
-        CatalogVerb::Group => make_group(alloc, store, name, words.byte(), told),
-        CatalogVerb::Number => enter_number(store, &name, words, told),
-        CatalogVerb::Generations => tell_generations(told, store, &name),
+        CatalogVerb::Enter => enter(store, &name, line),
+        CatalogVerb::Uncatalog => store.uncatalog(line.words.short(), &name),
+        CatalogVerb::Cataloged => tell_volume(
+            &mut line.told,
+            store.volume(line.words.short(), &name),
+        ),
+        CatalogVerb::Group => make_group(alloc, store, name, line.words.byte(), &mut line.told),
+        CatalogVerb::Number => enter_number(store, &name, line),
+        CatalogVerb::Generations => tell_generations(&mut line.told, store, &name),
     }
 }

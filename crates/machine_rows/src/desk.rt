@@ -9,14 +9,14 @@ use crate::sets::{SetVerb, mount, on_set};
 use crate::spool::{SpoolVerb, Written, nothing_written, on_spool};
 use cat_core::catalog::Catalog;
 use enq_core::table::{EnqTable, Held};
-use plain::lent::Lent;
 use plain::listed::Listed;
+use plain::text::Text;
 use prog_core::library::ProgramLibrary;
-use row_table::desk::{Desk, answer_lines};
+use row_table::desk::{Desk, Line, answer_lines};
 use row_table::told::Told;
-use row_table::words::{Lines, Words};
 use shared_core::store::SharedStore;
 use std::alloc::Global;
+use std::mem;
 
 /// What a line says.
 #[derive(Clone, Copy)]
@@ -71,39 +71,36 @@ struct Machine<'a> {
     library: ProgramLibrary,
     store: SharedStore,
     written: Written,
-    watches: &'a [Lent<'a>],
+    watches: Listed<Text>,
 }
 
 impl Desk for Machine<'_> {
     fn show(&mut self, alloc: Global, told: &mut Told) {
-        let watches = self.watches;
-        for watch in watches {
-            let mut words = Words::new(watch.as_slice());
-            self.act(alloc, &mut words, &mut Lines::new(b""), told);
+        let watches = mem::replace(&mut self.watches, Listed::empty(alloc));
+        for watch in watches.as_slice() {
+            let mut line = Line::new(alloc, watch.as_slice());
+            line.next();
+            self.act(alloc, &mut line);
+            told.append(&line.told);
         }
+        self.watches = watches;
     }
 
-    fn act(
-        &mut self,
-        alloc: Global,
-        words: &mut Words<'_>,
-        lines: &mut Lines<'_>,
-        told: &mut Told,
-    ) {
-        match words.one_of(&VERBS) {
+    fn act(&mut self, alloc: Global, line: &mut Line<'_>) {
+        match line.words.one_of(&VERBS) {
             Some(Verb::Holds(verb)) => {
-                on_holds(alloc, &mut self.table, self.held, verb, words, told);
+                on_holds(alloc, &mut self.table, self.held, verb, line);
             }
-            Some(Verb::Program) => add_program(alloc, &mut self.library, words, told),
-            Some(Verb::Runs) => tell_runs(told, &self.library, words),
-            Some(Verb::Operations) => tell_operations(alloc, lines, told),
-            Some(Verb::Volume) => mount(alloc, &mut self.store, words, told),
-            Some(Verb::Set(verb)) => on_set(&mut self.store, verb, words, told),
-            Some(Verb::Catalog(verb)) => on_catalog(alloc, &mut self.store, verb, words, told),
-            Some(Verb::Places) => tell_places(alloc, lines, told),
-            Some(Verb::Spool(verb)) => on_spool(alloc, &mut self.written, verb, words, told),
+            Some(Verb::Program) => add_program(alloc, &mut self.library, line),
+            Some(Verb::Runs) => tell_runs(&self.library, line),
+            Some(Verb::Operations) => tell_operations(alloc, line),
+            Some(Verb::Volume) => mount(alloc, &mut self.store, line),
+            Some(Verb::Set(verb)) => on_set(&mut self.store, verb, line),
+            Some(Verb::Catalog(verb)) => on_catalog(alloc, &mut self.store, verb, line),
+            Some(Verb::Places) => tell_places(alloc, line),
+            Some(Verb::Spool(verb)) => on_spool(alloc, &mut self.written, verb, line),
             Some(Verb::Watch) => {
-                words.left();
+                line.words.left();
             }
             None => {}
         }
@@ -111,16 +108,17 @@ impl Desk for Machine<'_> {
 }
 
 /// The commands that a row watches.
-fn watches_in<'a>(alloc: Global, mut lines: Lines<'a>, told: &mut Told) -> Vec<Lent<'a>> {
-    let mut watches = Vec::new(alloc);
+fn watches_in(alloc: Global, line: &mut Line<'_>) -> Listed<Text> {
+    let mut watches = Listed::empty(alloc);
+    let mut lines = line.lines;
     for _ in 0..lines.len() {
-        let Some(line) = lines.next_line() else {
+        let Some(text) = lines.next_line() else {
             break;
         };
-        if let Some(watch) = line.strip_prefix(b"WATCH ")
-            && watches.push(Lent::new(watch)).is_err()
+        if let Some(watch) = text.strip_prefix(b"WATCH ")
+            && let Some(watch) = line.told.got(Text::copy_of(alloc, watch))
         {
-            told.want();
+            line.told.over(watches.push(watch));
         }
     }
     watches
@@ -128,8 +126,8 @@ fn watches_in<'a>(alloc: Global, mut lines: Lines<'a>, told: &mut Told) -> Vec<L
 
 /// What the commands of a row tell, in turn. All names are given free behind them.
 pub(crate) fn answer(alloc: Global, input: &[u8], told: &mut Told) {
-    let mut lines = Lines::new(input);
-    let watches = watches_in(alloc, lines, told);
+    let mut line = Line::new(alloc, input);
+    let watches = watches_in(alloc, &mut line);
     let mut held = Vec::new(alloc);
     let mut machine = Machine {
         table: EnqTable::new(alloc),
@@ -141,9 +139,10 @@ pub(crate) fn answer(alloc: Global, input: &[u8], told: &mut Told) {
             volumes: Listed::empty(alloc),
         },
         written: nothing_written(alloc),
-        watches: watches.as_slice(),
+        watches,
     };
-    answer_lines(alloc, &mut machine, &mut lines, told);
-    release_all(&mut machine.table, machine.held);
-    held.destroy_empty();
+    answer_lines(alloc, &mut machine, &mut line);
+    told.append(&line.told);
+    let Machine { mut table, .. } = machine;
+    release_all(&mut table, held);
 }

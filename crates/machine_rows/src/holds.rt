@@ -1,12 +1,12 @@
 //! Names that jobs hold.
-ghost use Rattle.std.specs.Prelude.{◌≡◌, [], true, vec_len};
+ghost use Rattle.std.specs.Prelude.{◌≡◌, true, vec_len};
 ghost use Rattle.enq_core.specs.Holds.{HoldsNone};
 
 use enq_core::order::are_wants;
 use enq_core::table::{Blocked, EnqTable, Held, HoldFault, Want};
 use jname_core::ds_name::read_ds_name;
+use row_table::desk::Line;
 use row_table::told::Told;
-use row_table::words::Words;
 use std::alloc::{AllocFailed, Global};
 
 #[derive(Clone, Copy)]
@@ -23,30 +23,30 @@ fn holds_none(table: &EnqTable, job: u16) -> bool
 }
 
 /// Takes the next word as a name that a job wants, or as SHR or OLD: whether what stands behind it is for the job alone.
-fn add_want(wants: &mut Vec<Want>, exclusive: bool, words: &mut Words<'_>, told: &mut Told) -> bool {
-    let mut ahead = *words;
+fn add_want(wants: &mut Vec<Want>, exclusive: bool, line: &mut Line<'_>) -> bool {
+    let mut ahead = line.words;
     if let Some(exclusive) = ahead.one_of(&[("SHR", false), ("OLD", true)]) {
-        *words = ahead;
+        line.words = ahead;
         return exclusive;
     }
-    let name = read_ds_name(words.next_word()).ok();
-    if let Some(name) = words.some(name)
+    let name = read_ds_name(line.words.next_word()).ok();
+    if let Some(name) = line.words.some(name)
         && wants.push(Want { name, exclusive }).is_err()
     {
-        told.want();
+        line.told.want();
     }
     exclusive
 }
 
 /// The names behind the words SHR and OLD, shared and for the job alone.
-fn wants_in(alloc: Global, words: &mut Words<'_>, told: &mut Told) -> Vec<Want> {
+fn wants_in(alloc: Global, line: &mut Line<'_>) -> Vec<Want> {
     let mut wants = Vec::new(alloc);
     let mut exclusive = false;
     for _ in 0..64u8 {
-        if words.is_empty() {
+        if line.words.is_empty() {
             break;
         }
-        exclusive = add_want(&mut wants, exclusive, words, told);
+        exclusive = add_want(&mut wants, exclusive, line);
     }
     wants
 }
@@ -65,13 +65,7 @@ fn tell_blocked(told: &mut Told, blocked: &Blocked) {
 }
 
 /// A job holds these names, or none of them, and what stands in its way is told.
-fn hold(
-    table: &mut EnqTable,
-    held: &mut Vec<Held>,
-    job: u16,
-    wants: &[Want],
-    told: &mut Told,
-) {
+fn hold(table: &mut EnqTable, held: &mut Vec<Held>, job: u16, wants: &[Want], told: &mut Told) {
     if !are_wants(wants) || !holds_none(table, job) {
         return told.not_allowed();
     }
@@ -91,12 +85,11 @@ fn release(table: &mut EnqTable, held: &mut Vec<Held>, job: u16, told: &mut Told
 }
 
 /// Gives all names free.
-pub(crate) fn release_all(table: &mut EnqTable, held: &mut Vec<Held>)
-    ensures { held.new.items ≡ [] }
-{
+pub(crate) fn release_all(table: &mut EnqTable, mut held: Vec<Held>) {
     while let Some(own) = held.pop() {
         table.release(own);
     }
+    held.destroy_empty();
 }
 
 /// The held names in the order in which they were held, each behind the job and SHR or OLD.
@@ -115,16 +108,15 @@ pub(crate) fn on_holds(
     table: &mut EnqTable,
     held: &mut Vec<Held>,
     verb: HoldVerb,
-    words: &mut Words<'_>,
-    told: &mut Told,
+    line: &mut Line<'_>,
 ) {
     match verb {
         HoldVerb::Hold => {
-            let job = words.short();
-            let wants = wants_in(alloc, words, told);
-            hold(table, held, job, wants.as_slice(), told);
+            let job = line.words.short();
+            let wants = wants_in(alloc, line);
+            hold(table, held, job, wants.as_slice(), &mut line.told);
         }
-        HoldVerb::Release => release(table, held, words.short(), told),
-        HoldVerb::Holds => tell_holds(told, table),
+        HoldVerb::Release => release(table, held, line.words.short(), &mut line.told),
+        HoldVerb::Holds => tell_holds(&mut line.told, table),
     }
 }

@@ -4,9 +4,9 @@ ghost use Rattle.std.specs.Prelude.{◌+◌, ◌<◌, ◌≤◌, length};
 use jname_core::serial::Serial;
 use prog_core::fault::UnitFault;
 use prog_core::units::Units;
+use row_table::desk::Line;
 use row_table::names::serial;
 use row_table::told::Told;
-use row_table::words::{Lines, Words};
 use std::alloc::Global;
 
 #[derive(Clone, Copy)]
@@ -45,23 +45,21 @@ fn end_operation(units: &mut Units, serial: Serial) -> Result<(), UnitFault>
 }
 
 /// Does a command about the operation on a volume.
-fn on_volume(
-    alloc: Global,
-    units: &mut Units,
-    verb: Verb,
-    words: &mut Words<'_>,
-    told: &mut Told,
-)
+fn on_volume(alloc: Global, units: &mut Units, verb: Verb, line: &mut Line<'_>)
     requires { length units.old < 16 }
     ensures { length units.new ≤ length units.old + 1 }
 {
-    let Some(serial) = serial(words) else {
+    let Some(serial) = serial(&mut line.words) else {
         return;
     };
     match verb {
-        Verb::Start => tell_answer(alloc, told, units.start(serial, words.short())),
-        Verb::DeviceEnd => tell_answer(alloc, told, end_operation(units, serial)),
-        _ => told.line(if units.is_busy(serial) {
+        Verb::Start => tell_answer(
+            alloc,
+            &mut line.told,
+            units.start(serial, line.words.short()),
+        ),
+        Verb::DeviceEnd => tell_answer(alloc, &mut line.told, end_operation(units, serial)),
+        _ => line.told.line(if units.is_busy(serial) {
             b"BUSY"
         } else {
             b"FREE"
@@ -70,30 +68,36 @@ fn on_volume(
 }
 
 /// Does a command about operations.
-fn act(alloc: Global, units: &mut Units, words: &mut Words<'_>, told: &mut Told)
+fn act(alloc: Global, units: &mut Units, line: &mut Line<'_>)
     requires { length units.old < 16 }
     ensures { length units.new ≤ length units.old + 1 }
 {
-    match words.one_of(&VERBS) {
-        Some(Verb::Finish) => tell_answer(alloc, told, units.finish(words.short())),
-        Some(Verb::Abandon) => units.abandon(words.short()),
-        Some(verb) => on_volume(alloc, units, verb, words, told),
+    match line.words.one_of(&VERBS) {
+        Some(Verb::Finish) => tell_answer(alloc, &mut line.told, units.finish(line.words.short())),
+        Some(Verb::Abandon) => units.abandon(line.words.short()),
+        Some(verb) => on_volume(alloc, units, verb, line),
         None => {}
     }
 }
 
+/// Whether the line is `/END`, which is taken then.
+fn is_end(line: &mut Line<'_>) -> bool {
+    let mut words = line.words;
+    let ends = words.one_of(&[("/END", ())]).is_some();
+    if ends {
+        line.words = words;
+    }
+    ends
+}
+
 /// Does the commands of the next lines up to `/END`, of which there are sixteen at most.
-pub(crate) fn tell_operations(alloc: Global, lines: &mut Lines<'_>, told: &mut Told) {
+pub(crate) fn tell_operations(alloc: Global, line: &mut Line<'_>) {
     let mut units = Units::new();
     for started in 0..16u8 {
-        let Some(line) = lines.next_line() else {
-            break;
-        };
-        if line == b"/END".as_slice() {
+        if !line.next() || is_end(line) {
             break;
         }
-        let mut words = Words::new(line);
-        act(alloc, &mut units, &mut words, told);
-        words.end(line, told);
+        act(alloc, &mut units, line);
+        line.end();
     }
 }

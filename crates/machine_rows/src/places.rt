@@ -17,9 +17,10 @@ use jname_core::serial::Serial;
 use mount_core::mounted::Mounted;
 use place_core::place::place_sets;
 use plain::listed::Listed;
+use row_table::desk::Line;
 use row_table::names::{name8, serial};
 use row_table::told::Told;
-use row_table::words::{Lines, Words};
+use row_table::words::Words;
 use shared_core::laws::new_volumes_keep_nothing;
 use shared_core::store::SharedStore;
 use std::alloc::{AllocError, Global};
@@ -112,32 +113,37 @@ fn kind_in(alloc: Global, words: &mut Words<'_>) -> Option<DdKind> {
     })
 }
 
+/// Whether the line is `STEP` or `/END`, which is taken then.
+fn is_end(line: &mut Line<'_>) -> bool {
+    let mut words = line.words;
+    let ends = words.one_of(&[("STEP", ()), ("/END", ())]).is_some();
+    if ends {
+        line.words = words;
+    }
+    ends
+}
+
 /// The DDs of the lines up to the one that says `STEP` or `/END`.
-fn dds_in(alloc: Global, lines: &mut Lines<'_>, told: &mut Told) -> Listed<DdPlan> {
+fn dds_in(alloc: Global, line: &mut Line<'_>) -> Listed<DdPlan> {
     let mut dds = Listed::empty(alloc);
-    for _ in 0..lines.len() {
-        let Some(line) = lines.next_line() else {
-            break;
-        };
-        let mut words = Words::new(line);
-        if words.one_of(&[("STEP", ()), ("/END", ())]).is_some() {
+    for _ in 0..line.lines.len() {
+        if !line.next() || is_end(line) {
             break;
         }
-        words = Words::new(line);
-        if let Some(kind) = kind_in(alloc, &mut words) {
-            told.over(dds.push(DdPlan { name: None, kind }));
+        if let Some(kind) = kind_in(alloc, &mut line.words) {
+            line.told.over(dds.push(DdPlan { name: None, kind }));
         }
-        words.end(line, told);
+        line.end();
     }
     dds
 }
 
 /// A job of two steps with these DDs, named as its program.
-fn job_of(alloc: Global, program: Name8, lines: &mut Lines<'_>, told: &mut Told) -> JobPlan {
+fn job_of(alloc: Global, program: Name8, line: &mut Line<'_>) -> JobPlan {
     let mut steps = Listed::empty(alloc);
     for _ in 0..2u8 {
-        let dds = dds_in(alloc, lines, told);
-        told.over(steps.push(StepPlan {
+        let dds = dds_in(alloc, line);
+        line.told.over(steps.push(StepPlan {
             name: None,
             procedure_step: None,
             program,
@@ -246,14 +252,14 @@ fn serials_in(words: &mut Words<'_>) -> Option<Serials> {
 }
 
 /// The places of the sets of the DDs that the next lines say, up to `/END`.
-pub(crate) fn tell_places(alloc: Global, lines: &mut Lines<'_>, told: &mut Told) {
+pub(crate) fn tell_places(alloc: Global, line: &mut Line<'_>) {
     let serials = serials_in(&mut Words::new(b"111111 222222 333333 999999"));
     let program = name8(&mut Words::new(b"IEFBR14"));
     let (Some(serials), Some(program)) = (serials, program) else {
         return;
     };
-    let job = job_of(alloc, program, lines, told);
-    if let Some(places) = told.got(found_again(alloc, &job, &serials)) {
-        tell_found(told, places.as_slice());
+    let job = job_of(alloc, program, line);
+    if let Some(places) = line.told.got(found_again(alloc, &job, &serials)) {
+        tell_found(&mut line.told, places.as_slice());
     }
 }

@@ -4,6 +4,7 @@ use jcl_plan::outcome::{Abend, Code, Outcome};
 use jcl_plan::plan::Record;
 use plain::listed::Listed;
 use prog_core::library::ProgramLibrary;
+use row_table::desk::Line;
 use row_table::names::name8;
 use row_table::told::Told;
 use row_table::words::Words;
@@ -46,14 +47,14 @@ fn request(words: &mut Words<'_>) -> Option<Request> {
 }
 
 /// Takes all further words as requests.
-fn requests(alloc: Global, words: &mut Words<'_>, told: &mut Told) -> Listed<Request> {
+fn requests(alloc: Global, line: &mut Line<'_>) -> Listed<Request> {
     let mut requests = Listed::empty(alloc);
     for _ in 0..64u8 {
-        if words.is_empty() {
+        if line.words.is_empty() {
             break;
         }
-        if let Some(request) = request(words) {
-            told.over(requests.push(request));
+        if let Some(request) = request(&mut line.words) {
+            line.told.over(requests.push(request));
         }
     }
     requests
@@ -70,18 +71,13 @@ fn add(library: &mut ProgramLibrary, program: SoloProgram) -> Result<bool, Alloc
 }
 
 /// Adds a program, whose requests are all further words.
-pub(crate) fn add_program(
-    alloc: Global,
-    library: &mut ProgramLibrary,
-    words: &mut Words<'_>,
-    told: &mut Told,
-) {
-    let Some(name) = name8(words) else {
+pub(crate) fn add_program(alloc: Global, library: &mut ProgramLibrary, line: &mut Line<'_>) {
+    let Some(name) = name8(&mut line.words) else {
         return;
     };
-    let requests = requests(alloc, words, told);
-    if told.got(add(library, SoloProgram { name, requests })) == Some(false) {
-        told.not_allowed();
+    let requests = requests(alloc, line);
+    if line.told.got(add(library, SoloProgram { name, requests })) == Some(false) {
+        line.told.not_allowed();
     }
 }
 
@@ -103,28 +99,36 @@ fn tell_code(told: &mut Told, word: &[u8], code: Code) {
     told.numbered_line(word, u64::from(code.number()));
 }
 
+fn tell_abend(told: &mut Told, abend: Abend) {
+    match abend {
+        Abend::User(code) => tell_code(told, b"USER ", code),
+        Abend::S806 => told.line(b"S806"),
+        _ => told.line(b"ANOTHER ABEND"),
+    }
+}
+
 fn tell_ending(told: &mut Told, ending: Outcome) {
     match ending {
         Outcome::Code(code) => tell_code(told, b"CODE ", code),
-        Outcome::Abend(Abend::User(code)) => tell_code(told, b"USER ", code),
-        Outcome::Abend(Abend::S806) => told.line(b"S806"),
-        _ => told.line(b"ANOTHER END"),
+        Outcome::Abend(abend) => tell_abend(told, abend),
+        Outcome::Bypassed | Outcome::Flushed => told.line(b"ANOTHER END"),
     }
 }
 
 /// Whether a program is there, how many records it moves, those of its first eight places, and how it ends.
-pub(crate) fn tell_runs(told: &mut Told, library: &ProgramLibrary, words: &mut Words<'_>) {
-    let Some(name) = name8(words) else {
+pub(crate) fn tell_runs(library: &ProgramLibrary, line: &mut Line<'_>) {
+    let Some(name) = name8(&mut line.words) else {
         return;
     };
     if !library.has(&name) {
-        told.line(b"NOT THERE");
+        line.told.line(b"NOT THERE");
     }
-    told.numbered_line(b"MOVES ", library.move_count(&name) as u64);
+    line.told
+        .numbered_line(b"MOVES ", library.move_count(&name) as u64);
     for place in 0..8usize {
         if let Some(moved) = library.move_at(&name, place) {
-            tell_move(told, &moved);
+            tell_move(&mut line.told, &moved);
         }
     }
-    tell_ending(told, library.ending_of(&name));
+    tell_ending(&mut line.told, library.ending_of(&name));
 }

@@ -5,6 +5,7 @@ use jcl_meaning::state::Place;
 use jname_core::key::{Key, Sign};
 use jname_core::serial::Serial;
 use mount_core::mounted::Mounted;
+use row_table::desk::Line;
 use row_table::names::{ds_name, name8, serial};
 use row_table::told::Told;
 use row_table::words::Words;
@@ -60,37 +61,35 @@ fn key(words: &mut Words<'_>) -> Option<Key> {
 }
 
 /// Takes all further words as tracks that are never free.
-fn holes(alloc: Global, words: &mut Words<'_>, told: &mut Told) -> Vec<Extent> {
+fn holes(alloc: Global, line: &mut Line<'_>) -> Vec<Extent> {
     let mut holes = Vec::new(alloc);
     for _ in 0..64u8 {
-        if words.is_empty() {
+        if line.words.is_empty() {
             break;
         }
-        let start = words.short();
+        let start = line.words.short();
         if holes.push(Extent { start, tracks: 1 }).is_err() {
-            told.want();
+            line.told.want();
         }
     }
     holes
 }
 
 /// Mounts a volume of so many tracks.
-pub(crate) fn mount(
-    alloc: Global,
-    store: &mut SharedStore,
-    words: &mut Words<'_>,
-    told: &mut Told,
-) {
-    let Some(serial) = serial(words) else {
+pub(crate) fn mount(alloc: Global, store: &mut SharedStore, line: &mut Line<'_>) {
+    let Some(serial) = serial(&mut line.words) else {
         return;
     };
-    let tracks = words.short();
-    let holes = holes(alloc, words, told);
+    let tracks = line.words.short();
+    let holes = holes(alloc, line);
     if tracks > 4000 {
-        return told.not_allowed();
+        return line.told.not_allowed();
     }
-    if let Some(mounted) = told.got(Mounted::new(alloc, serial, tracks, holes.as_slice())) {
-        told.over(store.volumes.push(mounted));
+    if let Some(mounted) = line
+        .told
+        .got(Mounted::new(alloc, serial, tracks, holes.as_slice()))
+    {
+        line.told.over(store.volumes.push(mounted));
     }
 }
 
@@ -147,27 +146,27 @@ fn make(
 }
 
 /// Does a command about the set of a job, by its key and its volume.
-pub(crate) fn on_set(
-    store: &mut SharedStore,
-    verb: SetVerb,
-    words: &mut Words<'_>,
-    told: &mut Told,
-) {
-    let job = words.short();
-    let (Some(key), Some(serial)) = (key(words), serial(words)) else {
+pub(crate) fn on_set(store: &mut SharedStore, verb: SetVerb, line: &mut Line<'_>) {
+    let job = line.words.short();
+    let (Some(key), Some(serial)) = (key(&mut line.words), serial(&mut line.words)) else {
         return;
     };
     match verb {
-        SetVerb::Make => make(store, job, &key, serial, words.short(), told),
-        SetVerb::Grow => tell_room(told, store.grow(job, &key, serial, words.short())),
-        SetVerb::Append => told.over(store.append(job, &key, serial, &[words.byte(); 80])),
+        SetVerb::Make => make(store, job, &key, serial, line.words.short(), &mut line.told),
+        SetVerb::Grow => tell_room(
+            &mut line.told,
+            store.grow(job, &key, serial, line.words.short()),
+        ),
+        SetVerb::Append => line
+            .told
+            .over(store.append(job, &key, serial, &[line.words.byte(); 80])),
         SetVerb::Record => {
-            let place = usize::from(words.short());
-            tell_columns(told, store.record(job, &key, serial, place));
+            let place = usize::from(line.words.short());
+            tell_columns(&mut line.told, store.record(job, &key, serial, place));
         }
         SetVerb::Empty => store.empty(job, &key, serial),
         SetVerb::Trim => store.trim(job, &key, serial),
         SetVerb::Scratch => store.scratch(job, &key, serial),
-        SetVerb::Set => tell_facts(told, store.set(job, &key, serial)),
+        SetVerb::Set => tell_facts(&mut line.told, store.set(job, &key, serial)),
     }
 }

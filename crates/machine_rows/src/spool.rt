@@ -3,6 +3,7 @@ use jcl_meaning::state::Output;
 use jcl_plan::entry;
 use jcl_plan::entry::JobLine;
 use plain::listed::Listed;
+use row_table::desk::Line;
 use row_table::told::Told;
 use row_table::words::Words;
 use spool_core::spool::Spool;
@@ -45,18 +46,13 @@ fn class(words: &mut Words<'_>) -> u8 {
 }
 
 /// Adds a SYSOUT set of a class, with a record for each byte of a text: the byte in all columns.
-fn add_output(
-    alloc: Global,
-    outputs: &mut Listed<Output>,
-    words: &mut Words<'_>,
-    told: &mut Told,
-) {
-    let class = class(words);
+fn add_output(alloc: Global, outputs: &mut Listed<Output>, line: &mut Line<'_>) {
+    let class = class(&mut line.words);
     let mut records = Listed::empty(alloc);
-    for mark in words.next_word() {
-        told.over(records.push([*mark; 80]));
+    for mark in line.words.next_word() {
+        line.told.over(records.push([*mark; 80]));
     }
-    told.over(outputs.push(Output {
+    line.told.over(outputs.push(Output {
         step: 1,
         dd: 1,
         class,
@@ -81,12 +77,16 @@ fn tell_written(told: &mut Told, written: Option<(u16, entry::Written)>) {
 
 impl Written {
     /// The job is over.
-    fn enter(&mut self, alloc: Global, words: &mut Words<'_>, told: &mut Told) {
-        let job = words.short();
-        let class = class(words);
-        let last = JobLine::Selected(words.byte());
+    fn enter(&mut self, alloc: Global, line: &mut Line<'_>) {
+        let job = line.words.short();
+        let class = class(&mut line.words);
+        let last = JobLine::Selected(line.words.byte());
         let (lines, outputs) = (&mut self.lines, &mut self.outputs);
-        if told.got(self.spool.enter(job, class, lines, last, outputs)).is_some() {
+        if line
+            .told
+            .got(self.spool.enter(job, class, lines, last, outputs))
+            .is_some()
+        {
             self.lines = Listed::empty(alloc);
             self.outputs = Listed::empty(alloc);
         }
@@ -94,20 +94,17 @@ impl Written {
 }
 
 /// Does a command about writers.
-pub(crate) fn on_spool(
-    alloc: Global,
-    written: &mut Written,
-    verb: SpoolVerb,
-    words: &mut Words<'_>,
-    told: &mut Told,
-) {
+pub(crate) fn on_spool(alloc: Global, written: &mut Written, verb: SpoolVerb, line: &mut Line<'_>) {
     match verb {
         SpoolVerb::Line => {
-            let line = JobLine::Selected(words.byte());
-            told.over(written.lines.push(line));
+            let mark = line.words.byte();
+            line.told.over(written.lines.push(JobLine::Selected(mark)));
         }
-        SpoolVerb::Output => add_output(alloc, &mut written.outputs, words, told),
-        SpoolVerb::Over => written.enter(alloc, words, told),
-        SpoolVerb::Write => tell_written(told, written.spool.write(class(words))),
+        SpoolVerb::Output => add_output(alloc, &mut written.outputs, line),
+        SpoolVerb::Over => written.enter(alloc, line),
+        SpoolVerb::Write => tell_written(
+            &mut line.told,
+            written.spool.write(class(&mut line.words)),
+        ),
     }
 }

@@ -9,8 +9,8 @@ use jcl_refs::units::UnitNames;
 use jname_core::name8::UnitName;
 use plain::lent::Lent;
 use proc_library::library::ProcLibrary;
+use row_table::desk::Line;
 use row_table::told::Told;
-use row_table::words::Lines;
 use std::alloc::Global;
 use value_core::refusal::ReadError;
 
@@ -29,17 +29,17 @@ fn unit_names(alloc: Global, told: &mut Told) -> UnitNames {
 }
 
 /// The cards up to the line `/ENDDECK`.
-fn cards<'a>(alloc: Global, lines: &mut Lines<'a>, told: &mut Told) -> Vec<Lent<'a>> {
+fn cards<'a>(alloc: Global, line: &mut Line<'a>) -> Vec<Lent<'a>> {
     let mut cards = Vec::new(alloc);
-    for _ in 0..lines.len() {
-        let Some(card) = lines.next_line() else {
+    for _ in 0..line.lines.len() {
+        let Some(card) = line.lines.next_line() else {
             break;
         };
         if card == b"/ENDDECK".as_slice() {
             break;
         }
         if cards.push(Lent::new(card)).is_err() {
-            told.want();
+            line.told.want();
         }
     }
     cards
@@ -66,19 +66,19 @@ fn denoted(alloc: Global, units: &UnitNames, deck: &[Lent<'_>]) -> Result<JobPla
 }
 
 /// The job of the deck that comes next, or none, and its refusal is told.
-pub(crate) fn next_job(alloc: Global, lines: &mut Lines<'_>, told: &mut Told) -> Option<JobPlan>
+pub(crate) fn next_job(alloc: Global, line: &mut Line<'_>) -> Option<JobPlan>
     ensures { IfSome result (λ job. (units : ℕ) × IsWritable 32 units job) }
 {
-    let units = unit_names(alloc, told);
-    let deck = cards(alloc, lines, told);
+    let units = unit_names(alloc, &mut line.told);
+    let deck = cards(alloc, line);
     match denoted(alloc, &units, deck.as_slice()) {
         Ok(job) => Some(job),
         Err(ReadError::Refused(cause)) => {
-            tell_cause(told, cause);
+            tell_cause(&mut line.told, cause);
             None
         }
         Err(ReadError::Memory) => {
-            told.want();
+            line.told.want();
             None
         }
     }

@@ -9,8 +9,8 @@ use admit_core::cancels::Cancels;
 use cb_meaning::layout::LAYOUT_1;
 use cb_queue::list_store::ListStore;
 use cb_records::rec::Rec;
+use row_table::desk::Line;
 use row_table::told::Told;
-use row_table::words::{Lines, Words};
 use std::alloc::Global;
 
 /// What a line says.
@@ -84,25 +84,19 @@ fn take_few(alloc: Global, store: &mut ListStore, told: &mut Told) {
 }
 
 /// Does a command.
-fn act(
-    alloc: Global,
-    desk: &mut Desk,
-    words: &mut Words<'_>,
-    lines: &mut Lines<'_>,
-    told: &mut Told,
-) {
+fn act(alloc: Global, desk: &mut Desk, line: &mut Line<'_>) {
     let store = &mut desk.store;
-    match words.one_of(&VERBS) {
-        Some(Verb::Record(verb)) => on_record(alloc, &mut desk.rec, verb, words, told),
-        Some(Verb::Store(verb)) => on_store(alloc, store, verb, words, told),
-        Some(Verb::Few) => take_few(alloc, store, told),
-        Some(Verb::Deck(verb)) => on_deck(alloc, store, verb, words, lines, told),
-        Some(Verb::Job(verb)) => on_job(alloc, store, verb, words, told),
-        Some(Verb::Hold) => tell_held(alloc, words, lines, told),
-        Some(Verb::Sweep) => tell_sweep(alloc, store, words, told),
-        Some(Verb::Waiting(verb)) => on_waiting(alloc, store, verb, words, told),
-        Some(Verb::Cancels(verb)) => on_cancels(&mut desk.cancels, verb, words, told),
-        Some(Verb::Listings) => tell_listings(alloc, words, told),
+    match line.words.one_of(&VERBS) {
+        Some(Verb::Record(verb)) => on_record(alloc, &mut desk.rec, verb, line),
+        Some(Verb::Store(verb)) => on_store(alloc, store, verb, line),
+        Some(Verb::Few) => take_few(alloc, store, &mut line.told),
+        Some(Verb::Deck(verb)) => on_deck(alloc, store, verb, line),
+        Some(Verb::Job(verb)) => on_job(alloc, store, verb, line),
+        Some(Verb::Hold) => tell_held(alloc, line),
+        Some(Verb::Sweep) => tell_sweep(alloc, store, line),
+        Some(Verb::Waiting(verb)) => on_waiting(alloc, store, verb, line),
+        Some(Verb::Cancels(verb)) => on_cancels(&mut desk.cancels, verb, line),
+        Some(Verb::Listings) => tell_listings(alloc, line),
         None => {}
     }
 }
@@ -117,15 +111,15 @@ pub(crate) fn answer(alloc: Global, input: &[u8], told: &mut Told) {
         store,
         cancels: Cancels::new(alloc),
     };
-    let mut lines = Lines::new(input);
+    let mut line = Line::new(alloc, input);
     for _ in 0..input.len() {
-        let Some(line) = lines.next_line() else {
+        if !line.next() {
             break;
-        };
-        let mut words = Words::new(line);
-        act(alloc, &mut desk, &mut words, &mut lines, told);
-        if words.is_wrong() {
-            told.line_of_two(b"?", line);
+        }
+        act(alloc, &mut desk, &mut line);
+        if line.words.is_wrong() {
+            line.told.line_of_two(b"?", line.text());
         }
     }
+    told.append(&line.told);
 }

@@ -19,8 +19,9 @@ use cb_read::laws::the_first_layout_has_own_fields;
 use cb_walk::first_fault::first_fault;
 use jcl_plan::fault::QueueFault;
 use jcl_plan::plan::JobPlan;
+use row_table::desk::Line;
 use row_table::told::Told;
-use row_table::words::{Lines, Words};
+use row_table::words::Words;
 use std::alloc::{AllocError, Global};
 
 /// What is done with the job of a deck.
@@ -147,58 +148,45 @@ fn tell_fault(told: &mut Told, fault: Result<Option<u8>, AllocError>) {
 }
 
 /// Tells the first fault of job 1 from record 1 on, with one list of volumes, where these bytes stand in a record, which is as it was again.
-fn tell_tried(alloc: Global, store: &mut ListStore, words: &mut Words<'_>, told: &mut Told) {
-    let n = words.number();
-    let at = words.byte();
-    let Some(bytes) = told.got(words.text(alloc)) else {
+fn tell_tried(alloc: Global, store: &mut ListStore, line: &mut Line<'_>) {
+    let n = line.words.number();
+    let at = line.words.byte();
+    let Some(bytes) = line.told.got(line.words.text(alloc)) else {
         return;
     };
     let was = match store.get(n) {
-        None => return told.not_allowed(),
+        None => return line.told.not_allowed(),
         Some(rec) => *rec,
     };
     if !set_bytes(store, n, at, bytes.as_slice()) {
-        return told.not_allowed();
+        return line.told.not_allowed();
     }
-    tell_fault(told, first_fault(alloc, store, 1, 1, 1));
+    tell_fault(&mut line.told, first_fault(alloc, store, 1, 1, 1));
     put(store, n, &was);
 }
 
 /// Does a command about the job of the deck that comes next.
-pub(crate) fn on_deck(
-    alloc: Global,
-    store: &mut ListStore,
-    verb: DeckVerb,
-    words: &mut Words<'_>,
-    lines: &mut Lines<'_>,
-    told: &mut Told,
-) {
-    let Some(plan) = next_job(alloc, lines, told) else {
+pub(crate) fn on_deck(alloc: Global, store: &mut ListStore, verb: DeckVerb, line: &mut Line<'_>) {
+    let Some(plan) = next_job(alloc, line) else {
         return;
     };
     match verb {
-        DeckVerb::Plan => tell_job(told, &plan),
-        DeckVerb::Room => tell_room(told, &plan, words.number()),
-        DeckVerb::Write => write(store, words.short(), &plan, told),
-        DeckVerb::Enter => enter(store, words.short(), &plan, told),
+        DeckVerb::Plan => tell_job(&mut line.told, &plan),
+        DeckVerb::Room => tell_room(&mut line.told, &plan, line.words.number()),
+        DeckVerb::Write => write(store, line.words.short(), &plan, &mut line.told),
+        DeckVerb::Enter => enter(store, line.words.short(), &plan, &mut line.told),
     }
 }
 
 /// Tells the plan that a job's records denote, or its first fault alone.
-fn tell_strictly(
-    alloc: Global,
-    store: &ListStore,
-    whole: bool,
-    words: &mut Words<'_>,
-    told: &mut Told,
-) {
-    let job = words.short();
-    let first = words.number();
-    let units = words.short();
+fn tell_strictly(alloc: Global, store: &ListStore, whole: bool, line: &mut Line<'_>) {
+    let job = line.words.short();
+    let first = line.words.number();
+    let units = line.words.short();
     if whole {
-        tell_read(alloc, store, units, job, first, told);
+        tell_read(alloc, store, units, job, first, &mut line.told);
     } else {
-        tell_fault(told, first_fault(alloc, store, units, job, first));
+        tell_fault(&mut line.told, first_fault(alloc, store, units, job, first));
     }
 }
 
@@ -212,17 +200,11 @@ fn release(store: &mut ListStore, words: &mut Words<'_>) {
 }
 
 /// Does a command about a job in records.
-pub(crate) fn on_job(
-    alloc: Global,
-    store: &mut ListStore,
-    verb: JobVerb,
-    words: &mut Words<'_>,
-    told: &mut Told,
-) {
+pub(crate) fn on_job(alloc: Global, store: &mut ListStore, verb: JobVerb, line: &mut Line<'_>) {
     match verb {
-        JobVerb::Read => tell_strictly(alloc, store, true, words, told),
-        JobVerb::Fault => tell_strictly(alloc, store, false, words, told),
-        JobVerb::Try => tell_tried(alloc, store, words, told),
-        JobVerb::Release => release(store, words),
+        JobVerb::Read => tell_strictly(alloc, store, true, line),
+        JobVerb::Fault => tell_strictly(alloc, store, false, line),
+        JobVerb::Try => tell_tried(alloc, store, line),
+        JobVerb::Release => release(store, &mut line.words),
     }
 }

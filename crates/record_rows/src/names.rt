@@ -10,8 +10,8 @@ use enq_core::table::{Blocked, EnqTable};
 use jcl_plan::entry::JobLine;
 use jcl_plan::plan::JobPlan;
 use plain::listed::Listed;
+use row_table::desk::Line;
 use row_table::told::Told;
-use row_table::words::{Lines, Words};
 use std::alloc::Global;
 
 #[derive(Clone, Copy)]
@@ -66,16 +66,11 @@ fn tell_both(alloc: Global, first: u16, second: u16, plan: &JobPlan, told: &mut 
 }
 
 /// Two jobs in turn hold the names of the deck that comes next.
-pub(crate) fn tell_held(
-    alloc: Global,
-    words: &mut Words<'_>,
-    lines: &mut Lines<'_>,
-    told: &mut Told,
-) {
-    let first = words.short();
-    let second = words.short();
-    if let Some(plan) = next_job(alloc, lines, told) {
-        tell_both(alloc, first, second, &plan, told);
+pub(crate) fn tell_held(alloc: Global, line: &mut Line<'_>) {
+    let first = line.words.short();
+    let second = line.words.short();
+    if let Some(plan) = next_job(alloc, line) {
+        tell_both(alloc, first, second, &plan, &mut line.told);
     }
 }
 
@@ -97,27 +92,24 @@ fn tell_taken(told: &mut Told, taken: Option<Listing>) {
 }
 
 /// Enters the listing of a job, and tells of each other number what is taken under it.
-pub(crate) fn tell_listings(alloc: Global, words: &mut Words<'_>, told: &mut Told) {
-    let mut backlog = backlog_of(alloc, words.short(), told);
+pub(crate) fn tell_listings(alloc: Global, line: &mut Line<'_>) {
+    let mut backlog = backlog_of(alloc, line.words.short(), &mut line.told);
     for _ in 0..8u8 {
-        if words.is_empty() {
+        if line.words.is_empty() {
             break;
         }
-        tell_taken(told, backlog.take(words.short()));
+        tell_taken(&mut line.told, backlog.take(line.words.short()));
     }
 }
 
 /// Does a command about cancels.
-pub(crate) fn on_cancels(
-    cancels: &mut Cancels,
-    verb: CancelVerb,
-    words: &mut Words<'_>,
-    told: &mut Told,
-) {
-    let job = words.short();
+pub(crate) fn on_cancels(cancels: &mut Cancels, verb: CancelVerb, line: &mut Line<'_>) {
+    let job = line.words.short();
     match verb {
-        CancelVerb::Cancel => told.over(cancels.add(job)),
+        CancelVerb::Cancel => line.told.over(cancels.add(job)),
         CancelVerb::Acted => cancels.remove(job),
-        CancelVerb::Cancelled => told.line(if cancels.has(job) { b"YES" } else { b"NO" }),
+        CancelVerb::Cancelled => line
+            .told
+            .line(if cancels.has(job) { b"YES" } else { b"NO" }),
     }
 }

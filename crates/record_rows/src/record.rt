@@ -4,8 +4,8 @@ ghost use Rattle.std.specs.Prelude.{◌≡◌, ◌+◌, ◌<◌, ◌≤◌, ◌^
 use crate::fields::tell_fields;
 use cb_meaning::layout::Field;
 use cb_records::rec::{Rec, read_rec};
+use row_table::desk::Line;
 use row_table::told::Told;
-use row_table::words::Words;
 use std::alloc::Global;
 
 #[derive(Clone, Copy)]
@@ -70,23 +70,23 @@ fn is_within(number: u32, width: u8) -> bool
 }
 
 /// Writes a number of the record in hand, unless it does not fit or its field does not lie in the record.
-fn write_number(rec: &mut Rec, at: u8, words: &mut Words<'_>, told: &mut Told) {
-    let width = words.byte();
-    let number = words.number();
+fn write_number(rec: &mut Rec, at: u8, line: &mut Line<'_>) {
+    let width = line.words.byte();
+    let number = line.words.number();
     if !is_within(number, width) || at > 176 - width {
-        return told.not_allowed();
+        return line.told.not_allowed();
     }
     rec.write_number(Field { at, width }, number);
 }
 
 /// Writes a text of the record in hand, unless it does not fit or its field does not lie in the record.
-fn write_text(alloc: Global, rec: &mut Rec, at: u8, words: &mut Words<'_>, told: &mut Told) {
-    let width = words.byte();
-    let Some(text) = told.got(words.text(alloc)) else {
+fn write_text(alloc: Global, rec: &mut Rec, at: u8, line: &mut Line<'_>) {
+    let width = line.words.byte();
+    let Some(text) = line.told.got(line.words.text(alloc)) else {
         return;
     };
     if width > 176 || at > 176 - width || text.len() > usize::from(width) {
-        return told.not_allowed();
+        return line.told.not_allowed();
     }
     rec.write_text(Field { at, width }, text.as_slice());
 }
@@ -107,41 +107,36 @@ fn take_in_hand(rec: &mut Rec, made: Option<Rec>, told: &mut Told) {
 }
 
 /// Takes the record in hand that so many bytes of a value are.
-fn take_all(alloc: Global, rec: &mut Rec, words: &mut Words<'_>, told: &mut Told) {
-    let count = usize::from(words.short());
-    let value = words.byte();
-    if let Some(bytes) = told.got(vec![in alloc; value; count]) {
-        take_in_hand(rec, read_rec(bytes.as_slice()), told);
+fn take_all(alloc: Global, rec: &mut Rec, line: &mut Line<'_>) {
+    let count = usize::from(line.words.short());
+    let value = line.words.byte();
+    if let Some(bytes) = line.told.got(vec![in alloc; value; count]) {
+        take_in_hand(rec, read_rec(bytes.as_slice()), &mut line.told);
     }
 }
 
 /// A number of the record in hand.
-fn tell_field(told: &mut Told, rec: &Rec, words: &mut Words<'_>) {
-    let at = words.byte();
-    let width = words.byte();
+fn tell_field(rec: &Rec, line: &mut Line<'_>) {
+    let at = line.words.byte();
+    let width = line.words.byte();
     if width > 4 || at > 176 - width {
-        return told.not_allowed();
+        return line.told.not_allowed();
     }
-    told.numbered_line(b"", u64::from(rec.number(Field { at, width })));
+    line.told
+        .numbered_line(b"", u64::from(rec.number(Field { at, width })));
 }
 
 /// Does a command about the record in hand.
-pub(crate) fn on_record(
-    alloc: Global,
-    rec: &mut Rec,
-    verb: RecordVerb,
-    words: &mut Words<'_>,
-    told: &mut Told,
-) {
+pub(crate) fn on_record(alloc: Global, rec: &mut Rec, verb: RecordVerb, line: &mut Line<'_>) {
     match verb {
         RecordVerb::Zeros => *rec = Rec::zeroed(),
-        RecordVerb::Places => take_in_hand(rec, places(words.byte()), told),
-        RecordVerb::All => take_all(alloc, rec, words, told),
-        RecordVerb::Byte => write_byte(rec, words.byte(), words.byte(), told),
-        RecordVerb::Number => write_number(rec, words.byte(), words, told),
-        RecordVerb::Text => write_text(alloc, rec, words.byte(), words, told),
-        RecordVerb::Field => tell_field(told, rec, words),
-        RecordVerb::Fields => tell_fields(told, rec),
-        RecordVerb::Show => tell_record(told, rec.bytes()),
+        RecordVerb::Places => take_in_hand(rec, places(line.words.byte()), &mut line.told),
+        RecordVerb::All => take_all(alloc, rec, line),
+        RecordVerb::Byte => write_byte(rec, line.words.byte(), line.words.byte(), &mut line.told),
+        RecordVerb::Number => write_number(rec, line.words.byte(), line),
+        RecordVerb::Text => write_text(alloc, rec, line.words.byte(), line),
+        RecordVerb::Field => tell_field(rec, line),
+        RecordVerb::Fields => tell_fields(&mut line.told, rec),
+        RecordVerb::Show => tell_record(&mut line.told, rec.bytes()),
     }
 }

@@ -6,8 +6,8 @@ use cb_meaning::layout::{LAYOUT_1, Layout};
 use cb_queue::list_store::ListStore;
 use cb_queue::store::RecordStore;
 use cb_records::rec::Rec;
+use row_table::desk::Line;
 use row_table::told::Told;
-use row_table::words::Words;
 use std::alloc::{AllocError, Global};
 
 #[derive(Clone, Copy)]
@@ -103,40 +103,35 @@ fn tell_record_of<S: RecordStore>(store: &S, n: u32, told: &mut Told) {
 }
 
 /// Takes records for an owner, or gives all of its records back.
-fn on_owner<S: RecordStore>(store: &mut S, takes: bool, words: &mut Words<'_>, told: &mut Told) {
-    let owner = words.short();
+fn on_owner<S: RecordStore>(store: &mut S, takes: bool, line: &mut Line<'_>) {
+    let owner = line.words.short();
     if owner == 0 {
-        return told.not_allowed();
+        return line.told.not_allowed();
     }
     if takes {
-        take(store, owner, words.short(), told);
+        take(store, owner, line.words.short(), &mut line.told);
     } else {
         store.give_back_all(owner);
     }
 }
 
 /// Writes bytes of a record from a place on.
-fn set<S: RecordStore>(alloc: Global, store: &mut S, words: &mut Words<'_>, told: &mut Told) {
-    let n = words.number();
-    let at = words.byte();
-    if let Some(bytes) = told.got(words.text(alloc))
+fn set<S: RecordStore>(alloc: Global, store: &mut S, line: &mut Line<'_>) {
+    let n = line.words.number();
+    let at = line.words.byte();
+    if let Some(bytes) = line.told.got(line.words.text(alloc))
         && !set_bytes(store, n, at, bytes.as_slice())
     {
-        told.not_allowed();
+        line.told.not_allowed();
     }
 }
 
-fn set_status<S: RecordStore>(
-    alloc: Global,
-    store: &mut S,
-    words: &mut Words<'_>,
-    told: &mut Told,
-) {
-    let n = words.number();
-    if let Some(status) = told.got(words.text(alloc))
+fn set_status<S: RecordStore>(alloc: Global, store: &mut S, line: &mut Line<'_>) {
+    let n = line.words.number();
+    if let Some(status) = line.told.got(line.words.text(alloc))
         && !write_status(store, n, status.as_slice())
     {
-        told.not_allowed();
+        line.told.not_allowed();
     }
 }
 
@@ -145,17 +140,20 @@ pub(crate) fn on_store<S: RecordStore>(
     alloc: Global,
     store: &mut S,
     verb: StoreVerb,
-    words: &mut Words<'_>,
-    told: &mut Told,
+    line: &mut Line<'_>,
 ) {
     match verb {
-        StoreVerb::Take => on_owner(store, true, words, told),
-        StoreVerb::Give => give_back(store, words.number(), told),
-        StoreVerb::GiveAll => on_owner(store, false, words, told),
-        StoreVerb::Set => set(alloc, store, words, told),
-        StoreVerb::Status => set_status(alloc, store, words, told),
-        StoreVerb::Record => tell_record_of(store, words.number(), told),
-        StoreVerb::Free => told.numbered_line(b"FREE ", u64::from(store.free_count())),
-        StoreVerb::Most => told.numbered_line(b"MOST ", u64::from(store.layout().most_records)),
+        StoreVerb::Take => on_owner(store, true, line),
+        StoreVerb::Give => give_back(store, line.words.number(), &mut line.told),
+        StoreVerb::GiveAll => on_owner(store, false, line),
+        StoreVerb::Set => set(alloc, store, line),
+        StoreVerb::Status => set_status(alloc, store, line),
+        StoreVerb::Record => tell_record_of(store, line.words.number(), &mut line.told),
+        StoreVerb::Free => line
+            .told
+            .numbered_line(b"FREE ", u64::from(store.free_count())),
+        StoreVerb::Most => line
+            .told
+            .numbered_line(b"MOST ", u64::from(store.layout().most_records)),
     }
 }

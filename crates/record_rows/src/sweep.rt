@@ -3,8 +3,9 @@ use crate::job::tell_read;
 use crate::store::{put, set_bytes};
 use cb_queue::list_store::ListStore;
 use cb_queue::store::RecordStore;
+use row_table::desk::Line;
 use row_table::told::Told;
-use row_table::words::{Lines, Words};
+use row_table::words::Lines;
 use std::alloc::Global;
 
 /// The lines that are others than those before.
@@ -95,18 +96,13 @@ fn tell_bytes(alloc: Global, store: &mut ListStore, n: u32, value: u8, told: &mu
 }
 
 /// Sets each byte of a record in turn to a value.
-pub(crate) fn tell_sweep(
-    alloc: Global,
-    store: &mut ListStore,
-    words: &mut Words<'_>,
-    told: &mut Told,
-) {
-    let n = words.number();
-    let value = words.byte();
+pub(crate) fn tell_sweep(alloc: Global, store: &mut ListStore, line: &mut Line<'_>) {
+    let n = line.words.number();
+    let value = line.words.byte();
     if store.get(n).is_none() {
-        return told.not_allowed();
+        return line.told.not_allowed();
     }
-    told.numbered(b"RECORD ", u64::from(n));
-    told.numbered_line(b" VALUE ", u64::from(value));
-    tell_bytes(alloc, store, n, value, told);
+    line.told.numbered(b"RECORD ", u64::from(n));
+    line.told.numbered_line(b" VALUE ", u64::from(value));
+    tell_bytes(alloc, store, n, value, &mut line.told);
 }

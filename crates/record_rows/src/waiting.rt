@@ -2,8 +2,8 @@
 use admit_core::selecting::select;
 use cb_queue::store::RecordStore;
 use queue_core::queue::Queued;
+use row_table::desk::Line;
 use row_table::told::Told;
-use row_table::words::Words;
 use std::alloc::Global;
 
 #[derive(Clone, Copy)]
@@ -27,27 +27,27 @@ fn tell_queued(told: &mut Told, queued: Option<Queued>) {
 }
 
 /// The first byte of what is left of a line.
-fn class_of(alloc: Global, words: &mut Words<'_>, told: &mut Told) -> u8 {
-    let text = told.got(words.text(alloc));
+fn class_of(alloc: Global, line: &mut Line<'_>) -> u8 {
+    let text = line.told.got(line.words.text(alloc));
     if let Some(text) = text
         && let Some(class) = text.first()
     {
         return *class;
     }
-    words.refuse();
+    line.words.refuse();
     0
 }
 
 /// Lets a job wait where nobody waits yet, which is all that a text can be sure of: each job has to be behind all others.
-fn wait<S: RecordStore>(alloc: Global, store: &mut S, words: &mut Words<'_>, told: &mut Told) {
-    let job = words.short();
-    let jct = words.number();
-    let priority = words.byte();
-    let class = class_of(alloc, words, told);
+fn wait<S: RecordStore>(alloc: Global, store: &mut S, line: &mut Line<'_>) {
+    let job = line.words.short();
+    let jct = line.words.number();
+    let priority = line.words.byte();
+    let class = class_of(alloc, line);
     if store.waiting_count() != 0 {
-        return told.not_allowed();
+        return line.told.not_allowed();
     }
-    told.over(store.enter(Queued {
+    line.told.over(store.enter(Queued {
         job,
         jct,
         class,
@@ -60,17 +60,18 @@ pub(crate) fn on_waiting<S: RecordStore>(
     alloc: Global,
     store: &mut S,
     verb: WaitingVerb,
-    words: &mut Words<'_>,
-    told: &mut Told,
+    line: &mut Line<'_>,
 ) {
     match verb {
-        WaitingVerb::Wait => wait(alloc, store, words, told),
-        WaitingVerb::Waiting => told.numbered_line(b"WAITING ", store.waiting_count() as u64),
+        WaitingVerb::Wait => wait(alloc, store, line),
+        WaitingVerb::Waiting => line
+            .told
+            .numbered_line(b"WAITING ", store.waiting_count() as u64),
         WaitingVerb::First => {
-            let class = class_of(alloc, words, told);
-            tell_queued(told, store.first(class));
+            let class = class_of(alloc, line);
+            tell_queued(&mut line.told, store.first(class));
         }
-        WaitingVerb::Select => tell_queued(told, select(store, words.next_word())),
-        WaitingVerb::Remove => tell_queued(told, store.remove(words.short())),
+        WaitingVerb::Select => tell_queued(&mut line.told, select(store, line.words.next_word())),
+        WaitingVerb::Remove => tell_queued(&mut line.told, store.remove(line.words.short())),
     }
 }

@@ -77,6 +77,12 @@ impl Told {
         self.word(second);
     }
 
+    /// What is told elsewhere, and whether memory was wanting for it.
+    pub fn append(&mut self, other: &Told) {
+        self.word(other.as_slice());
+        self.is_wanting |= other.is_wanting;
+    }
+
     pub fn end_line(&mut self) {
         self.word(b"\n");
     }

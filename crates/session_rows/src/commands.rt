@@ -45,13 +45,34 @@ const COMMANDS: [(&str, Command); 12] = [
     ("calls", Command::Calls),
     ("driven", Command::Driven),
     ("statements", Command::Statements(Ending::Whole)),
-    ("statements of a long text", Command::Statements(Ending::TooLong)),
-    ("statements of a cut text", Command::Statements(Ending::ReadFailed)),
-    ("each read fails", Command::Fails(Failing::Reads, Failure::Other)),
-    ("each read is interrupted", Command::Fails(Failing::Reads, Failure::Interrupted)),
-    ("each write fails", Command::Fails(Failing::Writes, Failure::Other)),
-    ("each write is interrupted", Command::Fails(Failing::Writes, Failure::Interrupted)),
-    ("each write takes nothing", Command::Fails(Failing::Writes, Failure::TakesNone)),
+    (
+        "statements of a long text",
+        Command::Statements(Ending::TooLong),
+    ),
+    (
+        "statements of a cut text",
+        Command::Statements(Ending::ReadFailed),
+    ),
+    (
+        "each read fails",
+        Command::Fails(Failing::Reads, Failure::Other),
+    ),
+    (
+        "each read is interrupted",
+        Command::Fails(Failing::Reads, Failure::Interrupted),
+    ),
+    (
+        "each write fails",
+        Command::Fails(Failing::Writes, Failure::Other),
+    ),
+    (
+        "each write is interrupted",
+        Command::Fails(Failing::Writes, Failure::Interrupted),
+    ),
+    (
+        "each write takes nothing",
+        Command::Fails(Failing::Writes, Failure::TakesNone),
+    ),
 ];
 
 /// A command with a number.

@@ -4,9 +4,9 @@ use input_core::statement::{ConfigStatement, SetStatement};
 use jcl_meaning::program::Request;
 use jcl_plan::plan::Record;
 use plain::lent::Lent;
+use row_table::told::Told;
 use session_text::parse::statements;
 use session_text::statement::{Ending, Says, Statement};
-use row_table::told::Told;
 use std::alloc::Global;
 
 /// A word, and a number behind it.

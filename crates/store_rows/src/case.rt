@@ -7,8 +7,7 @@ use jcl_plan::day::Day;
 use jcl_plan::plan::Record;
 use plain::lent::Lent;
 use plain::listed::Listed;
-use row_table::told::Told;
-use row_table::words::{Lines, Words};
+use row_table::desk::Line;
 use std::alloc::Global;
 
 /// What a line says.
@@ -65,40 +64,33 @@ pub(crate) fn columns(text: &[u8]) -> Record {
 }
 
 /// Takes a line.
-fn take<'a>(alloc: Global, case: &mut Case<'a>, words: &mut Words<'a>, told: &mut Told) {
-    match words.one_of(&VERBS) {
+fn take<'a>(alloc: Global, case: &mut Case<'a>, line: &mut Line<'a>) {
+    match line.words.one_of(&VERBS) {
         Some(Verb::Card) => {
-            let card = Lent::new(words.left());
-            told.over(case.deck.push(card));
+            let card = Lent::new(line.words.left());
+            line.told.over(case.deck.push(card));
         }
-        Some(Verb::Found(verb)) => case.found.take(alloc, verb, words, told),
-        Some(Verb::Coded(verb)) => case.coded.take(alloc, verb, words, told),
-        Some(Verb::Terms(verb)) => case.terms.take(alloc, verb, words, told),
+        Some(Verb::Found(verb)) => case.found.take(alloc, verb, line),
+        Some(Verb::Coded(verb)) => case.coded.take(alloc, verb, line),
+        Some(Verb::Terms(verb)) => case.terms.take(alloc, verb, line),
         None => {}
     }
 }
 
 /// Reads a job and what it finds. A line that is not understood is told.
-pub(crate) fn read_case<'a>(
-    alloc: Global,
-    text: &'a [u8],
-    date: Day,
-    told: &mut Told,
-) -> Case<'a> {
+pub(crate) fn read_case<'a>(alloc: Global, line: &mut Line<'a>, date: Day) -> Case<'a> {
     let mut case = Case {
         found: nothing_found(alloc),
         coded: nothing_coded(alloc),
         terms: no_terms(alloc, date),
         deck: Listed::empty(alloc),
     };
-    let mut lines = Lines::new(text);
-    for _ in 0..text.len() {
-        let Some(line) = lines.next_line() else {
+    for _ in 0..line.lines.len() {
+        if !line.next() {
             break;
-        };
-        let mut words = Words::new(line);
-        take(alloc, &mut case, &mut words, told);
-        words.end(line, told);
+        }
+        take(alloc, &mut case, line);
+        line.end();
     }
     case
 }

@@ -7,6 +7,7 @@ use jname_core::name8::{Name8, UnitName};
 use plain::listed::Listed;
 use plain::text::Text;
 use proc_library::library::{LibraryProcedure, ProcLibrary};
+use row_table::desk::Line;
 use row_table::names::name8;
 use row_table::told::Told;
 use row_table::words::Words;
@@ -65,9 +66,9 @@ fn request(verb: CodedVerb, words: &mut Words<'_>) -> Option<Request> {
 }
 
 impl Coded {
-    fn add_request(&mut self, verb: CodedVerb, words: &mut Words<'_>, told: &mut Told) {
-        if let Some(request) = request(verb, words) {
-            told.over(self.requests.push(request));
+    fn add_request(&mut self, verb: CodedVerb, line: &mut Line<'_>) {
+        if let Some(request) = request(verb, &mut line.words) {
+            line.told.over(self.requests.push(request));
         }
     }
 
@@ -89,40 +90,34 @@ impl Coded {
         }
     }
 
-    fn add_unit(&mut self, words: &mut Words<'_>, told: &mut Told) {
-        let name = UnitName::read(words.next_word()).ok();
-        if let Some(name) = words.some(name)
+    fn add_unit(&mut self, line: &mut Line<'_>) {
+        let name = UnitName::read(line.words.next_word()).ok();
+        if let Some(name) = line.words.some(name)
             && self.units.number(&name).is_none()
             && self.units.len() < 65_535
         {
-            told.over(self.units.add(name));
+            line.told.over(self.units.add(name));
         }
     }
 
     /// Takes a line of a program, a procedure or a unit.
-    pub(crate) fn take(
-        &mut self,
-        alloc: Global,
-        verb: CodedVerb,
-        words: &mut Words<'_>,
-        told: &mut Told,
-    ) {
+    pub(crate) fn take(&mut self, alloc: Global, verb: CodedVerb, line: &mut Line<'_>) {
         match verb {
             CodedVerb::Get | CodedVerb::Put | CodedVerb::Code | CodedVerb::Abend => {
-                self.add_request(verb, words, told);
+                self.add_request(verb, line);
             }
             CodedVerb::Program => {
-                if let Some(name) = name8(words) {
-                    self.add_program(alloc, name, told);
+                if let Some(name) = name8(&mut line.words) {
+                    self.add_program(alloc, name, &mut line.told);
                 }
             }
-            CodedVerb::Line => self.add_line(alloc, words.left(), told),
+            CodedVerb::Line => self.add_line(alloc, line.words.left(), &mut line.told),
             CodedVerb::Proc => {
-                if let Some(name) = name8(words) {
-                    self.add_procedure(alloc, name, told);
+                if let Some(name) = name8(&mut line.words) {
+                    self.add_procedure(alloc, name, &mut line.told);
                 }
             }
-            CodedVerb::Unit => self.add_unit(words, told),
+            CodedVerb::Unit => self.add_unit(line),
         }
     }
 }

@@ -8,6 +8,7 @@ use jname_core::ds_name::DsName;
 use jname_core::key::Key;
 use jname_core::serial::Serial;
 use plain::listed::Listed;
+use row_table::desk::Line;
 use row_table::names::{ds_name, serial};
 use row_table::told::Told;
 use row_table::words::Words;
@@ -74,20 +75,16 @@ pub(crate) fn nothing_found(alloc: Global) -> Found {
 }
 
 /// Adds so many records.
-fn add_records(records: &mut Listed<Record>, words: &mut Words<'_>, told: &mut Told) {
-    let count = words.short();
-    let record = columns(words.next_word());
+fn add_records(records: &mut Listed<Record>, line: &mut Line<'_>) {
+    let count = line.words.short();
+    let record = columns(line.words.next_word());
     for _ in 0..count {
-        told.over(records.push(record));
+        line.told.over(records.push(record));
     }
 }
 
 /// Enters the members of a group.
-fn enter_members(
-    group: &mut Group,
-    members: &[Member],
-    words: &mut Words<'_>,
-) {
+fn enter_members(group: &mut Group, members: &[Member], words: &mut Words<'_>) {
     for member in members {
         if member.number == 0
             || member.number > 9999
@@ -99,96 +96,94 @@ fn enter_members(
 }
 
 impl Found {
-    fn add_used(&mut self, words: &mut Words<'_>, told: &mut Told) {
-        let first = words.short();
-        let last = words.short();
-        told.over(self.used.push(Used { first, last }));
+    fn add_used(&mut self, line: &mut Line<'_>) {
+        let first = line.words.short();
+        let last = line.words.short();
+        line.told.over(self.used.push(Used { first, last }));
     }
 
-    fn add_volume(&mut self, alloc: Global, words: &mut Words<'_>, told: &mut Told) {
-        let Some(serial) = serial(words) else {
+    fn add_volume(&mut self, alloc: Global, line: &mut Line<'_>) {
+        let Some(serial) = serial(&mut line.words) else {
             return;
         };
-        let tracks = words.short();
+        let tracks = line.words.short();
         let used = mem::replace(&mut self.used, Listed::empty(alloc));
-        told.over(self.store.volumes.push(serial));
-        told.over(self.volumes.push(CaseVolume {
-            serial,
-            tracks,
-            used,
-        }));
+        line.told.over(self.store.volumes.push(serial));
+        line.told.over(
+            self.volumes.push(CaseVolume {
+                serial,
+                tracks,
+                used,
+            }),
+        );
     }
 
-    fn add_set(&mut self, alloc: Global, words: &mut Words<'_>, told: &mut Told) {
-        let (Some(serial), Some(name)) = (serial(words), ds_name(words)) else {
+    fn add_set(&mut self, alloc: Global, line: &mut Line<'_>) {
+        let (Some(serial), Some(name)) = (serial(&mut line.words), ds_name(&mut line.words)) else {
             return;
         };
-        let tracks = u64::from(words.short());
-        let expires = words.some_number();
+        let tracks = u64::from(line.words.short());
+        let expires = line.words.some_number();
         let records = mem::replace(&mut self.records, Listed::empty(alloc));
-        told.over(self.store.sets.push(SoloSet {
-            serial,
-            key: Key::Named(name),
-            set: DataSet {
-                tracks,
-                expires,
-                records,
-            },
-        }));
+        line.told.over(
+            self.store.sets.push(SoloSet {
+                serial,
+                key: Key::Named(name),
+                set: DataSet {
+                    tracks,
+                    expires,
+                    records,
+                },
+            }),
+        );
     }
 
     fn add_entry(&mut self, name: DsName, entry: CatEntry, told: &mut Told) {
         told.over(self.store.catalog.push(SoloEntry { name, entry }));
     }
 
-    fn add_name(&mut self, words: &mut Words<'_>, told: &mut Told) {
-        if let (Some(name), Some(serial)) = (ds_name(words), serial(words)) {
-            self.add_entry(name, CatEntry::Volume(serial), told);
+    fn add_name(&mut self, line: &mut Line<'_>) {
+        if let (Some(name), Some(serial)) = (ds_name(&mut line.words), serial(&mut line.words)) {
+            self.add_entry(name, CatEntry::Volume(serial), &mut line.told);
         }
     }
 
-    fn add_member(&mut self, words: &mut Words<'_>, told: &mut Told) {
-        let number = words.short();
-        if let Some(serial) = serial(words) {
-            told.over(self.members.push(Member { number, serial }));
+    fn add_member(&mut self, line: &mut Line<'_>) {
+        let number = line.words.short();
+        if let Some(serial) = serial(&mut line.words) {
+            line.told.over(self.members.push(Member { number, serial }));
         }
     }
 
-    fn add_group(&mut self, alloc: Global, words: &mut Words<'_>, told: &mut Told) {
-        let Some(base) = ds_name(words) else {
+    fn add_group(&mut self, alloc: Global, line: &mut Line<'_>) {
+        let Some(base) = ds_name(&mut line.words) else {
             return;
         };
-        let limit = words.byte();
-        let Some(scratches) = words.one_of(&[("SCRATCH", true), ("KEEP", false)]) else {
+        let limit = line.words.byte();
+        let Some(scratches) = line.words.one_of(&[("SCRATCH", true), ("KEEP", false)]) else {
             return;
         };
-        if let Some(mut group) = told.got(Group::new(alloc, limit, scratches)) {
-            enter_members(&mut group, self.members.as_slice(), words);
+        if let Some(mut group) = line.told.got(Group::new(alloc, limit, scratches)) {
+            enter_members(&mut group, self.members.as_slice(), &mut line.words);
             self.members.clear();
-            self.add_entry(base, CatEntry::Group(group), told);
+            self.add_entry(base, CatEntry::Group(group), &mut line.told);
         }
     }
 
     /// Takes a line of the store.
-    pub(crate) fn take(
-        &mut self,
-        alloc: Global,
-        verb: FoundVerb,
-        words: &mut Words<'_>,
-        told: &mut Told,
-    ) {
+    pub(crate) fn take(&mut self, alloc: Global, verb: FoundVerb, line: &mut Line<'_>) {
         match verb {
-            FoundVerb::Used => self.add_used(words, told),
-            FoundVerb::Volume => self.add_volume(alloc, words, told),
+            FoundVerb::Used => self.add_used(line),
+            FoundVerb::Volume => self.add_volume(alloc, line),
             FoundVerb::Record => {
-                let record = columns(words.left());
-                told.over(self.records.push(record));
+                let record = columns(line.words.left());
+                line.told.over(self.records.push(record));
             }
-            FoundVerb::Records => add_records(&mut self.records, words, told),
-            FoundVerb::Set => self.add_set(alloc, words, told),
-            FoundVerb::Entry => self.add_name(words, told),
-            FoundVerb::Member => self.add_member(words, told),
-            FoundVerb::Group => self.add_group(alloc, words, told),
+            FoundVerb::Records => add_records(&mut self.records, line),
+            FoundVerb::Set => self.add_set(alloc, line),
+            FoundVerb::Entry => self.add_name(line),
+            FoundVerb::Member => self.add_member(line),
+            FoundVerb::Group => self.add_group(alloc, line),
         }
     }
 }

@@ -59,7 +59,15 @@ fn solo_of(alloc: Global, case: &Case<'_>, plan: &JobPlan) -> Result<SoloRun, Al
     match &terms.path {
         None => {
             let programs = case.coded.programs.as_slice();
-            solo(alloc, plan, store, places, programs, &terms.answers, terms.date)
+            solo(
+                alloc,
+                plan,
+                store,
+                places,
+                programs,
+                &terms.answers,
+                terms.date,
+            )
         }
         Some(path) => solo_path(alloc, plan, store, places, path.as_slice(), terms.date),
     }
@@ -88,11 +96,20 @@ struct Job<'a> {
 }
 
 impl Job<'_> {
+    fn looked(&self) -> Looked<'_> {
+        Looked {
+            known: &self.known,
+            serials: self.case.found.store.volumes.as_slice(),
+        }
+    }
+
     /// The job before its first action.
     fn way(&self, alloc: Global) -> Way<'_> {
         let terms = &self.case.terms;
         Way {
             alloc,
+            plan: self.plan,
+            programs: programs_of(self.case),
             given: Given {
                 job_tests: self.plan.tests.as_slice(),
                 volumes: self.case.found.store.volumes.as_slice(),
@@ -105,15 +122,10 @@ impl Job<'_> {
                 cancels: terms.answers.cancels.as_slice(),
                 grants: terms.answers.grants.as_slice(),
             },
+            looked: self.looked(),
             course: fresh(alloc),
             changed: false,
-        }
-    }
-
-    fn looked(&self) -> Looked<'_> {
-        Looked {
-            known: &self.known,
-            serials: self.case.found.store.volumes.as_slice(),
+            wanting: false,
         }
     }
 }
@@ -144,9 +156,8 @@ fn run_alone(alloc: Global, job: &Job<'_>, told: &mut Told) -> Option<Run> {
         growth: true,
     };
     let mut way = job.way(alloc);
-    let programs = programs_of(job.case);
-    let run = run_job(&mut way, &mut alone, &job.looked(), job.plan, programs, told);
-    tell_changed(told, &way);
+    let run = run_job(&mut way, &mut alone);
+    end_way(&way, told);
     Some(run)
 }
 
@@ -154,16 +165,19 @@ fn run_alone(alloc: Global, job: &Job<'_>, told: &mut Told) -> Option<Run> {
 fn run_shared(alloc: Global, job: &Job<'_>, free: &mut Told, told: &mut Told) -> Option<Run> {
     let mut shared = shared_of(alloc, &job.case.found, JOB, told)?;
     let mut way = job.way(alloc);
-    let programs = programs_of(job.case);
-    let run = run_job(&mut way, &mut shared, &job.looked(), job.plan, programs, told);
-    tell_changed(told, &way);
+    let run = run_job(&mut way, &mut shared);
+    end_way(&way, told);
     tell_free(free, shared.volumes.as_slice());
     Some(run)
 }
 
-fn tell_changed(told: &mut Told, way: &Way<'_>) {
+/// Tells whether an action that wanted memory changed something.
+fn end_way(way: &Way<'_>, told: &mut Told) {
     if way.changed {
         told.line(b"CHANGED");
+    }
+    if way.wanting {
+        told.want();
     }
 }
 
@@ -201,10 +215,7 @@ fn tell_ways(alloc: Global, told: &mut Told, job: &Job<'_>, solo: SoloRun) {
         return told.line(b"UNMOUNTED");
     };
     tell_runs(told, &alone, &lists, &volumes);
-    told.word(free.as_slice());
-    if free.is_wanting() {
-        told.want();
-    }
+    told.append(&free);
     if clean {
         told.line(b"CLEAN");
     }

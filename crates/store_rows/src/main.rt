@@ -16,6 +16,7 @@ use crate::job::tell_job;
 use jcl_job::job::job_of;
 use jcl_plan::day::Day;
 use row_table::check::{Subject, check_tables};
+use row_table::desk::Line;
 use row_table::told::Told;
 use std::alloc::Global;
 use std::io;
@@ -31,7 +32,9 @@ impl Subject for Jobs {
         let Some(date) = Day::new(25_567) else {
             return;
         };
-        let case = read_case(alloc, input, date, told);
+        let mut line = Line::new(alloc, input);
+        let case = read_case(alloc, &mut line, date);
+        told.append(&line.told);
         let (units, library) = (&case.coded.units, &case.coded.library);
         match job_of(alloc, units, library, case.deck.as_slice()) {
             Ok(plan) => tell_job(alloc, told, &case, plan),

@@ -51,15 +51,27 @@ pub(crate) struct Answers<'a> {
     pub(crate) grants: &'a [bool],
 }
 
+/// What is looked at in a store.
+#[derive(Clone, Copy)]
+pub(crate) struct Looked<'a> {
+    pub(crate) known: &'a Known,
+    pub(crate) serials: &'a [Serial],
+}
+
 /// A job on its way.
 #[derive(Drop)]
 pub(crate) struct Way<'a> {
     pub(crate) alloc: Global,
+    pub(crate) plan: &'a JobPlan,
+    pub(crate) programs: &'a [SoloProgram],
     pub(crate) given: Given<'a>,
     pub(crate) answers: Answers<'a>,
+    pub(crate) looked: Looked<'a>,
     pub(crate) course: Course,
     /// Whether an action that wanted memory changed something.
     pub(crate) changed: bool,
+    /// Whether memory was wanting for more than one action.
+    pub(crate) wanting: bool,
 }
 
 /// A job before its first action.
@@ -203,13 +215,6 @@ fn dispose_of<S: JobStore>(
     Ok(())
 }
 
-/// What is looked at in a store.
-#[derive(Clone, Copy)]
-pub(crate) struct Looked<'a> {
-    pub(crate) known: &'a Known,
-    pub(crate) serials: &'a [Serial],
-}
-
 /// What a job did over a store: its lines, what it leaves, and what its SYSOUT DDs were put.
 #[derive(Drop)]
 pub(crate) struct Run {
@@ -219,111 +224,75 @@ pub(crate) struct Run {
 }
 
 /// What a job has written, and what it sees of a store.
-fn look<S: JobStore>(alloc: Global, looked: &Looked<'_>, store: &S, course: &Course) -> Run {
-    let mut shown = Told::new(alloc);
+fn look<S: JobStore>(way: &Way<'_>, store: &S) -> Run {
+    let mut shown = Told::new(way.alloc);
     shown.reserve(ROOM);
-    tell_lines(alloc, &mut shown, course.lines.as_slice());
-    tell_seen(&mut shown, store, looked.known, looked.serials);
+    tell_lines(way.alloc, &mut shown, way.course.lines.as_slice());
+    tell_seen(&mut shown, store, way.looked.known, way.looked.serials);
     let alone = shown.as_slice().len();
-    tell_outputs(&mut shown, course.own.outputs.as_slice());
+    tell_outputs(&mut shown, way.course.own.outputs.as_slice());
     Run { shown, alone }
 }
 
 /// Carries an action out, a second time where memory is wanting.
-fn act_twice<S: Growths>(
-    way: &mut Way<'_>,
-    store: &mut S,
-    looked: &Looked<'_>,
-    at: At<'_>,
-    action: Action<'_>,
-    told: &mut Told,
-) {
-    let before = look(way.alloc, looked, &*store, &way.course);
+fn act_twice<S: Growths>(way: &mut Way<'_>, store: &mut S, at: At<'_>, action: Action<'_>) {
+    let before = look(&*way, &*store).shown;
     if way.act(store, at, action).is_ok() {
         return;
     }
-    let after = look(way.alloc, looked, &*store, &way.course);
-    way.changed |= before.shown.as_slice() != after.shown.as_slice();
-    if before.shown.is_wanting() || after.shown.is_wanting() {
-        told.want();
-    }
-    told.over(way.act(store, at, action));
+    let after = look(&*way, &*store).shown;
+    way.changed |= before.as_slice() != after.as_slice();
+    way.wanting |= before.is_wanting() || after.is_wanting();
+    way.wanting |= way.act(store, at, action).is_err();
 }
 
 /// The requests of a step's program.
-fn run_requests<S: Growths>(
-    way: &mut Way<'_>,
-    store: &mut S,
-    looked: &Looked<'_>,
-    at: At<'_>,
-    programs: &[SoloProgram],
-    told: &mut Told,
-) {
-    let Some(moves) = told.got(moves_of(way.alloc, programs, &at.step.program)) else {
+fn run_requests<S: Growths>(way: &mut Way<'_>, store: &mut S, at: At<'_>) {
+    let Ok(moves) = moves_of(way.alloc, way.programs, &at.step.program) else {
+        way.wanting = true;
         return;
     };
     for wants in moves.as_slice() {
-        act_twice(way, store, looked, at, Action::Ask(wants), told);
-        act_twice(way, store, looked, at, Action::Receive, told);
+        act_twice(way, store, at, Action::Ask(wants));
+        act_twice(way, store, at, Action::Receive);
     }
 }
 
 /// A step: its start, its takes, its program's requests, its end, its dispositions. One that does not run passes over its own actions.
-fn run_step<S: Growths>(
-    way: &mut Way<'_>,
-    store: &mut S,
-    looked: &Looked<'_>,
-    at: At<'_>,
-    programs: &[SoloProgram],
-    told: &mut Told,
-) {
-    act_twice(way, store, looked, at, Action::Start, told);
+fn run_step<S: Growths>(way: &mut Way<'_>, store: &mut S, at: At<'_>) {
+    act_twice(way, store, at, Action::Start);
     for (i, d) in at.step.dds.as_slice().iter().enumerate() {
-        act_twice(way, store, looked, at, Action::Take(i + 1, d), told);
+        act_twice(way, store, at, Action::Take(i + 1, d));
     }
-    run_requests(way, store, looked, at, programs, told);
-    act_twice(way, store, looked, at, Action::Finish, told);
+    run_requests(way, store, at);
+    act_twice(way, store, at, Action::Finish);
     for (i, d) in at.step.dds.as_slice().iter().enumerate() {
-        act_twice(way, store, looked, at, Action::Dispose(i + 1, d), told);
+        act_twice(way, store, at, Action::Dispose(i + 1, d));
     }
 }
 
 /// What the DDs of a step may have passed.
-fn run_lefts<S: Growths>(
-    way: &mut Way<'_>,
-    store: &mut S,
-    looked: &Looked<'_>,
-    at: At<'_>,
-    told: &mut Told,
-) {
+fn run_lefts<S: Growths>(way: &mut Way<'_>, store: &mut S, at: At<'_>) {
     for (i, d) in at.step.dds.as_slice().iter().enumerate() {
         if passes(&d.kind) {
-            act_twice(way, store, looked, at, Action::Left(i + 1, d), told);
+            act_twice(way, store, at, Action::Left(i + 1, d));
         }
     }
 }
 
 /// A job from its first action to its end.
-pub(crate) fn run_job<S: Growths>(
-    way: &mut Way<'_>,
-    store: &mut S,
-    looked: &Looked<'_>,
-    plan: &JobPlan,
-    programs: &[SoloProgram],
-    told: &mut Told,
-) -> Run {
-    for (i, step) in plan.steps.as_slice().iter().enumerate() {
-        run_step(way, store, looked, At { n: i + 1, step }, programs, told);
+pub(crate) fn run_job<S: Growths>(way: &mut Way<'_>, store: &mut S) -> Run {
+    let steps = way.plan.steps.as_slice();
+    for (i, step) in steps.iter().enumerate() {
+        run_step(way, store, At { n: i + 1, step });
     }
-    for (i, step) in plan.steps.as_slice().iter().enumerate() {
-        run_lefts(way, store, looked, At { n: i + 1, step }, told);
+    for (i, step) in steps.iter().enumerate() {
+        run_lefts(way, store, At { n: i + 1, step });
     }
-    if let Some(step) = plan.steps.as_slice().last() {
-        act_twice(way, store, looked, At { n: 0, step }, Action::Over, told);
+    if let Some(step) = steps.last() {
+        act_twice(way, store, At { n: 0, step }, Action::Over);
     }
-    let run = look(way.alloc, looked, &*store, &way.course);
-    if run.shown.is_wanting() {
-        told.want();
-    }
+    let run = look(&*way, &*store);
+    way.wanting |= run.shown.is_wanting();
     run
 }

@@ -4,8 +4,8 @@ use jcl_meaning::state::Place;
 use jcl_plan::day::Day;
 use jcl_plan::outcome::{Abend, Code, Outcome};
 use plain::listed::Listed;
+use row_table::desk::Line;
 use row_table::names::serial;
-use row_table::told::Told;
 use row_table::words::Words;
 use std::alloc::Global;
 
@@ -76,17 +76,17 @@ fn outcome(words: &mut Words<'_>) -> Option<Outcome> {
 }
 
 impl Terms {
-    fn add_place(&mut self, words: &mut Words<'_>, told: &mut Told) {
-        let step = usize::from(words.short());
-        let dd = usize::from(words.short());
-        if let Some(serial) = serial(words) {
-            told.over(self.places.push(Place { step, dd, serial }));
+    fn add_place(&mut self, line: &mut Line<'_>) {
+        let step = usize::from(line.words.short());
+        let dd = usize::from(line.words.short());
+        if let Some(serial) = serial(&mut line.words) {
+            line.told.over(self.places.push(Place { step, dd, serial }));
         }
     }
 
-    fn add_grant(&mut self, words: &mut Words<'_>, told: &mut Told) {
-        if let Some(granted) = words.one_of(&[("YES", true), ("NO", false)]) {
-            told.over(self.answers.grants.push(granted));
+    fn add_grant(&mut self, line: &mut Line<'_>) {
+        if let Some(granted) = line.words.one_of(&[("YES", true), ("NO", false)]) {
+            line.told.over(self.answers.grants.push(granted));
         }
     }
 
@@ -97,45 +97,39 @@ impl Terms {
         }
     }
 
-    fn add_period(&mut self, words: &mut Words<'_>, told: &mut Told) {
-        let step = usize::from(words.short());
-        let dd = usize::from(words.short());
-        let days = words.short();
-        told.over(self.periods.push(Period { step, dd, days }));
+    fn add_period(&mut self, line: &mut Line<'_>) {
+        let step = usize::from(line.words.short());
+        let dd = usize::from(line.words.short());
+        let days = line.words.short();
+        line.told.over(self.periods.push(Period { step, dd, days }));
     }
 
     /// Takes all further words as how the steps end.
-    fn set_path(&mut self, alloc: Global, words: &mut Words<'_>, told: &mut Told) {
+    fn set_path(&mut self, alloc: Global, line: &mut Line<'_>) {
         let mut path = Listed::empty(alloc);
         for _ in 0..255u8 {
-            if words.is_empty() {
+            if line.words.is_empty() {
                 break;
             }
-            if let Some(outcome) = outcome(words) {
-                told.over(path.push(outcome));
+            if let Some(outcome) = outcome(&mut line.words) {
+                line.told.over(path.push(outcome));
             }
         }
         self.path = Some(path);
     }
 
     /// Takes a line of what a job is given.
-    pub(crate) fn take(
-        &mut self,
-        alloc: Global,
-        verb: TermsVerb,
-        words: &mut Words<'_>,
-        told: &mut Told,
-    ) {
+    pub(crate) fn take(&mut self, alloc: Global, verb: TermsVerb, line: &mut Line<'_>) {
         match verb {
-            TermsVerb::Place => self.add_place(words, told),
-            TermsVerb::Grant => self.add_grant(words, told),
+            TermsVerb::Place => self.add_place(line),
+            TermsVerb::Grant => self.add_grant(line),
             TermsVerb::Cancel => {
-                let lines = words.some_number();
-                told.over(self.answers.cancels.push(lines));
+                let lines = line.words.some_number();
+                line.told.over(self.answers.cancels.push(lines));
             }
-            TermsVerb::Date => self.set_date(words),
-            TermsVerb::Retpd => self.add_period(words, told),
-            TermsVerb::Path => self.set_path(alloc, words, told),
+            TermsVerb::Date => self.set_date(&mut line.words),
+            TermsVerb::Retpd => self.add_period(line),
+            TermsVerb::Path => self.set_path(alloc, line),
         }
     }
 }

@@ -8,10 +8,10 @@ use cat_core::fault::CatFault;
 use group_core::group::Rolled;
 use jname_core::ds_name::DsName;
 use jname_core::key::Sign;
-use row_table::desk::Desk;
+use row_table::desk::{Desk, Line};
 use row_table::names::serial;
 use row_table::told::Told;
-use row_table::words::{Lines, Words};
+use row_table::words::Words;
 use std::alloc::Global;
 
 #[derive(Clone, Copy)]
@@ -66,46 +66,46 @@ fn tell_entered(told: &mut Told, answer: Result<Rolled, CatFault>) {
 }
 
 /// Enters a name for a volume.
-fn enter(catalog: &mut Catalog, name: DsName, words: &mut Words<'_>, told: &mut Told) {
-    if let Some(serial) = serial(words) {
-        tell_entered(told, catalog.enter(name, serial));
+fn enter(catalog: &mut Catalog, name: DsName, line: &mut Line<'_>) {
+    if let Some(serial) = serial(&mut line.words) {
+        tell_entered(&mut line.told, catalog.enter(name, serial));
     }
 }
 
 /// Puts a name, whatever is there.
-fn put(catalog: &mut Catalog, name: DsName, words: &mut Words<'_>, told: &mut Told) {
-    if let Some(serial) = serial(words) {
-        told.over(catalog.put(name, serial));
-        told.line(b"OK");
+fn put(catalog: &mut Catalog, name: DsName, line: &mut Line<'_>) {
+    if let Some(serial) = serial(&mut line.words) {
+        line.told.over(catalog.put(name, serial));
+        line.told.line(b"OK");
     }
 }
 
 /// Makes a group.
-fn make_group(
-    alloc: Global,
-    catalog: &mut Catalog,
-    base: DsName,
-    words: &mut Words<'_>,
-    told: &mut Told,
-) {
-    let limit = words.byte();
-    let scratches = !words.is_empty();
+fn make_group(alloc: Global, catalog: &mut Catalog, base: DsName, line: &mut Line<'_>) {
+    let limit = line.words.byte();
+    let scratches = !line.words.is_empty();
     if scratches {
-        words.one_of(&[("SCRATCH", ())]);
+        line.words.one_of(&[("SCRATCH", ())]);
     }
-    tell_done(told, catalog.make_group(alloc, base, limit, scratches));
+    tell_done(
+        &mut line.told,
+        catalog.make_group(alloc, base, limit, scratches),
+    );
 }
 
 /// Enters a number in the group of a base.
-fn enter_number(catalog: &mut Catalog, base: &DsName, words: &mut Words<'_>, told: &mut Told) {
-    let number = words.short();
-    let Some(serial) = serial(words) else {
+fn enter_number(catalog: &mut Catalog, base: &DsName, line: &mut Line<'_>) {
+    let number = line.words.short();
+    let Some(serial) = serial(&mut line.words) else {
         return;
     };
     if number == 0 || number > 9999 {
-        return told.not_allowed();
+        return line.told.not_allowed();
     }
-    tell_entered(told, catalog.enter_generation(base, number, serial));
+    tell_entered(
+        &mut line.told,
+        catalog.enter_generation(base, number, serial),
+    );
 }
 
 /// Tells the number that a relative number means.
@@ -143,52 +143,64 @@ impl Desk for Cataloged {
         }
     }
 
-    fn act(
-        &mut self,
-        alloc: Global,
-        words: &mut Words<'_>,
-        _lines: &mut Lines<'_>,
-        told: &mut Told,
-    ) {
-        let verb = words.one_of(&VERBS);
-        let Some(name) = base_or_name(words) else {
+    fn act(&mut self, alloc: Global, line: &mut Line<'_>) {
+        let verb = line.words.one_of(&VERBS);
+        let Some(name) = base_or_name(&mut line.words) else {
             return;
         };
         let catalog = &mut self.catalog;
         match verb {
-            Some(Verb::Enter) => enter(catalog, name, words, told),
-            Some(Verb::Put) => put(catalog, name, words, told),
-            Some(Verb::Remove) => tell_done(told, catalog.remove(&name)),
+            Some(Verb::Enter) => enter(catalog, name, line),
+            Some(Verb::Put) => put(catalog, name, line),
+            Some(Verb::Remove) => tell_done(&mut line.told, catalog.remove(&name)),
             Some(Verb::Clear) => {
                 catalog.clear(&name);
-                told.line(b"OK");
+                line.told.line(b"OK");
             }
-            Some(Verb::Group) => make_group(alloc, catalog, name, words, told),
-            Some(Verb::Number) => enter_number(catalog, &name, words, told),
-            Some(Verb::Plus) => resolve(catalog, &name, Sign::Plus, words.byte(), told),
-            Some(Verb::Minus) => resolve(catalog, &name, Sign::Minus, words.byte(), told),
-            Some(Verb::Find) => tell_found(told, catalog.find(&name)),
-            Some(Verb::Show) => tell_group_of(told, catalog, &name),
-            Some(Verb::Member) => tell_member(told, catalog, &name),
+            Some(Verb::Group) => make_group(alloc, catalog, name, line),
+            Some(Verb::Number) => enter_number(catalog, &name, line),
+            Some(Verb::Plus) => resolve(
+                catalog,
+                &name,
+                Sign::Plus,
+                line.words.byte(),
+                &mut line.told,
+            ),
+            Some(Verb::Minus) => resolve(
+                catalog,
+                &name,
+                Sign::Minus,
+                line.words.byte(),
+                &mut line.told,
+            ),
+            Some(Verb::Find) => tell_found(&mut line.told, catalog.find(&name)),
+            Some(Verb::Show) => tell_group_of(&mut line.told, catalog, &name),
+            Some(Verb::Member) => tell_member(&mut line.told, catalog, &name),
             None => {}
         }
     }
 }
 
-/// An empty catalog, beside the names that the lines say, each behind a verb.
-pub(crate) fn new_catalog(alloc: Global, mut lines: Lines<'_>, told: &mut Told) -> Cataloged {
+/// Adds the name that a line says behind its verb.
+fn add_name(names: &mut Vec<DsName>, text: &[u8], told: &mut Told) {
+    let mut words = Words::new(text);
+    words.next_word();
+    if let Some(name) = base_or_name(&mut words)
+        && names.push(name).is_err()
+    {
+        told.want();
+    }
+}
+
+/// An empty catalog, beside the names that all further lines say.
+pub(crate) fn new_catalog(alloc: Global, line: &mut Line<'_>) -> Cataloged {
     let mut names = Vec::new(alloc);
+    let mut lines = line.lines;
     for _ in 0..lines.len() {
-        let Some(line) = lines.next_line() else {
+        let Some(text) = lines.next_line() else {
             break;
         };
-        let mut words = Words::new(line);
-        words.next_word();
-        if let Some(name) = base_or_name(&mut words)
-            && names.push(name).is_err()
-        {
-            told.want();
-        }
+        add_name(&mut names, text, &mut line.told);
     }
     Cataloged {
         catalog: Catalog::new(alloc),

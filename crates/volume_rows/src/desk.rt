@@ -5,9 +5,8 @@ use crate::groups::new_groups;
 use crate::mounted::new_kept;
 use crate::records::Written;
 use crate::volumes::new_sets;
-use row_table::desk::{Desk, answer_lines};
+use row_table::desk::{Desk, Line, answer_lines};
 use row_table::told::Told;
-use row_table::words::{Lines, Words};
 use std::alloc::Global;
 
 #[derive(Clone, Copy)]
@@ -30,45 +29,30 @@ const ABOUT: [(&str, About); 6] = [
 ];
 
 /// Does the commands of all lines, where there is something that they are about.
-fn answer_at<D: Desk + Drop>(
-    alloc: Global,
-    desk: Option<D>,
-    lines: &mut Lines<'_>,
-    told: &mut Told,
-) {
+fn answer_at<D: Desk + Drop>(alloc: Global, desk: Option<D>, line: &mut Line<'_>) {
     if let Some(mut desk) = desk {
-        answer_lines(alloc, &mut desk, lines, told);
+        answer_lines(alloc, &mut desk, line);
+    }
+}
+
+/// Answers the lines behind the first.
+fn answer_all(alloc: Global, line: &mut Line<'_>) {
+    match line.words.one_of(&ABOUT) {
+        Some(About::Group) => answer_at(alloc, new_groups(alloc, line), line),
+        Some(About::Catalog) => answer_lines(alloc, &mut new_catalog(alloc, line), line),
+        Some(About::Extents) => answer_extents(alloc, line),
+        Some(About::Records) => answer_lines(alloc, &mut Written::new(alloc), line),
+        Some(About::Volume) => answer_at(alloc, new_sets(alloc, line), line),
+        Some(About::Mounted) => answer_at(alloc, new_kept(alloc, line), line),
+        None => line.end(),
     }
 }
 
 /// Answers each line of a row.
 pub(crate) fn answer(alloc: Global, input: &[u8], told: &mut Told) {
-    let mut lines = Lines::new(input);
-    let Some(line) = lines.next_line() else {
-        return;
-    };
-    let mut words = Words::new(line);
-    let rest = &mut lines;
-    match words.one_of(&ABOUT) {
-        Some(About::Group) => {
-            let groups = new_groups(alloc, &mut words, told);
-            answer_at(alloc, groups, rest, told);
-        }
-        Some(About::Catalog) => {
-            let mut catalog = new_catalog(alloc, *rest, told);
-            answer_lines(alloc, &mut catalog, rest, told);
-        }
-        Some(About::Extents) => answer_extents(alloc, &mut words, rest, told),
-        Some(About::Records) => answer_lines(alloc, &mut Written::new(alloc), rest, told),
-        Some(About::Volume) => {
-            let sets = new_sets(alloc, &mut words, *rest, told);
-            answer_at(alloc, sets, rest, told);
-        }
-        Some(About::Mounted) => {
-            let kept = new_kept(alloc, &mut words, *rest, told);
-            answer_at(alloc, kept, rest, told);
-        }
-        None => {}
+    let mut line = Line::new(alloc, input);
+    if line.next() {
+        answer_all(alloc, &mut line);
     }
-    words.end(line, told);
+    told.append(&line.told);
 }

@@ -6,8 +6,8 @@ use crate::keys::volume_tracks;
 use crate::tells::tell_place;
 use extent_core::extent::Extent;
 use extent_core::free::FreeExtents;
+use row_table::desk::Line;
 use row_table::told::Told;
-use row_table::words::{Lines, Words};
 use std::alloc::Global;
 
 #[derive(Clone, Copy)]
@@ -91,58 +91,55 @@ fn tell_often(told: &mut Told, freed: Option<u16>) {
 }
 
 /// Frees tracks of which none is free.
-fn free(fast: &mut FreeExtents, slow: &mut [bool], words: &mut Words<'_>, told: &mut Told)
+fn free(fast: &mut FreeExtents, slow: &mut [bool], line: &mut Line<'_>)
     requires { fast.old ≡ slow.old }
     ensures { fast.new ≡ slow.new }
 {
-    let start = words.short();
-    let tracks = words.short();
+    let start = line.words.short();
+    let tracks = line.words.short();
     if free_both(fast, slow, Extent { start, tracks }) {
-        told.line(b"OK");
+        line.told.line(b"OK");
     } else {
-        told.not_allowed();
+        line.told.not_allowed();
     }
 }
 
 /// Does a command about free extents.
-fn on_extents(fast: &mut FreeExtents, slow: &mut [bool], words: &mut Words<'_>, told: &mut Told)
+fn on_extents(fast: &mut FreeExtents, slow: &mut [bool], line: &mut Line<'_>)
     requires { fast.old ≡ slow.old }
     ensures { fast.new ≡ slow.new }
 {
-    match words.one_of(&VERBS) {
-        Some(Verb::Free) => free(fast, slow, words, told),
-        Some(Verb::Take) => tell_place(told, take_both(fast, slow, words.short())),
-        Some(Verb::First) => tell_place(told, fast.first(words.short())),
-        Some(Verb::Largest) => tell_place(told, fast.largest()),
-        Some(Verb::At) => tell_place(told, fast.extent_at(words.short())),
-        Some(Verb::Tracks) => told.numbered_line(b"", fast.tracks() as u64),
-        Some(Verb::Change) => tell_often(told, change_often(fast, slow, words.short())),
+    match line.words.one_of(&VERBS) {
+        Some(Verb::Free) => free(fast, slow, line),
+        Some(Verb::Take) => tell_place(&mut line.told, take_both(fast, slow, line.words.short())),
+        Some(Verb::First) => tell_place(&mut line.told, fast.first(line.words.short())),
+        Some(Verb::Largest) => tell_place(&mut line.told, fast.largest()),
+        Some(Verb::At) => tell_place(&mut line.told, fast.extent_at(line.words.short())),
+        Some(Verb::Tracks) => line.told.numbered_line(b"", fast.tracks() as u64),
+        Some(Verb::Change) => tell_often(
+            &mut line.told,
+            change_often(fast, slow, line.words.short()),
+        ),
         None => {}
     }
     if !is_same(fast, slow, 1) {
-        told.line(b"DIFFERS");
+        line.told.line(b"DIFFERS");
     }
 }
 
 /// Answers commands about the free extents of a volume of which no track is free at first.
-pub(crate) fn answer_extents(
-    alloc: Global,
-    words: &mut Words<'_>,
-    lines: &mut Lines<'_>,
-    told: &mut Told,
-) {
-    let tracks = volume_tracks(words);
-    let fast = told.got(FreeExtents::new(alloc, tracks));
-    let slow = told.got(vec![in alloc; false; usize::from(tracks)]);
+pub(crate) fn answer_extents(alloc: Global, line: &mut Line<'_>) {
+    let tracks = volume_tracks(&mut line.words);
+    let fast = line.told.got(FreeExtents::new(alloc, tracks));
+    let slow = line.told.got(vec![in alloc; false; usize::from(tracks)]);
     let (Some(mut fast), Some(mut slow)) = (fast, slow) else {
         return;
     };
-    'commands: for _ in 0..lines.len() {
-        let Some(line) = lines.next_line() else {
+    'commands: for _ in 0..line.lines.len() {
+        if !line.next() {
             break;
-        };
-        let mut words = Words::new(line);
-        on_extents(&mut fast, slow.as_mut_slice(), &mut words, told);
-        words.end(line, told);
+        }
+        on_extents(&mut fast, slow.as_mut_slice(), line);
+        line.end();
     }
 }

@@ -2,10 +2,9 @@
 use crate::tells::{tell_found, tell_group, tell_rolled};
 use group_core::group::{Group, GroupFault};
 use jname_core::key::Sign;
-use row_table::desk::Desk;
+use row_table::desk::{Desk, Line};
 use row_table::names::serial;
 use row_table::told::Told;
-use row_table::words::{Lines, Words};
 use std::alloc::Global;
 
 #[derive(Clone, Copy)]
@@ -40,17 +39,17 @@ fn tell_fault(told: &mut Told, fault: GroupFault) {
 }
 
 /// Enters a number for a volume.
-fn enter(group: &mut Group, words: &mut Words<'_>, told: &mut Told) {
-    let number = words.short();
-    let Some(serial) = serial(words) else {
+fn enter(group: &mut Group, line: &mut Line<'_>) {
+    let number = line.words.short();
+    let Some(serial) = serial(&mut line.words) else {
         return;
     };
     if number == 0 || number > 9999 {
-        return told.not_allowed();
+        return line.told.not_allowed();
     }
     match group.enter(number, serial) {
-        Ok(rolled) => tell_rolled(told, rolled),
-        Err(fault) => tell_fault(told, fault),
+        Ok(rolled) => tell_rolled(&mut line.told, rolled),
+        Err(fault) => tell_fault(&mut line.told, fault),
     }
 }
 
@@ -89,35 +88,34 @@ impl Desk for Groups {
         tell_group(told, &self.group);
     }
 
-    fn act(
-        &mut self,
-        _alloc: Global,
-        words: &mut Words<'_>,
-        _lines: &mut Lines<'_>,
-        told: &mut Told,
-    ) {
-        match words.one_of(&VERBS) {
-            Some(Verb::Enter) => enter(&mut self.group, words, told),
-            Some(Verb::Remove) => remove(&mut self.group, words.short(), told),
-            Some(Verb::Plus) => resolve(&self.group, Sign::Plus, words.byte(), told),
-            Some(Verb::Minus) => resolve(&self.group, Sign::Minus, words.byte(), told),
-            Some(Verb::Find) => tell_found(told, self.group.find(words.short())),
-            Some(Verb::Show) => tell_group(told, &self.group),
-            Some(Verb::Copy) => self.copy_group(told),
-            Some(Verb::Copied) => tell_group(told, &self.copy),
+    fn act(&mut self, _alloc: Global, line: &mut Line<'_>) {
+        match line.words.one_of(&VERBS) {
+            Some(Verb::Enter) => enter(&mut self.group, line),
+            Some(Verb::Remove) => remove(&mut self.group, line.words.short(), &mut line.told),
+            Some(Verb::Plus) => resolve(&self.group, Sign::Plus, line.words.byte(), &mut line.told),
+            Some(Verb::Minus) => resolve(
+                &self.group,
+                Sign::Minus,
+                line.words.byte(),
+                &mut line.told,
+            ),
+            Some(Verb::Find) => tell_found(&mut line.told, self.group.find(line.words.short())),
+            Some(Verb::Show) => tell_group(&mut line.told, &self.group),
+            Some(Verb::Copy) => self.copy_group(&mut line.told),
+            Some(Verb::Copied) => tell_group(&mut line.told, &self.copy),
             None => {}
         }
     }
 }
 
 /// A group of the limit that comes next, which scratches what rolls off where the word behind it is SCRATCH.
-pub(crate) fn new_groups(alloc: Global, words: &mut Words<'_>, told: &mut Told) -> Option<Groups> {
-    let limit = words.byte();
-    let scratches = !words.is_empty();
+pub(crate) fn new_groups(alloc: Global, line: &mut Line<'_>) -> Option<Groups> {
+    let limit = line.words.byte();
+    let scratches = !line.words.is_empty();
     if scratches {
-        words.one_of(&[("SCRATCH", ())])?;
+        line.words.one_of(&[("SCRATCH", ())])?;
     }
-    let group = told.got(Group::new(alloc, limit, scratches))?;
-    let copy = told.got(Group::new(alloc, 0, false))?;
+    let group = line.told.got(Group::new(alloc, limit, scratches))?;
+    let copy = line.told.got(Group::new(alloc, 0, false))?;
     Some(Groups { group, copy })
 }

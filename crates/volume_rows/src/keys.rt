@@ -2,9 +2,10 @@
 ghost use Rattle.std.specs.Prelude.{◌≤◌};
 
 use jname_core::ds_name::{DsName, read_ds_name};
+use row_table::desk::Line;
 use row_table::names::{ds_name, name8};
 use row_table::told::Told;
-use row_table::words::{Lines, Words};
+use row_table::words::Words;
 use std::alloc::Global;
 use vtoc_core::entry::{Extent, SetKey};
 
@@ -64,14 +65,15 @@ fn add_keys(keys: &mut Vec<SetKey>, line: &[u8], told: &mut Told) {
     }
 }
 
-/// The keys that lines say.
-pub(crate) fn keys_in(alloc: Global, mut lines: Lines<'_>, told: &mut Told) -> Vec<SetKey> {
+/// The keys that all further lines say.
+pub(crate) fn keys_in(alloc: Global, line: &mut Line<'_>) -> Vec<SetKey> {
     let mut keys = Vec::new(alloc);
+    let mut lines = line.lines;
     for _ in 0..lines.len() {
-        let Some(line) = lines.next_line() else {
+        let Some(text) = lines.next_line() else {
             break;
         };
-        add_keys(&mut keys, line, told);
+        add_keys(&mut keys, text, &mut line.told);
     }
     keys
 }
@@ -89,15 +91,15 @@ pub(crate) fn volume_tracks(words: &mut Words<'_>) -> u16
 }
 
 /// Takes all further words as tracks that are never free.
-pub(crate) fn holes(alloc: Global, words: &mut Words<'_>, told: &mut Told) -> Vec<Extent> {
+pub(crate) fn holes(alloc: Global, line: &mut Line<'_>) -> Vec<Extent> {
     let mut holes = Vec::new(alloc);
     for _ in 0..64u8 {
-        if words.is_empty() {
+        if line.words.is_empty() {
             break;
         }
-        let start = words.short();
+        let start = line.words.short();
         if holes.push(Extent { start, tracks: 1 }).is_err() {
-            told.want();
+            line.told.want();
         }
     }
     holes

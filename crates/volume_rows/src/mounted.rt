@@ -6,9 +6,9 @@ use crate::tells::{tell_answer, tell_counts, tell_set};
 use jname_core::serial::Serial;
 use mount_core::mounted::Mounted;
 use mount_core::place::KeptPlace;
-use row_table::desk::Desk;
+use row_table::desk::{Desk, Line};
 use row_table::told::Told;
-use row_table::words::{Lines, Words};
+use row_table::words::Words;
 use std::alloc::Global;
 use vtoc_core::entry::SetKey;
 
@@ -38,28 +38,31 @@ fn place(words: &mut Words<'_>) -> KeptPlace {
 }
 
 /// Keeps tracks for a place.
-fn keep(mounted: &mut Mounted, words: &mut Words<'_>, told: &mut Told) {
-    let place = place(words);
-    tell_answer(told, mounted.keep(place, words.short()));
+fn keep(mounted: &mut Mounted, line: &mut Line<'_>) {
+    let place = place(&mut line.words);
+    tell_answer(&mut line.told, mounted.keep(place, line.words.short()));
 }
 
 /// Makes a set of the tracks that are kept for a place, or of free ones.
-fn make(alloc: Global, mounted: &mut Mounted, words: &mut Words<'_>, told: &mut Told) {
-    let place = place(words);
-    if let Some(key) = key(words) {
-        tell_answer(told, mounted.make(alloc, &place, key, words.short(), None));
+fn make(alloc: Global, mounted: &mut Mounted, line: &mut Line<'_>) {
+    let place = place(&mut line.words);
+    if let Some(key) = key(&mut line.words) {
+        tell_answer(
+            &mut line.told,
+            mounted.make(alloc, &place, key, line.words.short(), None),
+        );
     }
 }
 
-fn give(mounted: &mut Mounted, words: &mut Words<'_>, told: &mut Told) {
-    let place = place(words);
+fn give(mounted: &mut Mounted, line: &mut Line<'_>) {
+    let place = place(&mut line.words);
     mounted.give_back(&place);
-    told.line(b"OK");
+    line.told.line(b"OK");
 }
 
-fn show(mounted: &Mounted, words: &mut Words<'_>, told: &mut Told) {
-    if let Some(key) = key(words) {
-        tell_set(told, mounted.volume().find(&key));
+fn show(mounted: &Mounted, line: &mut Line<'_>) {
+    if let Some(key) = key(&mut line.words) {
+        tell_set(&mut line.told, mounted.volume().find(&key));
     }
 }
 
@@ -79,36 +82,27 @@ impl Desk for Kept {
         }
     }
 
-    fn act(
-        &mut self,
-        alloc: Global,
-        words: &mut Words<'_>,
-        _lines: &mut Lines<'_>,
-        told: &mut Told,
-    ) {
+    fn act(&mut self, alloc: Global, line: &mut Line<'_>) {
         let mounted = &mut self.mounted;
-        match words.one_of(&VERBS) {
-            Some(Verb::Keep) => keep(mounted, words, told),
-            Some(Verb::Make) => make(alloc, mounted, words, told),
-            Some(Verb::Give) => give(mounted, words, told),
-            Some(Verb::Counts) => tell_counts(told, &mounted.volume().track_counts()),
-            Some(Verb::Show) => show(mounted, words, told),
+        match line.words.one_of(&VERBS) {
+            Some(Verb::Keep) => keep(mounted, line),
+            Some(Verb::Make) => make(alloc, mounted, line),
+            Some(Verb::Give) => give(mounted, line),
+            Some(Verb::Counts) => tell_counts(&mut line.told, &mounted.volume().track_counts()),
+            Some(Verb::Show) => show(mounted, line),
             None => {}
         }
     }
 }
 
 /// A volume of so many tracks, beside the keys that the lines say.
-pub(crate) fn new_kept(
-    alloc: Global,
-    words: &mut Words<'_>,
-    lines: Lines<'_>,
-    told: &mut Told,
-) -> Option<Kept> {
+pub(crate) fn new_kept(alloc: Global, line: &mut Line<'_>) -> Option<Kept> {
     let serial = Serial::read(b"VOL001")?;
-    let tracks = volume_tracks(words);
-    let holes = holes(alloc, words, told);
-    let mounted = told.got(Mounted::new(alloc, serial, tracks, holes.as_slice()))?;
-    let keys = keys_in(alloc, lines, told);
+    let tracks = volume_tracks(&mut line.words);
+    let holes = holes(alloc, line);
+    let mounted = line
+        .told
+        .got(Mounted::new(alloc, serial, tracks, holes.as_slice()))?;
+    let keys = keys_in(alloc, line);
     Some(Kept { mounted, keys })
 }

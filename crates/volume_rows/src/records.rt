@@ -1,9 +1,8 @@
 //! The records of a set by themselves.
 use crate::keys::column;
 use crate::tells::{column_of, tell_records};
-use row_table::desk::Desk;
+use row_table::desk::{Desk, Line};
 use row_table::told::Told;
-use row_table::words::{Lines, Words};
 use set_core::records::Records;
 use std::alloc::Global;
 
@@ -76,33 +75,29 @@ impl Desk for Written {
         tell_records(told, &self.records);
     }
 
-    fn act(
-        &mut self,
-        _alloc: Global,
-        words: &mut Words<'_>,
-        _lines: &mut Lines<'_>,
-        told: &mut Told,
-    ) {
+    fn act(&mut self, _alloc: Global, line: &mut Line<'_>) {
         let records = &mut self.records;
-        match words.one_of(&VERBS) {
+        match line.words.one_of(&VERBS) {
             Some(Verb::Fill) => {
-                let count = words.short();
-                fill(records, count, column(words), told);
+                let count = line.words.short();
+                fill(records, count, column(&mut line.words), &mut line.told);
             }
             Some(Verb::Append) => {
-                told.over(records.append([column(words); 80]));
-                told.line(b"OK");
+                line.told
+                    .over(records.append([column(&mut line.words); 80]));
+                line.told.line(b"OK");
             }
             Some(Verb::Write) => {
-                told.over(records.write_first([column(words); 80]));
-                told.line(b"OK");
+                line.told
+                    .over(records.write_first([column(&mut line.words); 80]));
+                line.told.line(b"OK");
             }
             Some(Verb::Clear) => records.clear(),
-            Some(Verb::Show) => tell_records(told, records),
-            Some(Verb::Count) => told.numbered_line(b"", records.len() as u64),
-            Some(Verb::Tracks) => told.numbered_line(b"", records.tracks_used() as u64),
-            Some(Verb::Read) => tell_read(told, records, words.short()),
-            Some(Verb::Full) => tell_full(told, records, words.short()),
+            Some(Verb::Show) => tell_records(&mut line.told, records),
+            Some(Verb::Count) => line.told.numbered_line(b"", records.len() as u64),
+            Some(Verb::Tracks) => line.told.numbered_line(b"", records.tracks_used() as u64),
+            Some(Verb::Read) => tell_read(&mut line.told, records, line.words.short()),
+            Some(Verb::Full) => tell_full(&mut line.told, records, line.words.short()),
             None => {}
         }
     }

@@ -3,9 +3,8 @@ ghost use Rattle.std.specs.Prelude.{◌≤◌};
 
 use crate::keys::{column, holes, key, keys_in, volume_tracks};
 use crate::tells::{tell_answer, tell_counts, tell_extents, tell_fault, tell_set};
-use row_table::desk::Desk;
+use row_table::desk::{Desk, Line};
 use row_table::told::Told;
-use row_table::words::{Lines, Words};
 use std::alloc::Global;
 use vtoc_core::entry::SetKey;
 use vtoc_core::volume::Volume;
@@ -48,14 +47,17 @@ const VERBS: [(&str, Verb); 12] = [
 ];
 
 /// Makes a set of so many tracks, not to be deleted before a day.
-fn make(alloc: Global, volume: &mut Volume, key: &SetKey, words: &mut Words<'_>, told: &mut Told) {
-    let tracks = words.short();
-    let expires = if words.is_empty() {
+fn make(alloc: Global, volume: &mut Volume, key: &SetKey, line: &mut Line<'_>) {
+    let tracks = line.words.short();
+    let expires = if line.words.is_empty() {
         None
     } else {
-        Some(words.number())
+        Some(line.words.number())
     };
-    tell_answer(told, volume.make_set(alloc, *key, tracks, expires));
+    tell_answer(
+        &mut line.told,
+        volume.make_set(alloc, *key, tracks, expires),
+    );
 }
 
 /// Makes a set of tracks that are set aside first, and tells those that are given back.
@@ -89,39 +91,41 @@ fn reserve(volume: &mut Volume, tracks: u16, told: &mut Told) {
 }
 
 /// Whether the keys are of one set, and else which is before the other.
-fn tell_order(told: &mut Told, own: &SetKey, words: &mut Words<'_>) {
-    let Some(other) = key(words) else {
+fn tell_order(own: &SetKey, line: &mut Line<'_>) {
+    let Some(other) = key(&mut line.words) else {
         return;
     };
     if own.is_same(&other) {
-        told.line(b"SAME");
+        line.told.line(b"SAME");
     } else if own < &other {
-        told.line(b"BEFORE");
+        line.told.line(b"BEFORE");
     } else {
-        told.line(b"BEHIND");
+        line.told.line(b"BEHIND");
     }
 }
 
 /// Does a command about a set.
-fn on_set(
-    alloc: Global,
-    volume: &mut Volume,
-    verb: SetVerb,
-    key: &SetKey,
-    words: &mut Words<'_>,
-    told: &mut Told,
-) {
+fn on_set(alloc: Global, volume: &mut Volume, verb: SetVerb, key: &SetKey, line: &mut Line<'_>) {
     match verb {
-        SetVerb::Make => make(alloc, volume, key, words, told),
-        SetVerb::From => make_from(alloc, volume, key, words.short(), told),
-        SetVerb::Grow => tell_answer(told, volume.grow(key, words.short())),
-        SetVerb::Trim => tell_answer(told, volume.trim(key, usize::from(words.short()))),
-        SetVerb::Scratch => tell_answer(told, volume.scratch(key)),
-        SetVerb::Append => tell_answer(told, volume.append(key, [column(words); 80])),
-        SetVerb::Write => tell_answer(told, volume.write_first(key, [column(words); 80])),
-        SetVerb::Clear => tell_answer(told, volume.clear(key)),
-        SetVerb::Show => tell_set(told, volume.find(key)),
-        SetVerb::Order => tell_order(told, key, words),
+        SetVerb::Make => make(alloc, volume, key, line),
+        SetVerb::From => make_from(alloc, volume, key, line.words.short(), &mut line.told),
+        SetVerb::Grow => tell_answer(&mut line.told, volume.grow(key, line.words.short())),
+        SetVerb::Trim => tell_answer(
+            &mut line.told,
+            volume.trim(key, usize::from(line.words.short())),
+        ),
+        SetVerb::Scratch => tell_answer(&mut line.told, volume.scratch(key)),
+        SetVerb::Append => tell_answer(
+            &mut line.told,
+            volume.append(key, [column(&mut line.words); 80]),
+        ),
+        SetVerb::Write => tell_answer(
+            &mut line.told,
+            volume.write_first(key, [column(&mut line.words); 80]),
+        ),
+        SetVerb::Clear => tell_answer(&mut line.told, volume.clear(key)),
+        SetVerb::Show => tell_set(&mut line.told, volume.find(key)),
+        SetVerb::Order => tell_order(key, line),
     }
 }
 
@@ -140,19 +144,13 @@ impl Desk for Sets {
         }
     }
 
-    fn act(
-        &mut self,
-        alloc: Global,
-        words: &mut Words<'_>,
-        _lines: &mut Lines<'_>,
-        told: &mut Told,
-    ) {
-        match words.one_of(&VERBS) {
-            Some(Verb::Reserve) => reserve(&mut self.volume, words.short(), told),
-            Some(Verb::Counts) => tell_counts(told, &self.volume.track_counts()),
+    fn act(&mut self, alloc: Global, line: &mut Line<'_>) {
+        match line.words.one_of(&VERBS) {
+            Some(Verb::Reserve) => reserve(&mut self.volume, line.words.short(), &mut line.told),
+            Some(Verb::Counts) => tell_counts(&mut line.told, &self.volume.track_counts()),
             Some(Verb::Set(verb)) => {
-                if let Some(key) = key(words) {
-                    on_set(alloc, &mut self.volume, verb, &key, words, told);
+                if let Some(key) = key(&mut line.words) {
+                    on_set(alloc, &mut self.volume, verb, &key, line);
                 }
             }
             None => {}
@@ -161,15 +159,10 @@ impl Desk for Sets {
 }
 
 /// A volume of so many tracks, beside the keys that the lines say.
-pub(crate) fn new_sets(
-    alloc: Global,
-    words: &mut Words<'_>,
-    lines: Lines<'_>,
-    told: &mut Told,
-) -> Option<Sets> {
-    let tracks = volume_tracks(words);
-    let holes = holes(alloc, words, told);
-    let volume = told.got(Volume::new(alloc, tracks, holes.as_slice()))?;
-    let keys = keys_in(alloc, lines, told);
+pub(crate) fn new_sets(alloc: Global, line: &mut Line<'_>) -> Option<Sets> {
+    let tracks = volume_tracks(&mut line.words);
+    let holes = holes(alloc, line);
+    let volume = line.told.got(Volume::new(alloc, tracks, holes.as_slice()))?;
+    let keys = keys_in(alloc, line);
     Some(Sets { volume, keys })
 }

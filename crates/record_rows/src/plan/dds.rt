@@ -84,12 +84,7 @@ fn tell_named(told: &mut Told, name: &DsName) {
 }
 
 /// A generation by its number from the newest.
-fn tell_relative(
-    told: &mut Told,
-    base: &DsName,
-    sign: &Sign,
-    amount: u8,
-) {
+fn tell_relative(told: &mut Told, base: &DsName, sign: &Sign, amount: u8) {
     told.two(b"(rel ", base.as_slice());
     match sign {
         Sign::Plus => told.numbered(b" 0 ", u64::from(amount)),
