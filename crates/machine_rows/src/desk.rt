@@ -66,7 +66,7 @@ const VERBS: [(&str, Verb); 27] = [
 /// Held names, programs, a store, what writers have to write, and the commands that are watched.
 #[derive(Drop)]
 struct Machine<'a> {
-    table: EnqTable,
+    table: &'a mut EnqTable,
     held: &'a mut Vec<Held>,
     library: ProgramLibrary,
     store: SharedStore,
@@ -89,7 +89,7 @@ impl Desk for Machine<'_> {
     fn act(&mut self, alloc: Global, line: &mut Line<'_>) {
         match line.words.one_of(&VERBS) {
             Some(Verb::Holds(verb)) => {
-                on_holds(alloc, &mut self.table, self.held, verb, line);
+                on_holds(alloc, self.table, self.held, verb, line);
             }
             Some(Verb::Program) => add_program(alloc, &mut self.library, line),
             Some(Verb::Runs) => tell_runs(&self.library, line),
@@ -128,9 +128,10 @@ fn watches_in(alloc: Global, line: &mut Line<'_>) -> Listed<Text> {
 pub(crate) fn answer(alloc: Global, input: &[u8], told: &mut Told) {
     let mut line = Line::new(alloc, input);
     let watches = watches_in(alloc, &mut line);
+    let mut table = EnqTable::new(alloc);
     let mut held = Vec::new(alloc);
     let mut machine = Machine {
-        table: EnqTable::new(alloc),
+        table: &mut table,
         held: &mut held,
         library: ProgramLibrary::new(alloc),
         store: SharedStore {
@@ -143,6 +144,6 @@ pub(crate) fn answer(alloc: Global, input: &[u8], told: &mut Told) {
     };
     answer_lines(alloc, &mut machine, &mut line);
     told.append(&line.told);
-    let Machine { mut table, .. } = machine;
+    drop(machine);
     release_all(&mut table, held);
 }

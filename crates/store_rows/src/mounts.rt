@@ -5,7 +5,6 @@ use group_core::entry::CatEntry;
 use group_core::group::Group;
 use jcl_meaning::store::{SoloEntry, SoloSet};
 use jname_core::ds_name::DsName;
-use jname_core::serial::Serial;
 use mount_core::mounted::Mounted;
 use mount_core::place::KeptPlace;
 use plain::listed::Listed;
