@@ -118,7 +118,8 @@ pub(crate) fn answer(alloc: Global, input: &[u8], told: &mut Told) {
         }
         act(alloc, &mut desk, &mut line);
         if line.words.is_wrong() {
-            line.told.line_of_two(b"?", line.text());
+            let text = line.text();
+            line.told.line_of_two(b"?", text);
         }
     }
     told.append(&line.told);
