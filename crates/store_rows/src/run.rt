@@ -136,6 +136,16 @@ impl Answers<'_> {
             Some(granted) => *granted,
         }
     }
+
+    /// The end of a step, which uses its answers up.
+    fn finish(&mut self, alloc: Global, course: &mut Course, n: usize) -> Result<(), AllocError> {
+        let cancelled = self.is_cancelled(course.own.lines);
+        let outcome = self.outcome();
+        finish(alloc, course, n, &outcome, cancelled)?;
+        self.outcomes = others(self.outcomes);
+        self.cancels = others(self.cancels);
+        Ok(())
+    }
 }
 
 impl Way<'_> {
@@ -159,16 +169,6 @@ impl Way<'_> {
         Ok(())
     }
 
-    /// The end of a step, which uses its answers up.
-    fn finish(&mut self, n: usize) -> Result<(), AllocError> {
-        let cancelled = self.is_cancelled();
-        let outcome = self.answers.outcome();
-        finish(self.alloc, &mut self.course, n, &outcome, cancelled)?;
-        self.answers.outcomes = others(self.answers.outcomes);
-        self.answers.cancels = others(self.answers.cancels);
-        Ok(())
-    }
-
     /// An action of a step. An `Err` changes nothing.
     fn act<S: Growths>(
         &mut self,
@@ -189,7 +189,7 @@ impl Way<'_> {
                 let cancelled = self.answers.is_cancelled(course.own.lines);
                 receive(store, JOB, course, cancelled)
             }
-            Action::Finish => self.finish(at.n),
+            Action::Finish => self.answers.finish(self.alloc, course, at.n),
             Action::Dispose(dd, d) => dispose_of(store, given, course, at.n, dd, d),
             Action::Left(dd, d) => {
                 leave(store, JOB, given, course, at.n, dd, d)?;

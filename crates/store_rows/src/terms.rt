@@ -7,7 +7,7 @@ use plain::listed::Listed;
 use row_table::desk::Line;
 use row_table::names::serial;
 use row_table::words::Words;
-use std::alloc::Global;
+use std::alloc::{AllocError, Global};
 
 /// For how many days the set of a DD is to be kept.
 #[derive(Clone, Copy)]
@@ -54,6 +54,16 @@ pub(crate) fn no_terms(alloc: Global, date: Day) -> Terms {
         path: None,
         periods: Listed::empty(alloc),
         date,
+    }
+}
+
+/// One more outcome.
+fn push_outcome(path: &mut Listed<Outcome>, outcome: Outcome) -> Result<(), AllocError> {
+    match outcome {
+        Outcome::Code(code) => path.push(Outcome::Code(code)),
+        Outcome::Abend(abend) => path.push(Outcome::Abend(abend)),
+        Outcome::Bypassed => path.push(Outcome::Bypassed),
+        Outcome::Flushed => path.push(Outcome::Flushed),
     }
 }
 
@@ -112,7 +122,7 @@ impl Terms {
                 break;
             }
             if let Some(outcome) = outcome(&mut line.words) {
-                line.told.over(path.push(outcome));
+                line.told.over(push_outcome(&mut path, outcome));
             }
         }
         self.path = Some(path);
