@@ -23,7 +23,7 @@ def compare_tables(crate):
     """Runs a row program on its tables, and returns whether it said what stands in its file stdout."""
     folder = os.path.join("crates", crate)
     command = [os.path.abspath(os.path.join(folder, "out", crate)), *text_of(os.path.join(folder, "args")).split()]
-    run = subprocess.run(command, cwd=folder, capture_output=True, text=True, check=False)
+    run = subprocess.run(command, cwd=os.path.join(folder, "data"), capture_output=True, text=True, check=False)
     sys.stdout.write(run.stdout)
     sys.stderr.write(run.stderr)
     return run.returncode == 0 and run.stdout == text_of(os.path.join(folder, "stdout"))
