@@ -6,7 +6,7 @@
 SESSION ?= examples/first.session
 
 # The programs that compare worked rows with their tables.
-ROW_PROGRAMS = volume_rows record_rows machine_rows store_rows session_rows
+ROW_PROGRAMS = volume_rows record_rows machine_rows store_rows session_rows path_rows
 
 # What the program is made from.
 SOURCES = crates.txt $(wildcard crates/*/src/*.rt crates/*/src/*/*.rt)

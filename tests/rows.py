@@ -9,7 +9,7 @@ import re
 import subprocess
 import sys
 
-PROGRAMS = ("volume_rows", "record_rows", "machine_rows", "store_rows", "session_rows")
+PROGRAMS = ("volume_rows", "record_rows", "machine_rows", "store_rows", "session_rows", "path_rows")
 # The commands of a session's row that the program can be asked by its options, or that leave the listing as it is.
 PLAIN = ("risk ", "views ", "read ", "write ", "driven", "times ", "end")
 
