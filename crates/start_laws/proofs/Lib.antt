@@ -1,0 +1,5 @@
+pub mod Earliest
+pub mod Ended
+pub mod Meanings
+pub mod Runs
+pub mod Verdicts

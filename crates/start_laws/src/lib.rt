@@ -1,0 +1,29 @@
+//! Laws of a job that sees the same of two stores as it starts: the same is told of it before it runs. They have no code: a law is a function that
+//! does nothing, and its contract is the law.
+#![tactic(auto)]
+
+ghost use Rattle.start_laws.specs.Starts.{EarliestIsSeen, FirstWithMoreIsSeen, FreeIsSeen, MeaningsAreSeen};
+
+use part_laws::same_meanings;
+
+/// The keys of a job mean the same in two stores of which it sees the same.
+pub fn meanings_are_seen()
+    ensures { MeaningsAreSeen }
+{
+    same_meanings();
+}
+
+/// A job that is free of faults in the one store is so in the other, and makes its sets at the same places.
+pub fn free_is_seen()
+    ensures { FreeIsSeen }
+{}
+
+/// Its earliest fault is the same, on the same path.
+pub fn earliest_is_seen()
+    ensures { EarliestIsSeen }
+{}
+
+/// The first step with too many views is the same.
+pub fn first_with_more_is_seen()
+    ensures { FirstWithMoreIsSeen }
+{}
