@@ -1,5 +1,5 @@
 -- Each generation of a base stands between two names.
-use Rattle.std.proofs.Common.{◌≡◌, ◌≤◌, ◌&&◌, ◌==◌, ℕ, Bool, true, false, cond, nat_le, nat_lt, List, [], ◌∷◌, ◌++◌, take, drop, Ordering, Less, Equal, Greater, is_gt, refl, ap, ◌∙◌, sym, subst, arith, leb-true, ltb-false, le-ltb, eq-eqb, eqb-true, take-append-drop}
+use Rattle.std.proofs.Common.{◌≡◌, ◌≤◌, ◌&&◌, ◌==◌, ℕ, Bool, true, false, cond, nat_le, nat_lt, List, [], ◌∷◌, ◌++◌, take, drop, Ordering, Less, Equal, Greater, is_gt, refl, ap, ◌∙◌, sym, subst, arith, leb-true, ltb-false, le-ltb, eq-eqb, eqb-true, take-append-drop, append-nil}
 use Rattle.std.specs.Prelude.{codes, is_some, Some, None, if◌then◌else◌, not}
 use Rattle.std.specs.Cmp.{nat_cmp_is}
 use Rattle.std.specs.Cmp.Lexicographic.{slice_cmp, bytes_decides}
@@ -7,7 +7,7 @@ use Rattle.std.specs.BTreeMap.Range.{entries_between, range_contains}
 use Rattle.std.specs.List.{list_any}
 use Rattle.std.specs.Ordering.{is_le, nat_cmp, ordering_then}
 use Rattle.std.specs.Str.{bytes_eq}
-use Rattle.std.specs.declared.ops.Bound.TheVariants.{Included, Excluded}
+use Rattle.std.specs.declared.ops.Bound.TheVariants.{Included, Excluded, Unbounded}
 use Rattle.std.proofs.lemmas.Bool.{and_parts, cond-true}
 use Rattle.std.proofs.lemmas.Map.Views.{any-filter_same}
 use Rattle.jname_core.specs.Characters.{is_digit}
@@ -89,7 +89,8 @@ split base name form same =
     (sym ((bytes_decides (base_of name) base).0 same) ∙ cond-true (has_generation_form name) (take (before_suffix name) name) name form)
     ∙ take-append-drop (before_suffix name) name
 
-in_range : (base name : List ℕ) → is_generation_of base name ≡ true → range_contains name_cmp (Included (below_generations base)) (Excluded (above_generations base)) name ≡ true
+-- each stands between the two
+pub in_range : (base name : List ℕ) → is_generation_of base name ≡ true → range_contains name_cmp (Included (below_generations base)) (Excluded (above_generations base)) name ≡ true
 in_range base name h =
     let q = and_parts (is_some (generation_of name)) (bytes_eq (base_of name) base) h in
     let form : has_generation_form name ≡ true = has_form name q.0 in
@@ -118,3 +119,17 @@ pub forward_by : (base below above : List ℕ) → below ≡ below_generations b
 forward_by base below above low high =
     ap (λ (b : List ℕ). is_gt (name_cmp b above)) low ∙ ap (λ (b : List ℕ). is_gt (name_cmp (below_generations base) b)) high
     ∙ ap is_gt (behind base (codes ".G0000V0#") (codes ".G9999V9A"))
+
+-- and behind the base itself
+at_front : (s : List ℕ) → is_le (slice_cmp nat_cmp [] s) ≡ true
+at_front [] = refl
+at_front (x ∷ s) = refl
+
+pub behind_base : (base name : List ℕ) → is_generation_of base name ≡ true → range_contains name_cmp (Included base) Unbounded name ≡ true
+behind_base base name h =
+    let q = and_parts (is_some (generation_of name)) (bytes_eq (base_of name) base) h in
+    let s : List ℕ = drop (before_suffix name) name in
+    let whole : base ++ s ≡ name = split base name (has_form name q.0) q.1 in
+    let low : is_le (name_cmp (base ++ []) (base ++ s)) ≡ true = ap is_le (behind base [] s) ∙ at_front s in
+    let from_base : is_le (name_cmp base (base ++ s)) ≡ true = ap (λ (b : List ℕ). is_le (name_cmp b (base ++ s))) (sym (append-nil base)) ∙ low in
+    subst (λ (n : List ℕ). range_contains name_cmp (Included base) Unbounded n ≡ true) whole (ap (λ (b : Bool). b && true) from_base)

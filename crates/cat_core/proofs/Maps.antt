@@ -1,6 +1,7 @@
 -- What the map that entries make has at a name.
 use Rattle.std.proofs.Common.{◌≡◌, ℕ, List, [], ◌∷◌, Bool, true, false, Option, Ordering, Less, Equal, Greater, Some, None, T, ◌&&◌, cond, map, is_lt, refl, ap, subst, ◌∙◌, sym}
 use Rattle.std.specs.BTreeMap.{is_at}
+use Rattle.std.specs.BTreeMap.Range.{entries_between, range_contains}
 use Rattle.std.specs.Map.{lookup}
 use Rattle.std.specs.List.{AllByRecursion}
 use Rattle.std.specs.List.Sorted.{IsStrictlySortedBy}
@@ -12,7 +13,9 @@ use Rattle.group_core.specs.declared.entry.CatEntry.{CatEntry}
 use Rattle.group_core.specs.declared.entry.CatEntry.TheVariants.{Volume, Group}
 use Rattle.group_core.specs.Entries.{group_in}
 use Rattle.std.specs.Ordering.{is_eq}
-use Rattle.cat_core.specs.Catalogs.{Contents, contents_of, entry_with, entry_without, name_cmp, with_generation, with_generation_by, without_number, without_number_by}
+use Rattle.std.specs.declared.ops.Bound.{Bound}
+use Rattle.std.proofs.lemmas.Map.Entries.{lookup-filter-keys}
+use Rattle.cat_core.specs.Catalogs.{Contents, contents_of, entry_among, entry_with, entry_within, entry_without, name_cmp, with_generation, with_generation_by, without_number, without_number_by}
 
 abbrev pub entry_at : List (List ℕ × CatEntry) → List ℕ → Option CatEntry
 entry_at es name = lookup (is_at (name_cmp name)) es
@@ -89,3 +92,14 @@ entries_of es h =
     let same : contents_of es ≡ from_sorted es = same_map nat_list_cmp_total exact_bytes (contents_of es) (from_sorted es)
     (λ q. get-from_entries nat_list_cmp_total es q ∙ sym (get-from_sorted name_cmp es q s)) in
     ap entries same ∙ entries-from_sorted name_cmp es s
+
+same_name : (a b : List ℕ) → is_at (name_cmp a) b ≡ true → a ≡ b
+same_name a b h = exact_bytes a b (equal (name_cmp a b) h)
+
+-- what is found among the entries between two bounds
+pub among_between : (low high : Bound (List ℕ)) (es : List (List ℕ × CatEntry)) (q : List ℕ) →
+    entry_among (entries_between name_cmp low high es) q ≡ entry_within low high (contents_of es) q
+among_between low high es q =
+    lookup-filter-keys (is_at (name_cmp q)) (range_contains name_cmp low high) (range_contains name_cmp low high q)
+    (λ k h. ap (range_contains name_cmp low high) (sym (same_name q k h))) es
+    ∙ ap (λ (o : Option CatEntry). cond (range_contains name_cmp low high q) o None) (sym (get_name es q))

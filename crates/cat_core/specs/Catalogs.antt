@@ -1,11 +1,15 @@
 -- What the catalog holds: a finite map from names to a volume or a group, and what each call means over it.
 use Rattle.std.specs.Prelude.{◌≡◌, ℕ, Bool, true, false, ◌&&◌, List, [], Option, Some, None, Result, Ok, Err, is_some, IsOk, if◌then◌else◌}
+use Rattle.std.specs.BTreeMap.{is_at}
+use Rattle.std.specs.BTreeMap.Range.{range_contains}
 use Rattle.std.specs.List.{list_any}
+use Rattle.std.specs.Map.{lookup}
 use Rattle.std.specs.Str.{bytes_eq}
 use Rattle.std.specs.Coded.{Coded, coded_list, coded_ℕ}
 use Rattle.std.specs.FinMap.{FinMap, code, entries, from_entries, get, insert, remove}
 use Rattle.std.specs.Ordering.{nat_cmp}
 use Rattle.std.specs.declared.cmp.Ordering.{Ordering}
+use Rattle.std.specs.declared.ops.Bound.{Bound}
 use Rattle.std.specs.Cmp.Lexicographic.{slice_cmp}
 use Rattle.jname_core.specs.declared.key.Sign.{Sign}
 use Rattle.jname_core.specs.Generations.{base_of, generation_of}
@@ -33,6 +37,13 @@ contents_of entries = from_entries entries
 
 abbrev pub coded_contents : Coded Contents
 coded_contents = code (coded_list coded_ℕ) coded_entry
+
+-- the entry of a name among some in order, and in a catalog where the name lies between two bounds
+abbrev pub entry_among : List (List ℕ × CatEntry) → List ℕ → Option CatEntry
+entry_among entries name = lookup (is_at (name_cmp name)) entries
+
+abbrev pub entry_within : Bound (List ℕ) → Bound (List ℕ) → Contents → List ℕ → Option CatEntry
+entry_within low high c name = if range_contains name_cmp low high name then get c name else None
 
 -- the group of a base
 abbrev pub group_of : Contents → List ℕ → Option GroupState

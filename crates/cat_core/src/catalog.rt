@@ -1,12 +1,14 @@
 //! The catalog.
-ghost use Rattle.std.specs.Prelude.{◌≡◌, ◌≢◌, ◌≤◌, ◌<◌, ◌+◌, ◌++◌, length, take, None, Some, Err, IfOk, IfSome, OnOk, OnErr};
+ghost use Rattle.std.specs.Prelude.{◌≡◌, ◌≢◌, ◌≤◌, ◌<◌, ◌+◌, ◌++◌, ℕ, List, false, length, take, None, Some, Err, IfOk, IfSome, OnOk, OnErr};
 ghost use Rattle.std.specs.Option.{option_copied, option_map};
 ghost use Rattle.std.specs.FinMap as map;
+ghost use Rattle.std.specs.Ordering.{is_gt};
+ghost use Rattle.std.specs.declared.ops.Bound.TheVariants.{Excluded, Included, Unbounded};
 ghost use Rattle.group_core.specs.declared.entry.CatEntry.TheVariants.{Volume};
 ghost use Rattle.group_core.specs.Entries.{group_in, volume_in};
 ghost use Rattle.group_core.specs.Groups.{RollsInRange};
 ghost use Rattle.cat_core.specs.Bounds.{above_generations, below_generations};
-ghost use Rattle.cat_core.specs.Catalogs.{Gives, catalog_fault, contents_of, entered_name, enters_generation_of, entry_with, entry_without, found, generation_entered, generation_entered_by, group_made, group_of, has_generation_entered, is_entered, is_generation_of, is_volume, member_of, name_removed, relative, with_generation, with_group, with_name, without_name, without_number};
+ghost use Rattle.cat_core.specs.Catalogs.{Gives, catalog_fault, contents_of, entered_name, enters_generation_of, entry_among, entry_with, entry_within, entry_without, found, generation_entered, generation_entered_by, group_made, group_of, has_generation_entered, is_entered, is_generation_of, is_volume, member_of, name_cmp, name_removed, relative, with_generation, with_group, with_name, without_name, without_number};
 
 use crate::fault::CatFault;
 use group_core::entry::CatEntry;
@@ -16,6 +18,7 @@ use jname_core::key::Sign;
 use jname_core::serial::Serial;
 use std::alloc::{AllocError, Global};
 use std::collections::BTreeMap;
+use std::collections::btree_map::Range;
 use std::marker::Model;
 
 /// Names and what is entered for them.
@@ -105,6 +108,20 @@ fn name_behind(base: &DsName, end: &[u8; 9]) -> Option<DsName>
     }
 }
 
+/// Two names between which each generation of a base stands. Behind a base of over 35 characters nothing makes a name.
+pub fn generation_bounds(base: &DsName) -> Option<(DsName, DsName)>
+    ensures below { IfSome result (λ bounds. bounds.0 ≡ below_generations base.now) }
+    ensures above { IfSome result (λ bounds. bounds.1 ≡ above_generations base.now) }
+{
+    match (
+        name_behind(base, b".G0000V0#"),
+        name_behind(base, b".G9999V9A"),
+    ) {
+        (Some(below), Some(above)) => Some((below, above)),
+        _ => None,
+    }
+}
+
 /// Whether a generation of the base is entered as a plain name, by the names between two that stand around them all.
 fn has_generation_between(entries: &Entries, base: &DsName, below: DsName, above: DsName) -> bool
     requires below { below ≡ below_generations base.now }
@@ -125,17 +142,36 @@ fn has_generation_among_all(entries: &Entries, base: &DsName) -> bool
         .any(|(name, entry)| enters_generation_of(base, name, entry))
 }
 
-/// Whether a generation of the base is entered as a plain name. Behind a base of over 35 characters nothing makes a name.
+/// Whether a generation of the base is entered as a plain name.
 fn has_generation_entered(entries: &Entries, base: &DsName) -> bool
     ensures { result ≡ has_generation_entered (contents_of entries.now.entries) base.now }
 {
-    match (
-        name_behind(base, b".G0000V0#"),
-        name_behind(base, b".G9999V9A"),
-    ) {
-        (Some(below), Some(above)) => has_generation_between(entries, base, below, above),
-        _ => has_generation_among_all(entries, base),
+    match generation_bounds(base) {
+        Some((below, above)) => has_generation_between(entries, base, below, above),
+        None => has_generation_among_all(entries, base),
     }
+}
+
+/// The entries from a name on, up to another.
+fn between(entries: &Entries, below: DsName, above: DsName) -> Range<'_, DsName, CatEntry>
+    requires { is_gt (name_cmp below above) ≡ false }
+    ensures { (name : List ℕ) → entry_among result name ≡ entry_within (Included below) (Excluded above) (contents_of entries.now.entries) name }
+{
+    entries.range(below..above)
+}
+
+/// The entries from a name on.
+fn from(entries: &Entries, below: DsName) -> Range<'_, DsName, CatEntry>
+    ensures { (name : List ℕ) → entry_among result name ≡ entry_within (Included below) Unbounded (contents_of entries.now.entries) name }
+{
+    entries.range(below..)
+}
+
+/// The entry of a name.
+fn entry_at<'a>(entries: &'a Entries, name: &DsName) -> Option<&'a CatEntry>
+    ensures { option_copied result ≡ map.get (contents_of entries.now.entries) name.now }
+{
+    entries.get(name)
 }
 
 /// Puts an entry at a name. The error is want of memory, and changes nothing.
@@ -268,6 +304,28 @@ impl Catalog {
         ensures { option_copied result ≡ group_of self.now base.now }
     {
         group_at(&self.entries, base)
+    }
+
+    /// What is entered for a name itself.
+    pub fn entry(&self, name: &DsName) -> Option<&CatEntry>
+        ensures { option_copied result ≡ map.get self.now name.now }
+    {
+        entry_at(&self.entries, name)
+    }
+
+    /// The entries from a name on, up to another, in the order of names.
+    pub fn entries_between(&self, below: DsName, above: DsName) -> Range<'_, DsName, CatEntry>
+        requires { is_gt (name_cmp below above) ≡ false }
+        ensures { (name : List ℕ) → entry_among result name ≡ entry_within (Included below) (Excluded above) self.now name }
+    {
+        between(&self.entries, below, above)
+    }
+
+    /// The entries from a name on, in the order of names.
+    pub fn entries_from(&self, below: DsName) -> Range<'_, DsName, CatEntry>
+        ensures { (name : List ℕ) → entry_among result name ≡ entry_within (Included below) Unbounded self.now name }
+    {
+        from(&self.entries, below)
     }
 
     /// The number of a name in the group of its base, where that is one.

@@ -1,6 +1,7 @@
 pub mod MarkLemmas
 pub mod PlaceLemmas
 pub mod MapLemmas
+pub mod RangeLemmas
 pub mod FreeLemmas
 pub mod LargestLemmas
 pub mod KindLemmas

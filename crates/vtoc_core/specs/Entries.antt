@@ -1,12 +1,16 @@
 -- The table of contents: sets by their keys.
-use Rattle.std.specs.Prelude.{◌≡◌, ℕ, Bool, false, ◌&&◌, ◌==◌, List, [], Option, Some, None}
+use Rattle.std.specs.Prelude.{◌≡◌, ℕ, Bool, false, ◌&&◌, ◌==◌, List, [], Option, Some, None, if◌then◌else◌}
+use Rattle.std.specs.BTreeMap.{is_at}
+use Rattle.std.specs.BTreeMap.Range.{range_contains}
 use Rattle.std.specs.Cmp.Lexicographic.{slice_cmp}
 use Rattle.std.specs.Coded.{Coded}
 use Rattle.std.specs.FinMap.{FinMap, code, from_entries, get, insert}
+use Rattle.std.specs.Map.{lookup}
 use Rattle.std.specs.Ordering.{nat_cmp, ordering_then}
 use Rattle.std.specs.Str.{bytes_eq}
 use Rattle.std.specs.declared.cmp.Ordering.{Ordering}
 use Rattle.std.specs.declared.cmp.Ordering.TheVariants.{Less, Greater}
+use Rattle.std.specs.declared.ops.Bound.{Bound}
 use Rattle.vtoc_core.specs.Codes.{coded_entry, coded_key}
 use Rattle.extent_core.specs.declared.extent.Extent.{Extent}
 use Rattle.vtoc_core.specs.declared.entry.SetEntry.{SetEntry}
@@ -42,6 +46,13 @@ sets_of entries = from_entries entries
 
 abbrev pub coded_sets : Coded Sets
 coded_sets = code coded_key coded_entry
+
+-- the set of a key among some in order, and on a volume where the key lies between two bounds
+abbrev pub set_among : List (SetKey × SetEntry) → SetKey → Option SetEntry
+set_among sets key = lookup (is_at (key_cmp key)) sets
+
+abbrev pub set_within : Bound SetKey → Bound SetKey → Sets → SetKey → Option SetEntry
+set_within low high sets key = if range_contains key_cmp low high key then get sets key else None
 
 -- the set of a key, where there is one, is changed
 abbrev pub changed_by : Option SetEntry → Sets → SetKey → (SetEntry → SetEntry) → Sets

@@ -1,8 +1,11 @@
 //! The table of contents as a map: the set of a key, and what is done to it.
-ghost use Rattle.std.specs.Prelude.{◌≡◌, ◌<◌, ◌≤◌, ◌+◌, ◌++◌, ◌∷◌, [], None, OnOk, OnErr, IfErr, IfNone, is_some, if◌then◌else◌, length, MatchOption};
+ghost use Rattle.std.specs.Prelude.{◌≡◌, ◌<◌, ◌≤◌, ◌+◌, ◌++◌, ◌∷◌, [], None, OnOk, OnErr, IfErr, IfNone, false, is_some, if◌then◌else◌, length, MatchOption};
 ghost use Rattle.std.specs.FinMap as map;
 ghost use Rattle.std.specs.Option.{option_copied};
-ghost use Rattle.vtoc_core.specs.Entries.{LacksRecords, changed, sets_of, with_extents, with_records};
+ghost use Rattle.std.specs.Ordering.{is_gt};
+ghost use Rattle.std.specs.declared.ops.Bound.TheVariants.{Excluded, Included, Unbounded};
+ghost use Rattle.vtoc_core.specs.Entries.{LacksRecords, changed, key_cmp, set_among, set_within, sets_of, with_extents, with_records};
+ghost use Rattle.vtoc_core.specs.declared.entry.SetKey.{SetKey};
 ghost use Rattle.vtoc_core.specs.Extents.{kept_front, past_front};
 ghost use Rattle.vtoc_core.specs.Volumes.{AnswersWrite, LieBelow};
 
@@ -11,6 +14,7 @@ use crate::fault::VolumeFault;
 use arrayvec::ArrayVec;
 use set_core::records::DataRecord;
 use std::collections::BTreeMap;
+use std::collections::btree_map::Range;
 
 pub(crate) type Sets = BTreeMap<SetKey, SetEntry>;
 
@@ -19,6 +23,21 @@ pub(crate) fn find<'a>(sets: &'a Sets, key: &SetKey) -> Option<&'a SetEntry>
     ensures { option_copied result ≡ map.get (sets_of sets.now.entries) key.now }
 {
     sets.get(key)
+}
+
+/// The sets from a key on, up to another.
+pub(crate) fn between(sets: &Sets, below: SetKey, above: SetKey) -> Range<'_, SetKey, SetEntry>
+    requires { is_gt (key_cmp below above) ≡ false }
+    ensures { (key : SetKey) → set_among result key ≡ set_within (Included below) (Excluded above) (sets_of sets.now.entries) key }
+{
+    sets.range(below..above)
+}
+
+/// The sets from a key on.
+pub(crate) fn from(sets: &Sets, below: SetKey) -> Range<'_, SetKey, SetEntry>
+    ensures { (key : SetKey) → set_among result key ≡ set_within (Included below) Unbounded (sets_of sets.now.entries) key }
+{
+    sets.range(below..)
 }
 
 /// Whether there is a set of this key.

@@ -1,12 +1,15 @@
 //! A volume.
-ghost use Rattle.std.specs.Prelude.{◌≡◌, ◌≢◌, ◌≤◌, ◌<◌, ◌↔◌, ◌++◌, ◌∷◌, [], List, Some, None, Err, IsOk, IsErr, IsSome, IfOk, OnOk, OnErr, IfErr, count_by, length, ◌+◌};
+ghost use Rattle.std.specs.Prelude.{◌≡◌, ◌≢◌, ◌≤◌, ◌<◌, ◌↔◌, ◌++◌, ◌∷◌, [], List, Some, None, Err, IsOk, IsErr, IsSome, IfOk, OnOk, OnErr, IfErr, false, count_by, length, ◌+◌};
 ghost use Rattle.std.specs.FinMap as map;
 ghost use Rattle.std.specs.Option.{option_copied};
-ghost use Rattle.vtoc_core.specs.Entries.{LacksRecords, changed, with_extents, with_records};
+ghost use Rattle.std.specs.Ordering.{is_gt};
+ghost use Rattle.std.specs.declared.ops.Bound.TheVariants.{Excluded, Included, Unbounded};
+ghost use Rattle.vtoc_core.specs.Entries.{LacksRecords, changed, key_cmp, set_among, set_within, with_extents, with_records};
 ghost use Rattle.vtoc_core.specs.Extents.{five_largest, free_extents, is_free_track, kept_front, past_front, planned, tracks_in};
 ghost use Rattle.vtoc_core.specs.Volumes.{AnswersGrow, AnswersMake, AnswersWrite, AreOf, IsAside, IsSoundVolume, Moves, count_of, first_tracks, marked, tracks_past};
 ghost use Rattle.extent_core.specs.declared.extent.Extent.{Extent};
 ghost use Rattle.vtoc_core.specs.declared.entry.SetEntry.{SetEntry};
+ghost use Rattle.vtoc_core.specs.declared.entry.SetKey.{SetKey};
 ghost use Rattle.vtoc_core.specs.declared.volume.Track.TheVariants.{Free, Aside, InSet, Unusable};
 
 use crate::contents::{
@@ -18,6 +21,7 @@ use crate::table::TrackTable;
 use set_core::records::{DataRecord, Records};
 use std::alloc::{AllocError, Global};
 use std::collections::BTreeMap;
+use std::collections::btree_map::Range;
 use std::marker::Model;
 
 /// What a track is.
@@ -79,6 +83,21 @@ impl Volume {
         ensures { option_copied result ≡ map.get self.now.sets key.now }
     {
         contents::find(&self.sets, key)
+    }
+
+    /// The sets from a key on, up to another, in the order of keys.
+    pub fn sets_between(&self, below: SetKey, above: SetKey) -> Range<'_, SetKey, SetEntry>
+        requires { is_gt (key_cmp below above) ≡ false }
+        ensures { (key : SetKey) → set_among result key ≡ set_within (Included below) (Excluded above) self.now.sets key }
+    {
+        contents::between(&self.sets, below, above)
+    }
+
+    /// The sets from a key on, in the order of keys.
+    pub fn sets_from(&self, below: SetKey) -> Range<'_, SetKey, SetEntry>
+        ensures { (key : SetKey) → set_among result key ≡ set_within (Included below) Unbounded self.now.sets key }
+    {
+        contents::from(&self.sets, below)
     }
 
     /// How many tracks are free.
