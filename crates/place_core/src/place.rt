@@ -157,7 +157,7 @@ fn place_steps(
 }
 
 /// The serials of the volumes, in their order.
-fn serials_of(alloc: Global, volumes: &[Mounted]) -> Result<Listed<Serial>, AllocError>
+pub fn serials_of(alloc: Global, volumes: &[Mounted]) -> Result<Listed<Serial>, AllocError>
     ensures { IfOk result (λ serials. serials ≡ serials_of volumes.now) }
 {
     let mut serials = Listed::empty(alloc);
