@@ -95,7 +95,7 @@ generations_add name entries all old there has = record {
   whole = λ n h.
       let p = and_parts (bytes_eq name (base_of n)) (has_generation_form n) h in
       let is : is_generation_of name n ≡ true =
-        ap (λ b. b && bytes_eq (base_of n) name) (formed (has_generation_form n) _ p.1) ∙ names_turned (base_of n) name ∙ p.0 in
+      ap (λ b. b && bytes_eq (base_of n) name) (formed (has_generation_form n) _ p.1) ∙ names_turned (base_of n) name ∙ p.0 in
       copies_found name entries n ∙ ap (λ b. cond b (entry_among entries n) None) p.0 ∙ has n is;
 }
 

@@ -171,7 +171,7 @@ generation_there : (name : List ℕ) (sets : List (SetKey × SetEntry)) (all : S
 generation_there name sets all g job (Named n) h here e =
     let p = and_parts (bytes_eq name (base_of n)) (has_generation_form n) h in
     let is : is_generation_of name n ≡ true =
-      ap (λ b. b && bytes_eq (base_of n) name) (formed (has_generation_form n) _ p.1) ∙ names_turned (base_of n) name ∙ p.0 in
+    ap (λ b. b && bytes_eq (base_of n) name) (formed (has_generation_form n) _ p.1) ∙ names_turned (base_of n) name ∙ p.0 in
     let at : world.Named n ≡ here = cc in
     subst (λ (k : SetKey). set_among sets k ≡ get all k) at (g n is)
 generation_there name sets all g job (Relative base sign amount) h here e = absurd cc

@@ -106,8 +106,8 @@ pub(crate) fn entries_seen(
     catalog: &Catalog,
     names: &[HeldName],
 ) -> Result<Listed<SoloEntry>, AllocError>
-    ensures copied { IfOk result (λ entries. (name : List ℕ) → IfSome (entry_in entries name) (λ e. map.get catalog.now name ≡ Some e)) }
-    ensures seen { IfOk result (λ entries. (name : List ℕ) → seen_entry names.now name (map.get catalog.now name) ≡ seen_entry names.now name (entry_in entries name)) }
+    ensures copied { IfOk result (λ all. (n : List ℕ) → IfSome (entry_in all n) (λ e. map.get catalog.now n ≡ Some e)) }
+    ensures seen { IfOk result (λ all. (n : List ℕ) → seen_entry names.now n (map.get catalog.now n) ≡ seen_entry names.now n (entry_in all n)) }
 {
     let mut entries = Listed::empty(alloc);
     copy_all_held(&mut entries, catalog, names)?;

@@ -9,7 +9,7 @@ use Rattle.part_core.proofs.sets.copy_named.Goals as goal
 pub returns-in_ok-push : goal.returns-in_ok-push
 returns-in_ok-push c =
     let at : map.get c.args.mounted.now.volume.sets (Named c.args.name.now) ≡ Some c.in-Some.entry.now =
-      ap (λ (v : VolumeState). map.get v.sets (Named c.args.name.now)) (sym c.volume.ensures) ∙ sym c.find.ensures ∙ ap option_copied c.in-Some.is in
+    ap (λ (v : VolumeState). map.get v.sets (Named c.args.name.now)) (sym c.volume.ensures) ∙ sym c.find.ensures ∙ ap option_copied c.in-Some.is in
     let copied = ap (copies_of_named c.args.mounted.now.serial c.args.name.now) at in
     let pushed = c.in_ok-push.ensures.ok in
     cc
@@ -17,7 +17,7 @@ returns-in_ok-push c =
 pub returns-in_default : goal.returns-in_default
 returns-in_default c =
     let at : map.get c.args.mounted.now.volume.sets (Named c.args.name.now) ≡ None =
-      ap (λ (v : VolumeState). map.get v.sets (Named c.args.name.now)) (sym c.volume.ensures) ∙ sym c.find.ensures ∙ ap option_copied c.in_default.is in
+    ap (λ (v : VolumeState). map.get v.sets (Named c.args.name.now)) (sym c.volume.ensures) ∙ sym c.find.ensures ∙ ap option_copied c.in_default.is in
     let copied = ap (copies_of_named c.args.mounted.now.serial c.args.name.now) at in
     let none = append-nil c.args.sets.now in
     cc
