@@ -2,14 +2,13 @@
 use Rattle.std.proofs.Common.{◌≡◌, ◌⊎◌, inl, inr, ℕ, Bool, true, false, cond, ◌&&◌, ◌||◌, List, [], ◌∷◌, ◌++◌, Option, Some, None, IfSome, refl, ap, subst, sym, ◌∙◌}
 use Rattle.std.specs.BTreeMap.Range.{range_contains}
 use Rattle.std.specs.FinMap.{get}
-use Rattle.std.specs.List.{cons_option, list_any}
+use Rattle.std.specs.List.{cons_option}
 use Rattle.std.specs.Option.{option_or}
-use Rattle.std.specs.Prelude.{is_some}
 use Rattle.std.specs.Str.{bytes_eq}
 use Rattle.std.specs.declared.ops.Bound.TheVariants.{Excluded, Included, Unbounded}
 use Rattle.std.proofs.lemmas.Bool.{and_parts, cond-false}
 use Rattle.std.proofs.lemmas.Map.Text.{is_eq-slice_cmp}
-use Rattle.jname_core.specs.Generations.{base_of, generation_of, has_generation_form}
+use Rattle.jname_core.specs.Generations.{base_of, has_generation_form}
 use Rattle.group_core.specs.declared.entry.CatEntry.{CatEntry}
 use Rattle.group_core.specs.declared.entry.CatEntry.TheVariants.{Volume, Group}
 use Rattle.cat_core.specs.Bounds.{above_generations, below_generations}
@@ -21,7 +20,7 @@ use Rattle.jcl_meaning.specs.Parts.{is_among, seen_entry, some_group}
 use Rattle.jcl_meaning.specs.Stores.{entry_in}
 use Rattle.part_core.specs.Copies.{AddsEntries, copies_of_entries, copies_of_entry, is_of_name, is_of_some}
 use Rattle.part_core.proofs.Adding.{join}
-use Rattle.part_core.proofs.Copied.{name_itself, names_same, names_turned, or_by}
+use Rattle.part_core.proofs.Copied.{names_same, names_turned, or_by}
 use Rattle.part_core.proofs.Held.{as_it_stands, formed}
 
 -- one list behind another

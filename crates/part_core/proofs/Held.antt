@@ -1,16 +1,15 @@
 -- The copies of the sets under a name, and of the job's own.
-use Rattle.std.proofs.Common.{◌≡◌, ◌⊎◌, inl, inr, ℕ, Bool, true, false, cond, ◌&&◌, List, [], ◌∷◌, ◌++◌, Option, Some, None, IfSome, refl, ap, subst, sym, ◌∙◌}
+use Rattle.std.proofs.Common.{◌≡◌, ◌⊎◌, inl, inr, ℕ, Bool, true, false, cond, ◌&&◌, List, ◌++◌, Option, Some, None, IfSome, refl, ap, subst, sym, ◌∙◌}
 use Rattle.std.specs.FinMap.{get}
 use Rattle.std.specs.Option.{option_map}
 use Rattle.std.specs.Str.{bytes_eq}
-use Rattle.std.specs.declared.ops.Bound.{Bound}
 use Rattle.std.specs.declared.ops.Bound.TheVariants.{Excluded, Included, Unbounded}
 use Rattle.std.specs.BTreeMap.Range.{range_contains}
 use Rattle.std.specs.Prelude.{is_some}
 use Rattle.std.proofs.lemmas.Bool.{and_parts, cond-false}
 use Rattle.jname_core.specs.declared.key.Key.{Key}
 use Rattle.jname_core.specs.declared.key.Key.TheVariants.{Named, Relative, Temporary, Unnamed}
-use Rattle.jname_core.specs.Generations.{base_of, before_suffix, generation_of, has_generation_form, suffix_number}
+use Rattle.jname_core.specs.Generations.{base_of, has_generation_form}
 use Rattle.cat_core.specs.Bounds.{above_generations, below_generations}
 use Rattle.cat_core.specs.Catalogs.{is_generation_of, name_cmp}
 use Rattle.cat_core.proofs.Bounds.{behind_base, in_range}
@@ -28,7 +27,7 @@ use Rattle.world_meaning.specs.Lenses.{world_key}
 use Rattle.mount_core.specs.Mounts.{MountedState}
 use Rattle.part_core.specs.Copies.{AddsSets, IsNamed, Spot, bare, bare_on, bare_under, copies_of_named, copies_of_sets, is_under, is_under_some, set_at}
 use Rattle.part_core.proofs.Adding.{join}
-use Rattle.part_core.proofs.Copied.{among, copies_found, name_itself, names_same, names_turned, sets_behind}
+use Rattle.part_core.proofs.Copied.{among, copies_found, names_same, names_turned, sets_behind}
 
 -- what is found between two bounds stands on the volume
 pub as_it_stands : {Y : Type 0} (o p : Option Y) → p ≡ o → IfSome o (λ y. p ≡ Some y)

@@ -1,5 +1,5 @@
 -- The copies of the sets on all volumes.
-use Rattle.std.proofs.Common.{◌≡◌, ℕ, Bool, true, false, cond, ◌&&◌, ◌||◌, List, [], ◌∷◌, ◌++◌, Option, Some, None, IfSome, refl, ap, subst, sym, ◌∙◌, append-nil}
+use Rattle.std.proofs.Common.{◌≡◌, ℕ, Bool, true, false, cond, ◌&&◌, ◌||◌, List, [], ◌∷◌, Option, Some, None, IfSome, refl, ap, subst, sym, ◌∙◌, append-nil}
 use Rattle.std.specs.List.{find, list_any}
 use Rattle.std.specs.Str.{bytes_eq}
 use Rattle.std.proofs.lemmas.Bool.{and_parts}
@@ -14,7 +14,7 @@ use Rattle.mount_core.specs.Mounts.{MountedState}
 use Rattle.shared_core.specs.Shown.{mounted_in}
 use Rattle.shared_core.specs.Writes.{is_mounted}
 use Rattle.part_core.specs.Copies.{AddsSets, Spot, bare_at, bare_on, bare_under, is_seen_on, set_at}
-use Rattle.part_core.proofs.Copied.{name_itself, names_same}
+use Rattle.part_core.proofs.Copied.{names_same}
 
 none_under : (here : Option SetKey) → bare_under here None ≡ None
 none_under None = refl

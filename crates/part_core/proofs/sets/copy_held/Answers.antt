@@ -1,8 +1,6 @@
-use Rattle.std.proofs.Common.{◌≡◌, List, ◌++◌, ap, subst, sym, ◌∙◌}
+use Rattle.std.proofs.Common.{subst}
 use Rattle.std.proofs.lemmas.Result.{IfOk-weaker}
 use Rattle.vtoc_core.specs.Volumes.{VolumeState}
-use Rattle.jcl_meaning.specs.declared.store.SoloSet.{SoloSet}
-use Rattle.part_core.specs.Copies.{AddsSets, bare_on, copies_of_sets, is_under}
 use Rattle.part_core.proofs.Held.{AreThere, HasGenerations, held_add}
 use Rattle.part_core.proofs.sets.copy_held.Goals as goal
 

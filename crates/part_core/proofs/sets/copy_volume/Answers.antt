@@ -1,9 +1,8 @@
 use Rattle.std.proofs.lemmas.Result.{IfOk-weaker}
-use Rattle.jname_core.specs.declared.key.Key.{Key}
 use Rattle.jcl_meaning.specs.Names.{held_under}
 use Rattle.jcl_meaning.specs.Parts.{sees_key}
 use Rattle.std.proofs.Common.{None}
-use Rattle.part_core.specs.Copies.{Spot, bare_on, is_under, is_under_some, set_at}
+use Rattle.part_core.specs.Copies.{bare_on, is_under, is_under_some, set_at}
 use Rattle.part_core.proofs.Adding.{join}
 use Rattle.part_core.proofs.Copied.{sets_behind}
 use Rattle.part_core.proofs.Held.{own_or_held}
