@@ -11,6 +11,7 @@ use Rattle.jcl_meaning.specs.Stores.{Store}
 use Rattle.world_meaning.specs.Admissions.{Admits, admitted, names_a_set}
 use Rattle.world_meaning.specs.Lenses.{seen}
 use Rattle.world_meaning.specs.Placements.{ArePlaces}
+use Rattle.world_meaning.specs.Tracks.{kept_of}
 use Rattle.world_meaning.specs.Worlds.{Config, Running, Shared}
 use Rattle.admission_core.specs.declared.admission.Admission.{Admission}
 use Rattle.jcl_meaning.specs.Solo.{fixed_with}
@@ -26,12 +27,13 @@ IsAnswer plan programs told = told ≡ answer_for (names_a_set plan) plan progra
 abbrev pub fixed_for : List (List ℕ) → JobPlan → Admission → Fixed
 fixed_for volumes plan a = fixed_with volumes plan a.places a.meanings a.date
 
--- the machine in which a job is admitted: it sees this store, on this date, with these programs
+-- the machine in which a job is admitted: it sees this store, on this date, with these programs, and nothing is kept for it yet
 pub record IsAtHand (seen_by_job : Store) (job date : ℕ) (programs : List SoloProgram) (c : Config) (old : Shared) (r : Running) : Type 0 where
   pub of_job : r.job ≡ job
   pub its_store : seen job old.store ≡ seen_by_job
   pub its_date : old.date ≡ date
   pub its_programs : c.programs ≡ programs
+  pub none_kept : (serial : List ℕ) → kept_of job old.kept serial ≡ []
 
 -- The line is a case of the machine's table, whatever else the machine has, where the places are those of the plan.
 pub record IsAdmitted (seen_by_job : Store) (job : ℕ) (plan : JobPlan) (programs : List SoloProgram) (places : List Place) (date : ℕ)

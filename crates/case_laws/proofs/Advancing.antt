@@ -42,7 +42,7 @@ module _ (c : Config) (old : Shared) (r : Running) (plan : JobPlan) (a : Admissi
       subst (Gains a.fixed x.action x.before) (sym t.does)
       (act_gains a.fixed x.action x.before)
 
-  has_tracks : (x : Advanced) → DoesNext x → (p : Place) → MakesSet a.fixed x.action x.before x.done → x.done.made ≡ p ∷ [] → HasTracks old.kept plan r.job p
+  has_tracks : (x : Advanced) → DoesNext x → (p : Place) → MakesSet a.fixed x.action x.before x.done → x.done.made ≡ p ∷ [] → HasTracks (old.kept p.serial) plan r.job p
   has_tracks x t p m made =
       let is : a.assured ≡ true = sym (ap (λ (b : Answers). b.primary) t.answered) ∙ m.granted in
       covered is p (t.makes (λ b o. are_fair c.programs plan.steps (granting old r.job false a.assured) b o formed is) p
@@ -53,7 +53,7 @@ module _ (c : Config) (old : Shared) (r : Running) (plan : JobPlan) (a : Admissi
       All-contains (IsKnown plan.steps) (drop count (agenda plan c.programs)) x.action
       (All-drop (IsKnown plan.steps) count (agenda plan c.programs) (all_known plan c.programs)) t.among
 
-  spends : (x : Advanced) → DoesNext x → (kept : List Kept) → ((v : List ℕ) → kept_on kept v ≤ kept_on (kept_unless_made old.kept r.job x.done.made) v) →
+  spends : (x : Advanced) → DoesNext x → (kept : List ℕ → List Kept) → ((v : List ℕ) → kept_on kept v ≤ kept_on (kept_unless_made old.kept r.job x.done.made) v) →
       Spent old (put_back r.job old.store x.done.state.store) kept
   spends x t kept few =
       spent old r.job plan a.fixed x.action x.before x.done t.before (ap (λ (b : Answers). head_or true b.grants) t.answered) (known x t) (has_tracks x t)
@@ -62,7 +62,7 @@ module _ (c : Config) (old : Shared) (r : Running) (plan : JobPlan) (a : Admissi
   by_end : (x : Advanced) → advanced c old r.job plan a count own false a.assured ≡ Some x → DoesNext x → must_wait old.operations r.job x ≡ false →
       (is_over c plan x ≡ true) ⊎ (is_over c plan x ≡ false) → WentOn c old r (Admitted plan a count own)
   by_end x e t goes (inr on) =
-      let kept : List Kept = kept_unless_made old.kept r.job x.done.made in
+      let kept : List ℕ → List Kept = kept_unless_made old.kept r.job x.done.made in
       let s : Spent old (put_back r.job old.store x.done.state.store) kept = spends x t kept (λ v. omega arith) in (
         _,
         _,
@@ -71,9 +71,9 @@ module _ (c : Config) (old : Shared) (r : Running) (plan : JobPlan) (a : Admissi
             (spent_conserves old _ s refl) refl,
       )
   by_end x e t goes (inl over) =
-      let kept : List Kept = kept_without (kept_unless_made old.kept r.job x.done.made) r.job in
+      let kept : List ℕ → List Kept = kept_without (kept_unless_made old.kept r.job x.done.made) r.job in
       let s : Spent old (put_back r.job old.store x.done.state.store) kept = spends x t kept
-      (λ v. sum_filter _ _ (kept_unless_made old.kept r.job x.done.made)) in (
+      (λ v. sum_filter _ _ (kept_unless_made old.kept r.job x.done.made v)) in (
         _,
         _,
         _,

@@ -1,5 +1,5 @@
 -- A case for every event.
-use Rattle.std.proofs.Common.{◌≡◌, ◌≤◌, ◌<◌, ◌⊎◌, inl, inr, ℕ, [], ◌∷◌, Option, Some, None, All, refl}
+use Rattle.std.proofs.Common.{◌≡◌, ◌≤◌, ◌<◌, ◌⊎◌, inl, inr, ℕ, false, List, [], ◌∷◌, Option, Some, None, All, refl}
 use Rattle.std.proofs.lemmas.Bool.{cases_lt}
 use Rattle.jcl_plan.specs.declared.entry.Entry.TheVariants as entry
 use Rattle.jcl_plan.specs.declared.fault.Cause.TheVariants.{A}
@@ -9,22 +9,28 @@ use Rattle.world_meaning.specs.declared.event.Event.{Event}
 use Rattle.world_meaning.specs.declared.event.Event.TheVariants as event
 use Rattle.world_meaning.specs.Readings.{Denoting}
 use Rattle.world_meaning.specs.Selections.{HasNone, IsSelected, Selects, nothing, selected}
+use Rattle.world_meaning.specs.Tracks.{kept_of}
 use Rattle.world_meaning.specs.Transitions.{Acts, Does, Happens, Turns, acts, past, shown, taken, unknown}
 use Rattle.world_meaning.specs.Worlds.{Admitted, HasNoInitiator, Initiator, IsAt, Named, Running, Selected, Stage, Waiting, Wanting, World, counted}
-use Rattle.run_laws.specs.Soundness.{IsSound}
-use Rattle.case_laws.specs.Cases.{CanBeWritten, CanGoOn, HasCase, HasWholeQueue, IsSupplied}
+use Rattle.run_laws.specs.Soundness.{IsSound, RunsAt}
+use Rattle.case_laws.specs.Cases.{CanBeWritten, CanGoOn, HasCase, HasWholeQueue, IsSupplied, is_assured_at}
 use Rattle.case_laws.proofs.Advancing.{advances}
 use Rattle.case_laws.proofs.Events.{Done, cancels, ends_device, reads, sets_date, writes, zaps}
 use Rattle.case_laws.proofs.Finding.{Found, initiator_of}
+use Rattle.case_laws.proofs.KeptAlone.{none_before}
 use Rattle.case_laws.proofs.Queues.{selected_or_none}
 use Rattle.case_laws.proofs.Turning.{WentOn, admits, holds, reads_records}
 
 module _ (w : World) (s : IsSound w) (supplied : IsSupplied w) (queue : HasWholeQueue w) where
-  goes_on : (r : Running) (stage : Stage) → CanGoOn w.config w.shared r.job stage → WentOn w.config w.shared r stage
-  goes_on r (Selected first) can = reads_records w.config w.shared r first queue.fields queue.records
-  goes_on r (Wanting plan) can = holds w.config w.shared r plan
-  goes_on r (Named plan) can = admits w.config w.shared r plan
-  goes_on r (Admitted plan a count own) can = advances w.config w.shared r plan a count own s.programs can.0 can.1
+  abbrev HasNothingKept : ℕ → Type 0
+  HasNothingKept job = (serial : List ℕ) → kept_of job w.shared.kept serial ≡ []
+
+  goes_on : (r : Running) (stage : Stage) → CanGoOn w.config w.shared r.job stage → (is_assured_at stage ≡ false → HasNothingKept r.job) →
+      WentOn w.config w.shared r stage
+  goes_on r (Selected first) can none = reads_records w.config w.shared r first queue.fields queue.records
+  goes_on r (Wanting plan) can none = holds w.config w.shared r plan
+  goes_on r (Named plan) can none = admits w.config w.shared r plan (none refl)
+  goes_on r (Admitted plan a count own) can none = advances w.config w.shared r plan a count own s.programs can.0 can.1
 
   by_queue : (place : ℕ) (x : Initiator) → (All (HasNone w.waiting) x.classes) ⊎ ((v : Waiting) × IsSelected w.waiting x.classes v) →
       Done (Selects (counted w) place x)
@@ -34,7 +40,8 @@ module _ (w : World) (s : IsSound w) (supplied : IsSupplied w) (queue : HasWhole
   by_running : (place : ℕ) (x : Initiator) (o : Option Running) → IsAt w place x → x.running ≡ o → Done (Acts (counted w) place x o)
   by_running place x None at e = by_queue place x (selected_or_none w.waiting x.classes)
   by_running place x (Some r) at e =
-      let went : WentOn w.config w.shared r r.stage = goes_on r r.stage (supplied.running place r (record { it = x; at = at; running = e })) in
+      let run : RunsAt w place r = record { it = x; at = at; running = e } in
+      let went : WentOn w.config w.shared r r.stage = goes_on r r.stage (supplied.running place r run) (none_before w s supplied.kept place r run) in
       (_, _, record { job_lines = went.0; shared = went.1; runs = went.2; goes = went.3; told = refl; leaves = refl })
 
   by_initiator : (number : ℕ) → HasNoInitiator w number ⊎ Found (λ x. x.number ≡ number) w.initiators → Done (Turns (counted w) number)

@@ -16,5 +16,5 @@ released_conserves c s job serial = record {
   touched = [];
   once = refl;
   others = λ k out. refl;
-  sum = whole_again (s.free serial) (kept_on s.kept serial) (kept_on (kept_without s.kept job) serial) (sum_filter _ _ s.kept);
+  sum = whole_again (s.free serial) (kept_on s.kept serial) (kept_on (kept_without s.kept job) serial) (sum_filter _ _ (s.kept serial));
 }

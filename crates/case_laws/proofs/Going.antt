@@ -78,7 +78,7 @@ module _ (c : Config) (old : Shared) (r : Running) (programs : AreWellFormedProg
         x.done.state.store x.done.state.own p
         (part_back (names_of plan) x.done.state.store (seen r.job (put_back r.job old.store x.done.state.store))
         (own_part r.job (names_of plan) old.store x.done.state.store)) (behind c old r plan a count own fits x growth primary e).fits seen_now in
-        subst (λ (kept : List Kept). HasTracks kept plan r.job p) (sym keeps)
+        subst (λ (kept : List ℕ → List Kept). HasTracks (kept p.serial) plan r.job p) (sym keeps)
         (has_unless_made plan r.job p old.kept x.done.made
         (λ q h same_step same_dd. not_again a.fixed (agenda plan c.programs) (drop count (agenda plan c.programs)) (state_in (seen r.job old.store) own) x l
         x.done.state.store x.done.state.own p q made_then h same_step same_dd)
@@ -112,11 +112,11 @@ module _ (c : Config) (old : Shared) (r : Running) (programs : AreWellFormedProg
 
   answered_goes_on : (plan : JobPlan) (fixed : Fixed) (lines : List JobLine) (new : Shared) (runs : Option Running) →
       Answered c old r plan fixed lines new runs → RunsOn c new runs
-  answered_goes_on plan fixed lines new runs (assured kept free safe are t n conserved on) =
+  answered_goes_on plan fixed lines new runs (assured places kept free safe are_made are others t n conserved on) =
       subst (RunsOn c new) (sym on) (
         some_action c plan,
         λ is_assured. subst (λ (s : Shared). IsCovered c s r.job plan (record { fixed = fixed; assured = true }) 0 nothing_own) (sym n)
-            (covers c old r.job plan fixed kept free safe are),
+            (covers c old r.job plan fixed places kept free safe are_made are),
       )
   answered_goes_on plan fixed lines new runs (no_space serial there t n on) = subst (RunsOn c new) (sym on) tt
   answered_goes_on plan fixed lines new runs (risk fault step dd path meets m) = may_fail_goes_on plan fixed _ lines new runs m

@@ -13,11 +13,12 @@ mod Events
 mod Gained
 mod Gaining
 mod Turned
-mod Known
-mod Fairness
+pub mod Known
+pub mod Fairness
 mod TouchedKeys
 mod Sights
 mod Keeping
+pub mod KeptAlone
 mod Spending
 mod Advancing
 mod Cases

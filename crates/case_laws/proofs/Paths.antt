@@ -1,6 +1,6 @@
 -- What a job may make, whatever its answers, it makes on some path.
-use Rattle.std.proofs.Common.{◌≡◌, ◌+◌, ◌++◌, ◌⊎◌, inl, inr, arith, ℕ, Bool, true, false, cond, List, [], ◌∷◌, All, append_assoc, refl, sym, ap, ◌∙◌, subst, le-leb}
-use Rattle.std.specs.Prelude.{nat_le}
+use Rattle.std.proofs.Common.{◌≡◌, ◌+◌, ◌++◌, ◌⊎◌, inl, inr, ℕ, Bool, true, false, cond, List, [], ◌∷◌, All, append_assoc, refl, sym, ap, ◌∙◌, subst, eq-eqb}
+use Rattle.std.specs.Prelude.{◌==◌, filter}
 use Rattle.std.specs.List.{list_any}
 use Rattle.std.proofs.lemmas.Bool.{and_from, or_cases, or_left, or_right}
 use Rattle.std.proofs.lemmas.List.Elements.{All-append, All-cons, All-head, All-nil, All-tail}
@@ -22,16 +22,17 @@ use Rattle.cb_meaning.specs.Writable.{kind_at}
 use Rattle.path_laws.proofs.Alike.{Same}
 use Rattle.path_laws.proofs.Cleanly.{Clean, after, clean_split, run_is_clean}
 use Rattle.path_laws.proofs.Shapes.{shaped_same}
-use Rattle.world_meaning.specs.Admissions.{AreKept, IsFounded, primary_asked}
+use Rattle.world_meaning.specs.Admissions.{AreKept, IsKeptAt, primary_asked}
 use Rattle.world_meaning.specs.Lenses.{seen}
 use Rattle.world_meaning.specs.Tracks.{is_kept_for}
 use Rattle.world_meaning.specs.Worlds.{Config, Kept, Shared}
-use Rattle.case_laws.specs.Cases.{HasTracks, IsCovered, MayMake, is_ample}
+use Rattle.case_laws.specs.Cases.{HasTracks, IsCovered, MayMake, is_asked}
 use Rattle.case_laws.proofs.FreeSteps.{StepOut, step_made, step_out, step_passed}
 use Rattle.case_laws.proofs.Making.{may_take}
-use Rattle.case_laws.proofs.StillKept.{IsOf, has_among, is_of}
+use Rattle.case_laws.proofs.StillKept.{IsOf, is_of}
 use Rattle.case_laws.proofs.TakesMade.{MakesIn, makes_first, makes_later, makes_run}
 use Rattle.path_meaning.specs.Paths.{IsSafe, Makes}
+use Rattle.path_meaning.specs.Verdicts.{AreMade}
 
 -- behind the steps nothing is taken
 abbrev IsNoTake : Action → Type 0
@@ -155,31 +156,43 @@ makes fixed plan programs store p safe m =
         }
 
 -- tracks that are kept for it are as many as are asked
-founded_ample : (fixed : Fixed) (plan : JobPlan) (store : Store) (job : ℕ) (p : Place) (kept : List Kept) → All (IsFounded fixed plan store job) kept →
-    list_any (is_kept_for job p) kept ≡ true → HasTracks kept plan job p
-founded_ample fixed plan store job p [] all e = absurd cc
-founded_ample fixed plan store job p (k ∷ kept) all e =
-    by_place (or_cases (is_kept_for job p k) (list_any (is_kept_for job p) kept) e)
-    (founded_ample fixed plan store job p kept (All-tail (IsFounded fixed plan store job) k kept all))
-  where
-    enough : is_kept_for job p k ≡ true → IsFounded fixed plan store job k → is_ample plan job p k ≡ true
-    enough is f =
-        let of : IsOf job p k = is_of job p k is in
-        let asked : primary_asked (kind_at plan.steps p.step p.dd) ≡ k.tracks =
-        (λ i. primary_asked (kind_at plan.steps (sym of.step i) (sym of.dd i))) ∙ sym f.tracks in
-        and_from (is_kept_for job p k) (nat_le (primary_asked (kind_at plan.steps p.step p.dd)) k.tracks) is
-        (le-leb (primary_asked (kind_at plan.steps p.step p.dd)) k.tracks (omega (arith, asked)))
+module _ (plan : JobPlan) (job : ℕ) (places : List Place) (p : Place) where
+  abbrev asked : ℕ
+  asked = primary_asked (kind_at plan.steps p.step p.dd)
 
-    by_place : (is_kept_for job p k ≡ true) ⊎ (list_any (is_kept_for job p) kept ≡ true) →
-        (list_any (is_kept_for job p) kept ≡ true → HasTracks kept plan job p) →
-        HasTracks (k ∷ kept) plan job p
-    by_place (inl here) more =
-        or_left (is_ample plan job p k) (list_any (is_ample plan job p) kept) (enough here (All-head (IsFounded fixed plan store job) k kept all))
-    by_place (inr there) more = or_right (is_ample plan job p k) (list_any (is_ample plan job p) kept) (more there)
+  as_asked : (k : Kept) → is_kept_for job p p.serial k ≡ true → IsKeptAt plan places p.serial k → is_asked plan job p k ≡ true
+  as_asked k is f =
+      let of : IsOf job p k = is_of job p p.serial k is in
+      let many : k.tracks ≡ asked = f.tracks ∙ (λ i. primary_asked (kind_at plan.steps (of.step i) (of.dd i))) in
+      and_from (is_kept_for job p p.serial k) (k.tracks == asked) is (eq-eqb k.tracks asked many)
 
-pub covers : (c : Config) (old : Shared) (job : ℕ) (plan : JobPlan) (fixed : Fixed) (kept : List Kept) (free : List ℕ → ℕ) →
-    IsSafe fixed plan (seen job old.store) → AreKept fixed plan (seen job old.store) job kept →
-    IsCovered c (record old { kept = old.kept ++ kept; free = free }) job plan (record { fixed = fixed; assured = true }) 0 nothing_own
-covers c old job plan fixed kept free safe are p m =
-    has_among plan job p old.kept kept
-    (founded_ample fixed plan (seen job old.store) job p kept are.founded (are.all p (makes fixed plan c.programs (seen job old.store) p safe m)))
+  founded_asked : (kept : List Kept) → All (IsKeptAt plan places p.serial) (filter (λ k. k.job == job) kept) →
+      list_any (is_kept_for job p p.serial) kept ≡ true → HasTracks kept plan job p
+  founded_asked [] all e = absurd cc
+  founded_asked (k ∷ kept) all e =
+      by_place (or_cases (is_kept_for job p p.serial k) (list_any (is_kept_for job p p.serial) kept) e) (founded_asked kept)
+    where
+      behind : (b : Bool) → All (IsKeptAt plan places p.serial) (cond b (k ∷ filter (λ x. x.job == job) kept) (filter (λ x. x.job == job) kept)) →
+          All (IsKeptAt plan places p.serial) (filter (λ x. x.job == job) kept)
+      behind true f = All-tail (IsKeptAt plan places p.serial) k (filter (λ x. x.job == job) kept) f
+      behind false f = f
+
+      of_this : (b : Bool) → b ≡ true → All (IsKeptAt plan places p.serial) (cond b (k ∷ filter (λ x. x.job == job) kept) (filter (λ x. x.job == job) kept)) →
+          IsKeptAt plan places p.serial k
+      of_this true h f = All-head (IsKeptAt plan places p.serial) k (filter (λ x. x.job == job) kept) f
+      of_this false h f = absurd cc
+
+      by_place : (is_kept_for job p p.serial k ≡ true) ⊎ (list_any (is_kept_for job p p.serial) kept ≡ true) →
+          (All (IsKeptAt plan places p.serial) (filter (λ x. x.job == job) kept) → list_any (is_kept_for job p p.serial) kept ≡ true → HasTracks kept plan job p) →
+          HasTracks (k ∷ kept) plan job p
+      by_place (inl here) more =
+          or_left (is_asked plan job p k) (list_any (is_asked plan job p) kept)
+          (as_asked k here (of_this (k.job == job) (is_of job p p.serial k here).job_is all))
+      by_place (inr there) more = or_right (is_asked plan job p k) (list_any (is_asked plan job p) kept) (more (behind (k.job == job) all) there)
+
+pub covers : (c : Config) (old : Shared) (job : ℕ) (plan : JobPlan) (fixed : Fixed) (places : List Place) (kept : List ℕ → List Kept) (free : List ℕ → ℕ) →
+    IsSafe fixed plan (seen job old.store) → AreMade fixed plan (seen job old.store) places → AreKept plan job places kept →
+    IsCovered c (record old { kept = kept; free = free }) job plan (record { fixed = fixed; assured = true }) 0 nothing_own
+covers c old job plan fixed places kept free safe are_made are p m =
+    founded_asked plan job places p (kept p.serial) (are.founded p.serial)
+    (are.all p (are_made.all p (makes fixed plan c.programs (seen job old.store) p safe m)))

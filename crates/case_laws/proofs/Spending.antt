@@ -32,14 +32,14 @@ use Rattle.plain.specs.Lists.{all_different}
 use Rattle.vtoc_core.specs.Entries.{same_key as same_set_key}
 
 -- On no volume are more tracks kept and in sets than before, and of the sets these alone changed.
-pub record Spent (old : Shared) (store : WorldStore) (kept : List Kept) : Type 0 where
+pub record Spent (old : Shared) (store : WorldStore) (kept : List ℕ → List Kept) : Type 0 where
   pub touched : List SetKey
   pub once : all_different same_set_key touched ≡ true
   pub others : (k : SetKey) (v : List ℕ) → is_touched touched k ≡ false → store.set k v ≡ old.store.set k v
   pub fits : (v : List ℕ) → kept_on kept v + used_by store v touched ≤ kept_on old.kept v + used_by old.store v touched
 
 -- the others are free
-abbrev pub free_left : (old : Shared) (store : WorldStore) (kept : List Kept) → List SetKey → List ℕ → ℕ
+abbrev pub free_left : (old : Shared) (store : WorldStore) (kept : List ℕ → List Kept) → List SetKey → List ℕ → ℕ
 free_left old store kept touched v = (old.free v + (kept_on old.kept v + used_by old.store v touched)) - (kept_on kept v + used_by store v touched)
 
 all_there : (whole free part : ℕ) → part ≤ whole → ((free + whole) - part) + part ≡ free + whole
@@ -62,7 +62,7 @@ as_many a left n b c d e f g = omega (arith, e, f, g)
 
 module _ (old : Shared) (job : ℕ) where
   -- nothing is made
-  still : (t : Store) (made : List Place) (kept : List Kept) → GainsNone (seen job old.store) t →
+  still : (t : Store) (made : List Place) (kept : List ℕ → List Kept) → GainsNone (seen job old.store) t →
       ((v : List ℕ) → kept_on kept v ≤ kept_on (kept_unless_made old.kept job made) v) → Spent old (put_back job old.store t) kept
   still t made kept g few = record {
     touched = touched_by job g.touched;
@@ -70,7 +70,7 @@ module _ (old : Shared) (job : ℕ) where
     others = λ k v out. put_others job old.store t g.touched g.others k v out;
     fits = λ v. no_more (kept_on kept v) (used_by (put_back job old.store t) v (touched_by job g.touched)) (kept_on old.kept v)
         (used_by old.store v (touched_by job g.touched)) (along (kept_on kept v) (kept_on (kept_unless_made old.kept job made) v) (kept_on old.kept v)
-        (few v) (sum_filter _ _ old.kept))
+        (few v) (sum_filter _ _ (old.kept v)))
         (sum_gains (λ k. tracks_of (written_set job old.store t k v)) (λ k. tracks_of (old.store.set k v)) None 0 (touched_by job g.touched)
         (touched_once job g.touched)
         (put_gains job old.store t None 0 v (λ j k is. as_before (tracks_of (t.set j v)) (tracks_of (seen_set job old.store j v)) (g.less j v))));
@@ -92,8 +92,8 @@ module _ (old : Shared) (job : ℕ) where
         let p : (same_key j key ≡ false) × (list_any (same_key j) g.touched ≡ false) = or_parts (same_key j key) (list_any (same_key j) g.touched) out in
         ap (λ (x : Bool). cond (x && bytes_eq v serial) (Some new) (b.set j v)) p.0 ∙ g.others j v p.1
 
-    makes : (plan : JobPlan) (p : Place) (kept : List Kept) → p.serial ≡ serial → primary_asked (kind_at plan.steps p.step p.dd) ≡ new.tracks →
-        HasTracks old.kept plan job p → ((v : List ℕ) → kept_on kept v ≤ kept_on (kept_unless_made old.kept job (p ∷ [])) v) →
+    makes : (plan : JobPlan) (p : Place) (kept : List ℕ → List Kept) → p.serial ≡ serial → primary_asked (kind_at plan.steps p.step p.dd) ≡ new.tracks →
+        HasTracks (old.kept p.serial) plan job p → ((v : List ℕ) → kept_on kept v ≤ kept_on (kept_unless_made old.kept job (p ∷ [])) v) →
         Spent old (put_back job old.store t) kept
     makes plan p kept there asked has few = record {
       touched = touched_by job (key ∷ g.touched);
@@ -114,7 +114,7 @@ module _ (old : Shared) (job : ℕ) where
 
   module _ (plan : JobPlan) (fixed : Fixed) (a : Action) (s : State) (d : Done) (g : GainsNone (seen job old.store) s.store)
       (refused : head_or true s.answers.grants ≡ false) (known : IsKnown plan.steps a)
-      (has : (p : Place) → (m : MakesSet fixed a s d) → d.made ≡ p ∷ [] → HasTracks old.kept plan job p) (kept : List Kept)
+      (has : (p : Place) → (m : MakesSet fixed a s d) → d.made ≡ p ∷ [] → HasTracks (old.kept p.serial) plan job p) (kept : List ℕ → List Kept)
       (few : (v : List ℕ) → kept_on kept v ≤ kept_on (kept_unless_made old.kept job d.made) v) where
     pub spent : Gains fixed a s d → Spent old (put_back job old.store d.state.store) kept
     spent (none h made) = still d.state.store d.made kept (chained (seen job old.store) s.store d.state.store g h) few

@@ -76,7 +76,7 @@ module _ (c : Config) (old : Shared) (r : Running) (lines : List JobLine) (new :
   may_fail_spool plan fixed told (refused free b t n conserved gone) = as_it_was old new _ n refl h
 
   answered_spool : (plan : JobPlan) (fixed : Fixed) → Answered c old r plan fixed lines new runs → AllHave new.spool
-  answered_spool plan fixed (assured kept free safe are t n conserved on) = as_it_was old new _ n refl h
+  answered_spool plan fixed (assured places kept free safe are_made are others t n conserved on) = as_it_was old new _ n refl h
   answered_spool plan fixed (no_space serial there t n on) = as_it_was old new _ n refl h
   answered_spool plan fixed (risk fault step dd path meets m) = may_fail_spool plan fixed _ m
   answered_spool plan fixed (too_many step low high views m) = may_fail_spool plan fixed _ m

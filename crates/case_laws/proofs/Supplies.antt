@@ -1,5 +1,5 @@
 -- The machine is supplied for its next events, at the start and behind each event.
-use Rattle.std.proofs.Common.{◌≡◌, ◌≢◌, ℕ, zero, suc, false, List, [], ◌∷◌, map, Option, Some, None, All, drop, refl, sym, ap, ◌∙◌, subst}
+use Rattle.std.proofs.Common.{◌≡◌, ◌≢◌, ℕ, zero, suc, false, List, [], ◌∷◌, map, Option, Some, None, All, drop, length, ◌<◌, arith, refl, sym, ap, ◌∙◌, subst}
 use Rattle.std.specs.Prelude.{slice_get}
 use Rattle.std.proofs.lemmas.List.Elements.{All-head, All-nil, All-tail}
 use Rattle.jcl_plan.specs.declared.entry.Entry.{Entry}
@@ -15,10 +15,11 @@ use Rattle.world_meaning.specs.Cancels.{RunsNot, is_admitted}
 use Rattle.world_meaning.specs.Lenses.{WorldStore, seen}
 use Rattle.world_meaning.specs.Readings.{Denoting}
 use Rattle.world_meaning.specs.Starts.{IsStart}
+use Rattle.world_meaning.specs.Tracks.{kept_of}
 use Rattle.world_meaning.specs.Transitions.{Transition}
 use Rattle.world_meaning.specs.Worlds.{Admission, Admitted, Config, Initiator, IsAt, Kept, Named, Running, Selected, Shared, Stage, Wanting, World}
 use Rattle.world_laws.specs.Beside.{FitsAt, IsBesideAt, IsCancelOf, IsTurnOf, RunsBeside, RunsFit, TurnsBeside}
-use Rattle.world_laws.specs.KeptTracks.{StaysOn, kept_for}
+use Rattle.world_laws.specs.KeptTracks.{StaysOn}
 use Rattle.world_laws.proofs.Beside.{one_there, parts_stay}
 use Rattle.world_laws.proofs.Effects.{Effect, changes, ended_early, goes, picks, still, unqueued}
 use Rattle.world_laws.proofs.TracksKept.{kept_stays}
@@ -26,6 +27,7 @@ use Rattle.run_laws.specs.Soundness.{IsSound, RunsAt, named_plan}
 use Rattle.run_laws.proofs.Places.{WasAt, here, one_running, runs_cases, runs_same, there}
 use Rattle.case_laws.specs.Cases.{CanGoOn, HasTracks, IsSupplied, MayMake}
 use Rattle.case_laws.proofs.Going.{RunsOn, goes_on}
+use Rattle.case_laws.proofs.KeptAlone.{kept_founded}
 use Rattle.case_laws.proofs.Making.{may_make_alike}
 use Rattle.case_laws.proofs.Spooled.{HasLines, spooled_kept}
 use Rattle.case_laws.proofs.StillKept.{has_for_job}
@@ -82,17 +84,17 @@ same_supply c x y job (Wanting plan) e f can = tt
 same_supply c x y job (Named plan) e f can = tt
 same_supply c x y job (Admitted plan a count own) e f can = (
   can.0,
-  λ is p m. subst (λ (kept : List Kept). HasTracks kept plan job p) (sym f)
+  λ is p m. subst (λ (kept : List ℕ → List Kept). HasTracks (kept p.serial) plan job p) (sym f)
       (can.1 is p (subst (λ (w : WorldStore). MayMake a.fixed (drop count (agenda plan c.programs)) (seen job w) own p) e m)),
 )
 
 -- with an equal part of the sets, and the same tracks kept for the job
 part_supply : (c : Config) (x y : Shared) (job : ℕ) (plan : JobPlan) (a : Admission) (count : ℕ) (own : Own) → FitsAt c (Admitted plan a count own) →
-    SamePart (names_of plan) (seen job x.store) (seen job y.store) → kept_for job y.kept ≡ kept_for job x.kept →
+    SamePart (names_of plan) (seen job x.store) (seen job y.store) → ((serial : List ℕ) → kept_of job y.kept serial ≡ kept_of job x.kept serial) →
     CanGoOn c x job (Admitted plan a count own) → CanGoOn c y job (Admitted plan a count own)
 part_supply c x y job plan a count own fits part kept can = (
   can.0,
-  λ is p m. has_for_job plan job p x.kept y.kept kept
+  λ is p m. has_for_job plan job p (x.kept p.serial) (y.kept p.serial) (kept p.serial)
       (can.1 is p (may_make_alike (names_of plan) a.fixed (drop count (agenda plan c.programs)) (seen job y.store) (seen job x.store) own p
       (part_back (names_of plan) (seen job x.store) (seen job y.store) part) fits m)),
 )
@@ -145,7 +147,7 @@ module _ (job_of : Denoting) (old new : World) (e : Event) (lines : List Entry) 
       admitted_stays =
           part_supply old.config old.shared new.shared r.job plan a count own (subst (FitsAt old.config) stage (fits_there place r run))
           (parts_stay job_of old new e lines r.job (names_of plan) beside t)
-          (kept_stays old new e r.job on (changes job_of old new e lines t).effect)
+          (λ serial. kept_stays r.job serial old new e on (changes job_of old new e lines t).effect)
           (subst (CanGoOn old.config old.shared r.job) stage (h.running place r run))
 
     stays_supplied : (stage : Stage) → r.stage ≡ stage → CanGoOn old.config new.shared r.job stage
@@ -193,6 +195,7 @@ module _ (job_of : Denoting) (old new : World) (e : Event) (lines : List Entry) 
     running = λ place r run.
         subst (λ (c : Config). CanGoOn c new.shared r.job r.stage) (sym (changes job_of old new e lines t).config)
         (by_effect (changes job_of old new e lines t).effect place r run);
+    kept = λ serial k here_now. kept_founded old new s h.kept e serial k (changes job_of old new e lines t).effect here_now;
   }
 
 -- at the start no initiator has a job
@@ -205,7 +208,11 @@ pub starts_supplied : (w : World) → IsStart w → IsSupplied w
 starts_supplied w s = record {
   spooled = subst (All HasLines) (sym s.unused.spool) (All-nil HasLines);
   running = λ place r run. absurd (nobody place r run);
+  kept = λ serial k (n, less, is). absurd (none_at n (subst (λ (kept : List Kept). n < length kept) (s.unused.kept serial) less));
 }
   where
+    none_at : (n : ℕ) → n < 0 → ⊥
+    none_at n less = omega (arith, less)
+
     nobody : (place : ℕ) (r : Running) → RunsAt w place r → ⊥
     nobody place r run = let no : None ≡ Some r = sym (idle_at w.initiators place run.it s.idle run.at) ∙ run.running in absurd cc

@@ -1,5 +1,5 @@
 -- Every event has a case of the machine's table.
-use Rattle.std.specs.Prelude.{◌≡◌, ◌≢◌, ◌⊎◌, ℕ, ◌+◌, ◌<◌, ◌≤◌, Bool, true, ◌&&◌, nat_le, List, [], ◌∷◌, drop, length, Ok, All}
+use Rattle.std.specs.Prelude.{◌≡◌, ◌≢◌, ◌⊎◌, ℕ, ◌+◌, ◌<◌, ◌≤◌, Bool, true, ◌&&◌, ◌==◌, false, List, [], ◌∷◌, drop, length, Ok, All}
 use Rattle.std.specs.List.{Contains, list_any}
 use Rattle.jcl_plan.specs.declared.entry.Entry.{Entry}
 use Rattle.jcl_plan.specs.declared.plan.JobPlan.{JobPlan}
@@ -42,12 +42,12 @@ abbrev pub CanBeWritten : Denoting → World → Type 0
 CanBeWritten job_of w = (deck : List (List ℕ)) (plan : JobPlan) → job_of deck ≡ Ok plan → records_needed plan ≤ length w.shared.records.free →
     CanHold w.config w.shared.records (w.jobs + 1) plan
 
--- tracks are kept for the set that a DD of a job is to make at a place: as many at least as it asks for
-abbrev pub is_ample : JobPlan → ℕ → Place → Kept → Bool
-is_ample plan job p k = is_kept_for job p k && nat_le (primary_asked (kind_at plan.steps p.step p.dd)) k.tracks
+-- of what is kept on the volume of a place, tracks for the set that a DD of a job is to make there: as many as it asks for
+abbrev pub is_asked : JobPlan → ℕ → Place → Kept → Bool
+is_asked plan job p k = is_kept_for job p p.serial k && k.tracks == primary_asked (kind_at plan.steps p.step p.dd)
 
 abbrev pub HasTracks : List Kept → JobPlan → ℕ → Place → Type 0
-HasTracks kept plan job p = list_any (is_ample plan job p) kept ≡ true
+HasTracks kept plan job p = list_any (is_asked plan job p) kept ≡ true
 
 -- its primaries are granted, and its steps end with what is an end
 pub record AreFair (answers : Answers) : Type 0 where
@@ -66,7 +66,7 @@ MayMake fixed (a ∷ actions) store own p = (answers : Answers) × AreFair answe
 -- For whatever a job may yet make tracks are kept.
 abbrev pub IsCovered : Config → Shared → ℕ → JobPlan → Admission → ℕ → Own → Type 0
 IsCovered c s job plan a count own =
-    (p : Place) → MayMake a.fixed (drop count (agenda plan c.programs)) (seen job s.store) own p → HasTracks s.kept plan job p
+    (p : Place) → MayMake a.fixed (drop count (agenda plan c.programs)) (seen job s.store) own p → HasTracks (s.kept p.serial) plan job p
 
 -- An admitted job has an action left, and an assured one tracks for all that it may yet make.
 abbrev pub CanGoOn : Config → Shared → ℕ → Stage → Type 0
@@ -75,10 +75,26 @@ CanGoOn c s job (Wanting plan) = Unit {0}
 CanGoOn c s job (Named plan) = Unit {0}
 CanGoOn c s job (Admitted plan a count own) = (count < length (agenda plan c.programs)) × (a.assured ≡ true → IsCovered c s job plan a count own)
 
--- What the machine has for its next events: a set that waits for a writer has a line, and each job can go on.
+-- a job that is admitted, and assured
+abbrev pub is_assured_at : Stage → Bool
+is_assured_at (Selected first) = false
+is_assured_at (Wanting plan) = false
+is_assured_at (Named plan) = false
+is_assured_at (Admitted plan a count own) = a.assured
+
+-- The job of an initiator, which is assured.
+pub record HasAssured (w : World) (job : ℕ) : Type 0 where
+  pub place : ℕ
+  pub running : Running
+  pub runs : RunsAt w place running
+  pub its : running.job ≡ job
+  pub assured : is_assured_at running.stage ≡ true
+
+-- What the machine has for its next events: a set that waits for a writer has a line, each job can go on, and tracks are kept for assured jobs alone.
 pub record IsSupplied (w : World) : Type 0 where
   pub spooled : All (λ set. set.lines ≢ []) w.shared.spool
   pub running : (place : ℕ) (r : Running) → RunsAt w place r → CanGoOn w.config w.shared r.job r.stage
+  pub kept : (serial : List ℕ) (k : Kept) → Contains (w.shared.kept serial) k → HasAssured w k.job
 
 -- and what its queue is: the fields of each record are apart, and records in use are of bytes
 pub record HasWholeQueue (w : World) : Type 0 where

@@ -120,7 +120,7 @@ is_start c refuses views date l h own = record {
   serials = h.serials;
   programs = h.programs;
   store = store_is_good c l date h;
-  unused = record { kept = refl; holds = refl; operations = refl; cancels = refl; spool = refl };
+  unused = record { kept = λ serial. refl; holds = refl; operations = refl; cancels = refl; spool = refl };
   records = records_are_free (start_config c refuses views l);
   waiting = All-nil _;
   in_order = tt;

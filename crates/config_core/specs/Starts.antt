@@ -40,7 +40,7 @@ abbrev pub start_shared : Configuration → Layout → ℕ → Shared
 start_shared c l date = record {
   store = record { set = λ k serial. set_on (mounted_in c.volumes serial) k; catalog = λ name. finite.get c.catalog name };
   free = λ serial. free_on c.volumes serial;
-  kept = [];
+  kept = λ serial. [];
   records = shown (empty_queue l);
   holds = [];
   operations = [];

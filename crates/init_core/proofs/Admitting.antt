@@ -53,7 +53,7 @@ module _ {Q : Type 0} (queue_of : Q → RecordQueue) (profile : Profile) (p : Pa
 
     admits : chosen_to (told ∷ []) (admitted (shown_running c its) (told ∷ []) plan (fixed_for c.volumes plan a) a.assured)
     admits =
-        let here = m.admits c (shown queue_of p) (shown_running c its) (record { of_job = refl; its_store = refl; its_date = refl; its_programs = refl })
+        let here = m.admits c (shown queue_of p) (shown_running c its) (record { of_job = refl; its_store = refl; its_date = refl; its_programs = refl; none_kept = λ serial. refl })
         (places c p.store.volumes job plan (sym g.volumes)) in
         (here.0, record { by_room = here.1 ∙ m.placed; answered = ap (λ l. l ∷ []) m.answered })
 

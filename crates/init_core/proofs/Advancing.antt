@@ -163,8 +163,8 @@ module _ {Q : Type 0} (queue_of : Q → RecordQueue) (profile : Profile) (p : Pa
           Went queue_of c p its (record p { store = st; units = units; cancels = cancels }) (GoesOn (at_walk after) from)
       acted law short granted on there units cancels us cs =
           let here = law c (shown queue_of p) (shown_running c its) plan (shown_admission c plan a) (answers_of job p.store) walk after (seen job (world_store_of st)) told told_free refl t granted
-          (is.conserves (shown queue_of p) told_shared (record { store = refl; free = λ v. refl; kept = refl })
-          (record { store = sym is.world; free = λ v. refl; kept = refl })) in
+          (is.conserves (shown queue_of p) told_shared (record { store = refl; free = λ v. refl; kept = sym is.none_shown })
+          (record { store = sym is.world; free = λ v. refl; kept = sym is.none_shown_now })) in
           let goes : chosen_to (drop from after.course.lines) told_shared (Some (shown_running c (at_walk after))) =
           subst (λ ls. chosen_to ls told_shared (Some (shown_running c (at_walk after))))
           (sym (lines_behind walk.course.lines after.course.lines t.acts.its_turn.done.lines t.acts.lines)) (

@@ -28,4 +28,4 @@ pub record IsGrantedByVolumes (store : SharedStore) (job : ℕ) (cancel : Bool) 
 abbrev pub IsChosenByVolumes : Config → SharedStore → Choice → Type 0
 IsChosenByVolumes c store Closed = Unit {0}
 IsChosenByVolumes c store (AtAdmission job plan places lines) = IsPlacedByVolumes c store job plan places lines
-IsChosenByVolumes c store (AtAction job cancel fixed x growth primary) = IsGrantedByVolumes store job cancel fixed x growth primary
+IsChosenByVolumes c store (AtAction job cancel a x growth primary) = IsGrantedByVolumes store job cancel a.fixed x growth primary

@@ -9,7 +9,7 @@ use Rattle.world_meaning.specs.Tracks.{Conserves}
 use Rattle.world_meaning.specs.Worlds.{Config, Shared}
 use Rattle.shared_core.specs.Rooms.{grants_growth, grants_new}
 use Rattle.shared_core.specs.Shown.{world_store_of}
-use Rattle.shared_core.specs.Tracks.{IsShown, NothingKept}
+use Rattle.shared_core.specs.Tracks.{IsShown, NothingKept, kept_shown}
 use Rattle.shared_core.specs.declared.store.SharedStore.{SharedStore}
 use Rattle.place_core.specs.Placings.{serials_of}
 use Rattle.admission_core.specs.Admitted.{fixed_for}
@@ -45,6 +45,8 @@ around_in p operations job plan a cancelled store = record {
 pub record IsWritten (job : ℕ) (old new : SharedStore) : Type 0 where
   pub world : world_store_of new ≡ put_back job (world_store_of old) (seen job (world_store_of new))
   pub kept : NothingKept new
+  pub none_shown : kept_shown old.volumes ≡ λ serial. []
+  pub none_shown_now : kept_shown new.volumes ≡ λ serial. []
   pub volumes : serials_of new.volumes ≡ serials_of old.volumes
   pub conserves : (before after : Shared) → IsShown old before → IsShown new after → Conserves before after
 

@@ -28,7 +28,9 @@ use jcl_plan::plan::JobPlan;
 use machine_core::over::release;
 use machine_core::parts::Parts;
 use prog_core::units::{Units, operations_are_apart};
-use shared_core::laws::{nothing_kept_stays, sets_of_others_stay, tracks_are_conserved};
+use shared_core::laws::{
+    nothing_is_shown, nothing_kept_stays, sets_of_others_stay, tracks_are_conserved,
+};
 use shared_core::store::SharedStore;
 use shared_core::sums::volumes_add_up;
 use std::alloc::{AllocError, Global};
@@ -70,6 +72,7 @@ fn take_turn(
     ensures err { OnErr result ((store.new ≡ store.old) × (walk.new ≡ walk.old)) }
 {
     sets_of_others_stay();
+    nothing_is_shown();
     nothing_kept_stays();
     tracks_are_conserved();
     volumes_add_up(&*store);

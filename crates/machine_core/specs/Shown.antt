@@ -12,7 +12,7 @@ abbrev pub shown : {Q : Type 0} → (Q → RecordQueue) → Parts Q → Shared
 shown queue_of p = record {
   store = world_store_of p.store;
   free = λ serial. free_on p.store.volumes serial;
-  kept = [];
+  kept = λ serial. [];
   records = queue.shown (queue_of p.queue);
   holds = p.names;
   operations = p.units;

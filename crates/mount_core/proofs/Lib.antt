@@ -4,3 +4,7 @@ pub mod KeptTracks
 pub mod Keeping
 pub mod Making
 pub mod Sums
+pub mod FirstPlaces
+pub mod GivingBack
+pub mod Filtering
+pub mod EntryLists

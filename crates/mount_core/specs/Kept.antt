@@ -1,6 +1,6 @@
 -- Tracks that are kept on a volume, each list for the set that a DD of a job is to make.
-use Rattle.std.specs.Prelude.{◌≡◌, List}
-use Rattle.std.specs.FinMap.{FinMap, entries, from_entries}
+use Rattle.std.specs.Prelude.{◌≡◌, ℕ, List, IsSome, None}
+use Rattle.std.specs.FinMap.{FinMap, entries, from_entries, get}
 use Rattle.std.specs.List.{flat_map}
 use Rattle.std.specs.Ordering.{nat_cmp, ordering_then}
 use Rattle.std.specs.declared.cmp.Ordering.{Ordering}
@@ -30,3 +30,11 @@ extents_kept kept = flat_map (λ e. e.1) (entries kept)
 pub record AreKept (tracks : List Track) (kept : Kept) : Type 0 where
   pub aside : AreOf Aside tracks (extents_kept kept)
   pub count : tracks_in (extents_kept kept) ≡ count_of Aside tracks
+
+-- a list is kept at a place of a job
+abbrev pub IsKeptFor : Kept → ℕ → KeptPlace → Type 0
+IsKeptFor kept job at = (at.job ≡ job) × IsSome (get kept at)
+
+-- nothing is kept for a job
+abbrev pub KeepsNoneFor : Kept → ℕ → Type 0
+KeepsNoneFor kept job = (at : KeptPlace) → at.job ≡ job → get kept at ≡ None

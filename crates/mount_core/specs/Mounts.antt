@@ -1,9 +1,9 @@
 -- A mounted volume: its serial, its tracks and sets, and the tracks that are kept on it.
-use Rattle.std.specs.Prelude.{◌≡◌, ℕ, Bool, ◌==◌, nat_le, List, [], Option, Some, None, refl}
+use Rattle.std.specs.Prelude.{◌≡◌, ℕ, ◌+◌, Bool, ◌==◌, nat_le, List, [], Option, Some, None, refl}
 use Rattle.std.specs.Coded.{Coded, code_by, coded×, coded_list, coded_ℕ}
 use Rattle.std.specs.FinMap.{insert, remove}
 use Rattle.extent_core.specs.declared.extent.Extent.{Extent}
-use Rattle.vtoc_core.specs.Volumes.{Moves, VolumeState, coded_volume, marked}
+use Rattle.vtoc_core.specs.Volumes.{Moves, VolumeState, coded_volume, count_of, marked}
 use Rattle.vtoc_core.specs.Extents.{five_largest, free_extents, planned, tracks_in}
 use Rattle.vtoc_core.specs.declared.entry.SetKey.{SetKey}
 use Rattle.vtoc_core.specs.declared.volume.Track.TheVariants.{Aside, Free, InSet}
@@ -30,6 +30,10 @@ kept_for m place list = record m { volume = record m.volume { tracks = marked As
 abbrev pub kept_given_back : Option (List Extent) → MountedState → KeptPlace → MountedState
 kept_given_back None m place = m
 kept_given_back (Some list) m place = record m { volume = record m.volume { tracks = marked Free list m.volume.tracks }; kept = remove m.kept place }
+
+-- the tracks of a volume that are free, aside or in sets
+abbrev pub all_tracks : VolumeState → ℕ
+all_tracks v = count_of Free v.tracks + (count_of Aside v.tracks + count_of InSet v.tracks)
 
 -- whether so many tracks are there for a set: those that are kept for it, or free ones
 abbrev pub holds : Option (List Extent) → VolumeState → ℕ → Bool

@@ -1,8 +1,8 @@
 //! The kept lists by their places.
-ghost use Rattle.std.specs.Prelude.{◌≡◌, OnErr, OnOk, is_some};
+ghost use Rattle.std.specs.Prelude.{◌≡◌, IfNone, IfSome, OnErr, OnOk, is_some};
 ghost use Rattle.std.specs.FinMap as map;
 ghost use Rattle.std.specs.Option.{option_map};
-ghost use Rattle.mount_core.specs.Kept.{kept_of};
+ghost use Rattle.mount_core.specs.Kept.{IsKeptFor, KeepsNoneFor, kept_of};
 
 use crate::place::{KeptExtents, KeptPlace};
 use arrayvec::ArrayVec;
@@ -57,4 +57,21 @@ pub(crate) fn drop_place(lists: &mut Lists, place: &KeptPlace)
     ensures { kept_of lists.new.entries ≡ map.remove (kept_of lists.old.entries) place.now }
 {
     lists.remove(place);
+}
+
+/// The first place of a job.
+pub(crate) fn first_for(lists: &Lists, job: u16) -> Option<KeptPlace>
+    ensures some { IfSome result (IsKeptFor (kept_of lists.now.entries) job) }
+    ensures none { IfNone result (KeepsNoneFor (kept_of lists.now.entries) job) }
+{
+    let lowest = KeptPlace {
+        job,
+        step: 0,
+        dd: 0,
+    };
+    let (place, _) = lists.range(lowest..).next()?;
+    if place.job != job {
+        return None;
+    }
+    Some(*place)
 }

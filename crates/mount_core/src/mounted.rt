@@ -1,5 +1,5 @@
 //! A mounted volume.
-ghost use Rattle.std.specs.Prelude.{◌≡◌, ◌≢◌, ◌+◌, length, ◌≤◌, ◌<◌, ◌↔◌, ◌++◌, ◌∷◌, [], List, IsErr, false, true, Some, None, Err, IfErr, IfOk, IsSome, OnErr, OnOk};
+ghost use Rattle.std.specs.Prelude.{◌≡◌, ◌≢◌, ◌+◌, ◌==◌, if◌then◌else◌, length, ◌≤◌, ◌<◌, ◌↔◌, ◌++◌, ◌∷◌, [], List, IsErr, false, true, Some, None, Err, IfErr, IfNone, IfOk, IfSome, IsSome, OnErr, OnOk};
 ghost use Rattle.std.specs.FinMap as map;
 ghost use Rattle.extent_core.specs.declared.extent.Extent.{Extent};
 ghost use Rattle.vtoc_core.specs.Entries.{changed, with_extents, with_records};
@@ -7,8 +7,9 @@ ghost use Rattle.vtoc_core.specs.Extents.{five_largest, free_extents, kept_front
 ghost use Rattle.vtoc_core.specs.Volumes.{AnswersGrow, AnswersWrite, Moves, count_of, extents_of_all, first_tracks, marked, tracks_past};
 ghost use Rattle.vtoc_core.specs.declared.entry.SetEntry.{SetEntry};
 ghost use Rattle.vtoc_core.specs.declared.volume.Track.TheVariants.{Aside, Free, InSet, Unusable};
-ghost use Rattle.mount_core.specs.Kept.{extents_kept};
-ghost use Rattle.mount_core.specs.Mounts.{WasMade, kept_given_back, holds, kept_for};
+ghost use Rattle.mount_core.specs.Kept.{AreKept, IsKeptFor, KeepsNoneFor, extents_kept};
+ghost use Rattle.mount_core.specs.declared.place.KeptPlace.{KeptPlace};
+ghost use Rattle.mount_core.specs.Mounts.{WasMade, all_tracks, kept_given_back, holds, kept_for};
 
 use crate::lists::{self, Lists, copy_of, drop_place, extents_at, is_taken};
 use crate::place::KeptPlace;
@@ -120,6 +121,27 @@ impl Mounted {
         }
     }
 
+    /// The first place of a job where tracks are kept.
+    fn first_for(&self, job: u16) -> Option<KeptPlace>
+        ensures some { IfSome result (IsKeptFor self.now.kept job) }
+        ensures none { IfNone result (KeepsNoneFor self.now.kept job) }
+    {
+        lists::first_for(&self.kept, job)
+    }
+
+    /// Gives back all that is kept for a job. It takes no memory.
+    pub fn give_back_all(&mut self, job: u16)
+        ensures kept { (at : KeptPlace) → map.get self.new.kept at ≡ (if at.job == job then None else map.get self.old.kept at) }
+        ensures sets { self.new.volume.sets ≡ self.old.volume.sets }
+        ensures serial { self.new.serial ≡ self.old.serial }
+        ensures tracks { all_tracks self.new.volume ≡ all_tracks self.old.volume }
+    {
+        while let Some(place) = self.first_for(job) {
+            self.kept_is_aside();
+            self.give_back(&place);
+        }
+    }
+
     /// Makes a set without a record: of the tracks that are kept at a place, if so many are, else of free tracks where none are kept. A refusal changes
     /// nothing.
     pub fn make(
@@ -216,6 +238,20 @@ impl Mounted {
         ensures others { self.new ≡ record self.old { volume = self.new.volume } }
     {
         self.volume.clear(key)
+    }
+
+    /// What is kept is aside, no track of it twice, and nothing else is.
+    pub fn kept_is_aside(&self)
+        ensures { AreKept self.now.volume.tracks self.now.kept }
+    {
+        let _kept = &self.kept;
+    }
+
+    /// How many tracks are kept.
+    pub fn kept_tracks(&self) -> usize
+        ensures { result ≡ tracks_in (extents_kept self.now.kept) }
+    {
+        self.volume.track_counts().aside
     }
 
     /// The tracks of a volume add up to its size: those free, those kept, those of sets, and those that are never free.

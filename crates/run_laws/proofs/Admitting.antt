@@ -97,7 +97,7 @@ module _ (tracks actions : ℕ) where
 
     by_answer : (plan : JobPlan) (places : List Place) → r.stage ≡ Named plan → ArePlaces c plan places →
         Answered c s r plan (fixed_at c s r.job plan places) lines new runs → IsAnswered c s r lines new runs actions
-    by_answer plan places stage placed (assured kept free safe are t n conserved on) = record {
+    by_answer plan places stage placed (assured made kept free safe are_made are others t n conserved on) = record {
       plan = plan;
       stage = stage;
       places = places;

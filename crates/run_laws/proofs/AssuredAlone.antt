@@ -75,7 +75,7 @@ module _ (c : Config) (s : Shared) (r : Running) (lines : List JobLine) (new : S
   in_failing plan fixed l other (refused free b told n conserved on) = plainly lines (l ∷ line.Refused ∷ []) told (λ i. other i || false)
 
   in_answer : (plan : JobPlan) (fixed : Fixed) → Answered c s r plan fixed lines new runs → OneOrNone lines
-  in_answer plan fixed (assured kept free safe are told n conserved on) = inr (_, _, told)
+  in_answer plan fixed (assured places kept free safe are_made are others told n conserved on) = inr (_, _, told)
   in_answer plan fixed (no_space serial there told n on) = plainly lines _ told refl
   in_answer plan fixed (risk fault step dd path meets m) = in_failing plan fixed (line.Risk fault step dd path) refl m
   in_answer plan fixed (too_many step low high views m) = in_failing plan fixed (line.TooMany step) refl m

@@ -37,7 +37,7 @@ module _ (c : Config) (old : Shared) (r : Running) where
 
   answered_fits : (plan : JobPlan) (fixed : Fixed) (lines : List JobLine) (new : Shared) (runs : Option Running) →
       Answered c old r plan fixed lines new runs → FitsAt c (Admitted plan (record { fixed = fixed; assured = false }) 0 nothing_own) → RunsFit c runs
-  answered_fits plan fixed lines new runs (assured kept free safe are t n conserved on) fits = subst (RunsFit c) (sym on) fits
+  answered_fits plan fixed lines new runs (assured places kept free safe are_made are others t n conserved on) fits = subst (RunsFit c) (sym on) fits
   answered_fits plan fixed lines new runs (no_space serial there t n on) fits = subst (RunsFit c) (sym on) tt
   answered_fits plan fixed lines new runs (risk fault step dd path meets m) fits = may_fail_fits plan fixed _ lines new runs m fits
   answered_fits plan fixed lines new runs (too_many step low high views m) fits = may_fail_fits plan fixed _ lines new runs m fits

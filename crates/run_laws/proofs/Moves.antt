@@ -57,7 +57,7 @@ module _ (c : Config) (old : Shared) (r : Running) where
 
   answered_left : (plan : JobPlan) (fixed : Fixed) (lines : List JobLine) (new : Shared) (runs : Option Running) → r.stage ≡ Named plan →
       Answered c old r plan fixed lines new runs → Left c old r new runs
-  answered_left plan fixed lines new runs is (assured kept free safe are t n conserved on) =
+  answered_left plan fixed lines new runs is (assured places kept free safe are_made are others t n conserved on) =
       goes _ on refl (sym (ap named_plan is)) (as_read (plan_read r.stage) (Some plan) (sym (ap plan_read is))) (ap (λ (s : Shared). s.holds) n)
   answered_left plan fixed lines new runs is (no_space serial there t n on) =
       goes _ on refl (sym (ap named_plan is)) (as_read (plan_read r.stage) (Some plan) (sym (ap plan_read is))) (ap (λ (s : Shared). s.holds) n)

@@ -63,17 +63,17 @@ is_done c s job plan a count own growth primary x e =
 abbrev FactsOf : Choice → ℕ → List JobLine → Type 0
 FactsOf Closed r told = Unit {0}
 FactsOf (AtAdmission job plan places lines) r told = Unit {0}
-FactsOf (AtAction job cancel fixed x growth primary) r told = (job ≡ r) × (told ≡ x.done.lines) × IsDone cancel fixed x growth primary
+FactsOf (AtAction job cancel a x growth primary) r told = (job ≡ r) × (told ≡ x.done.lines) × IsDone cancel a.fixed x growth primary
 
 abbrev pub ToldOf : Choice → List Entry → Type 0
 ToldOf Closed lines = Unit {0}
 ToldOf (AtAdmission job plan places told) lines = Unit {0}
-ToldOf (AtAction job cancel fixed x growth primary) lines = (lines ≡ of_job job x.done.lines) × IsDone cancel fixed x growth primary
+ToldOf (AtAction job cancel a x growth primary) lines = (lines ≡ of_job job x.done.lines) × IsDone cancel a.fixed x growth primary
 
 lifted : (c : Choice) (r : ℕ) (told : List JobLine) (lines : List Entry) → FactsOf c r told → lines ≡ of_job r told → ToldOf c lines
 lifted Closed r told lines f e = tt
 lifted (AtAdmission job plan places ls) r told lines f e = tt
-lifted (AtAction job cancel fixed x growth primary) r told lines f e = (e ∙ ap₂ of_job (sym f.0) f.1, f.2)
+lifted (AtAction job cancel a x growth primary) r told lines f e = (e ∙ ap₂ of_job (sym f.0) f.1, f.2)
 
 at_advance : (c : Config) (old : Shared) (r : Running) (plan : JobPlan) (a : Admission) (count : ℕ) (own : Own) (lines : List JobLine) (new : Shared)
     (runs : Option Running) (g : Advances c old r plan a count own lines new runs) → FactsOf (choice_of_advance g) r.job lines

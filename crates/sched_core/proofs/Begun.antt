@@ -92,7 +92,7 @@ module _ {Q : Type 0} (queue_of : Q → RecordQueue) (store : SharedStore) (q : 
     shared_at = ap (shown queue_of) parts ∙ (λ i. record {
       store = record { set = λ k serial. set_on (mounted_in (t.volumes i) serial) k; catalog = λ name. finite.get (t.catalog i) name };
       free = λ serial. free_on (t.volumes i) serial;
-      kept = [];
+      kept = λ serial. [];
       records = queue.shown (empty i);
       holds = [];
       operations = [];

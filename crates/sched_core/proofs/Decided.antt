@@ -9,12 +9,12 @@ use Rattle.jcl_meaning.specs.declared.program.Move.{Move}
 use Rattle.jcl_meaning.specs.Acts.{act}
 use Rattle.jcl_meaning.specs.Agendas.{Action, Ask, Take}
 use Rattle.jcl_meaning.specs.RequestActs.{asked, head_or}
-use Rattle.jcl_meaning.specs.States.{Done, Fixed, State}
+use Rattle.jcl_meaning.specs.States.{Done, State}
 use Rattle.disp_core.specs.Requests.{Growth, growth_asked}
 use Rattle.input_core.specs.declared.event.Event.{Event}
 use Rattle.world_meaning.specs.Choices.{AtAction, AtAdmission, Choice, choice_of}
 use Rattle.world_meaning.specs.Turns.{Advanced}
-use Rattle.world_meaning.specs.Worlds.{World}
+use Rattle.world_meaning.specs.Worlds.{Admission, World}
 use Rattle.turn_core.specs.Performing.{growth_by, growth_granted, primary_by}
 use Rattle.init_core.specs.Choosing.{IsChosenByVolumes}
 use Rattle.init_core.specs.Turning.{answers_of}
@@ -24,16 +24,16 @@ use Rattle.sched_core.proofs.ActionFacts.{IsDone, ToldOf, at_step}
 use Rattle.sched_core.proofs.RefusedGrowth.{growth_refused}
 use Rattle.sched_core.proofs.RefusedPrimary.{primary_refused, volume_refused}
 
-module _ (old : Machine) (e : Event) (lines : List Entry) (new : World) (s : Steps old e lines new) (job : ℕ) (cancel : Bool) (fixed : Fixed) (x : Advanced)
-    (is : IsAction old e lines new s job cancel fixed x) where
-  known : ToldOf (AtAction job cancel fixed x is.growth is.primary) lines
+module _ (old : Machine) (e : Event) (lines : List Entry) (new : World) (s : Steps old e lines new) (job : ℕ) (cancel : Bool) (admission : Admission) (x : Advanced)
+    (is : IsAction old e lines new s job cancel admission x) where
+  known : ToldOf (AtAction job cancel admission x is.growth is.primary) lines
   known = subst (λ (c : Choice). ToldOf c lines) is.chosen (at_step (denoting old) (world_of old) (meant_by e) lines new s.0)
 
-  chosen : IsChosenByVolumes (world_of old).config old.parts.store (AtAction job cancel fixed x is.growth is.primary)
+  chosen : IsChosenByVolumes (world_of old).config old.parts.store (AtAction job cancel admission x is.growth is.primary)
   chosen = subst (IsChosenByVolumes (world_of old).config old.parts.store) is.chosen s.1
 
-  did : (a : Action) → x.action ≡ a → x.done ≡ act fixed a x.before
-  did a at = known.1.done ∙ ap (λ (b : Action). act fixed b x.before) at
+  did : (a : Action) → x.action ≡ a → x.done ≡ act admission.fixed a x.before
+  did a at = known.1.done ∙ ap (λ (b : Action). act admission.fixed b x.before) at
 
   asks_lines : (step : StepPlan) (move : Move) → x.action ≡ Ask step move → x.done ≡ asked step move x.before
   unfolding act
@@ -44,16 +44,16 @@ module _ (old : Machine) (e : Event) (lines : List Entry) (new : World) (s : Ste
   growth_is step move at =
       chosen.growth_answered ∙ ap (λ (a : Action). growth_by (answers_of job old.parts.store).growth cancel a x.before.store x.before.own) at
 
-  primary_is : (a : Action) → x.action ≡ a → is.primary ≡ primary_by (answers_of job old.parts.store).new fixed a x.before.store x.before.own
-  primary_is a at = chosen.primary_answered ∙ ap (λ (b : Action). primary_by (answers_of job old.parts.store).new fixed b x.before.store x.before.own) at
+  primary_is : (a : Action) → x.action ≡ a → is.primary ≡ primary_by (answers_of job old.parts.store).new admission.fixed a x.before.store x.before.own
+  primary_is a at = chosen.primary_answered ∙ ap (λ (b : Action). primary_by (answers_of job old.parts.store).new admission.fixed b x.before.store x.before.own) at
 
 pub actions_are_told : ActionsAreTold
-actions_are_told old e lines new s job cancel fixed x is = (known old e lines new s job cancel fixed x is).0
+actions_are_told old e lines new s job cancel admission x is = (known old e lines new s job cancel admission x is).0
 
 pub growth_is_refused : GrowthIsRefused
-growth_is_refused old e lines new s job cancel fixed x step move is at told =
-    let facts = (known old e lines new s job cancel fixed x is).1 in
-    let asks : x.done ≡ asked step move x.before = asks_lines old e lines new s job cancel fixed x is step move at in
+growth_is_refused old e lines new s job cancel admission x step move is at told =
+    let facts = (known old e lines new s job cancel admission x is).1 in
+    let asks : x.done ≡ asked step move x.before = asks_lines old e lines new s job cancel admission x is step move at in
     let r = growth_refused step move x.before (ap (λ (d : Done). d.lines) (sym asks) ∙ told) in
     let asked_so : growth_asked cancel step move x.before.own x.before.store ≡ Some r.0 =
     subst (λ (b : Bool). growth_asked b step move x.before.own x.before.store ≡ Some r.0) facts.its_cancel r.1 in
@@ -61,17 +61,17 @@ growth_is_refused old e lines new s job cancel fixed x step move is at told =
       r.0,
       asked_so,
       ap (growth_granted (answers_of job old.parts.store).growth) (sym asked_so)
-          ∙ sym (growth_is old e lines new s job cancel fixed x is step move at) ∙ no,
+          ∙ sym (growth_is old e lines new s job cancel admission x is step move at) ∙ no,
     )
 
 pub primary_is_refused : PrimaryIsRefused
-primary_is_refused old e lines new s job cancel fixed x n dd d p key backs is at kind means told =
-    let facts = (known old e lines new s job cancel fixed x is).1 in
-    let does : x.done ≡ act fixed (Take n dd d) x.before = did old e lines new s job cancel fixed x is (Take n dd d) at in
+primary_is_refused old e lines new s job cancel admission x n dd d p key backs is at kind means told =
+    let facts = (known old e lines new s job cancel admission x is).1 in
+    let does : x.done ≡ act admission.fixed (Take n dd d) x.before = did old e lines new s job cancel admission x is (Take n dd d) at in
     let no : is.primary ≡ false = sym facts.its_primary
-    ∙ primary_refused fixed n dd d p key x.before backs kind means (ap (λ (z : Done). z.lines) (sym does) ∙ told) in
-    volume_refused (answers_of job old.parts.store).new fixed n dd d p key x.before.store x.before.own kind means
-    (sym (primary_is old e lines new s job cancel fixed x is (Take n dd d) at) ∙ no)
+    ∙ primary_refused admission.fixed n dd d p key x.before backs kind means (ap (λ (z : Done). z.lines) (sym does) ∙ told) in
+    volume_refused (answers_of job old.parts.store).new admission.fixed n dd d p key x.before.store x.before.own kind means
+    (sym (primary_is old e lines new s job cancel admission x is (Take n dd d) at) ∙ no)
 
 pub sets_are_placed : SetsArePlaced
 sets_are_placed old e lines new s job plan places told is =

@@ -16,41 +16,40 @@ use Rattle.jcl_meaning.specs.declared.state.Place.{Place}
 use Rattle.jcl_meaning.specs.declared.state.Resolution.TheVariants.{Means}
 use Rattle.jcl_meaning.specs.Agendas.{Ask, Take}
 use Rattle.jcl_meaning.specs.Resolutions.{meaning_at}
-use Rattle.jcl_meaning.specs.States.{Fixed}
 use Rattle.jcl_meaning.specs.Takes.{primary_of}
 use Rattle.disp_core.specs.Requests.{Growth, growth_asked}
 use Rattle.input_core.specs.declared.event.Event.{Event}
 use Rattle.world_meaning.specs.Choices.{AtAction, AtAdmission, choice_of}
 use Rattle.world_meaning.specs.Turns.{Advanced}
-use Rattle.world_meaning.specs.Worlds.{World, of_job}
+use Rattle.world_meaning.specs.Worlds.{Admission, World, of_job}
 use Rattle.shared_core.specs.Rooms.{grants_growth, grants_new}
 use Rattle.place_core.specs.Placings.{placed}
 use Rattle.sched_core.specs.Systems.{Machine, Steps, world_of}
 
 -- The event is this action of a job, in a step of the machine.
-pub record IsAction (old : Machine) (e : Event) (lines : List Entry) (new : World) (s : Steps old e lines new) (job : ℕ) (cancel : Bool) (fixed : Fixed)
+pub record IsAction (old : Machine) (e : Event) (lines : List Entry) (new : World) (s : Steps old e lines new) (job : ℕ) (cancel : Bool) (admission : Admission)
     (x : Advanced) : Type 0 where
   pub growth : Bool
   pub primary : Bool
-  pub chosen : choice_of s.0 ≡ AtAction job cancel fixed x growth primary
+  pub chosen : choice_of s.0 ≡ AtAction job cancel admission x growth primary
 
 -- Its lines are those that the event writes.
 abbrev pub ActionsAreTold : Type 0
-ActionsAreTold = (old : Machine) (e : Event) (lines : List Entry) (new : World) (s : Steps old e lines new) (job : ℕ) (cancel : Bool) (fixed : Fixed)
-    (x : Advanced) → IsAction old e lines new s job cancel fixed x → lines ≡ of_job job x.done.lines
+ActionsAreTold = (old : Machine) (e : Event) (lines : List Entry) (new : World) (s : Steps old e lines new) (job : ℕ) (cancel : Bool) (admission : Admission)
+    (x : Advanced) → IsAction old e lines new s job cancel admission x → lines ≡ of_job job x.done.lines
 
 -- A request in whose place SB37 stands asked for tracks behind those of its set, and the volumes had no room for them.
 abbrev pub GrowthIsRefused : Type 0
-GrowthIsRefused = (old : Machine) (e : Event) (lines : List Entry) (new : World) (s : Steps old e lines new) (job : ℕ) (cancel : Bool) (fixed : Fixed)
-    (x : Advanced) (step : StepPlan) (move : Move) → IsAction old e lines new s job cancel fixed x → x.action ≡ Ask step move →
+GrowthIsRefused = (old : Machine) (e : Event) (lines : List Entry) (new : World) (s : Steps old e lines new) (job : ℕ) (cancel : Bool) (admission : Admission)
+    (x : Advanced) (step : StepPlan) (move : Move) → IsAction old e lines new s job cancel admission x → x.action ≡ Ask step move →
     x.done.lines ≡ line.Abend SB37 ∷ [] → (g : Growth) × (growth_asked cancel step move x.before.own x.before.store ≡ Some g)
     × (grants_growth job old.parts.store g.key g.serial g.tracks ≡ false)
 
 -- Where F6 is told of a DD with a key, a volume had no room for its primary.
 abbrev pub PrimaryIsRefused : Type 0
-PrimaryIsRefused = (old : Machine) (e : Event) (lines : List Entry) (new : World) (s : Steps old e lines new) (job : ℕ) (cancel : Bool) (fixed : Fixed)
-    (x : Advanced) (n dd : ℕ) (d : DdPlan) (p : SetPlan) (key : Key) (backs : List JobLine) → IsAction old e lines new s job cancel fixed x →
-    x.action ≡ Take n dd d → d.kind ≡ Set p → meaning_at fixed.meanings n dd ≡ Means key → x.done.lines ≡ line.Fault F6 n dd ∷ backs →
+PrimaryIsRefused = (old : Machine) (e : Event) (lines : List Entry) (new : World) (s : Steps old e lines new) (job : ℕ) (cancel : Bool) (admission : Admission)
+    (x : Advanced) (n dd : ℕ) (d : DdPlan) (p : SetPlan) (key : Key) (backs : List JobLine) → IsAction old e lines new s job cancel admission x →
+    x.action ≡ Take n dd d → d.kind ≡ Set p → meaning_at admission.fixed.meanings n dd ≡ Means key → x.done.lines ≡ line.Fault F6 n dd ∷ backs →
     (serial : List ℕ) × (grants_new job old.parts.store key (record { step = n; dd = dd; serial = serial }) (primary_of p.space) ≡ false)
 
 -- A job's sets are placed by the rule, on the volumes as they were.

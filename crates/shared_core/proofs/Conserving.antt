@@ -13,20 +13,20 @@ use Rattle.vtoc_core.specs.Volumes.{count_of, extents_of_all}
 use Rattle.world_meaning.specs.Lenses.{WorldStore}
 use Rattle.world_meaning.specs.Tracks.{IsConserved, is_touched, kept_on, tracks_of, used_by}
 use Rattle.world_meaning.specs.Worlds.{Shared}
-use Rattle.mount_core.specs.declared.place.KeptPlace.{KeptPlace}
+use Rattle.mount_core.specs.Kept.{extents_kept}
 use Rattle.mount_core.specs.Mounts.{MountedState}
 use Rattle.shared_core.specs.declared.store.SharedStore.{SharedStore}
 use Rattle.shared_core.specs.Laws.{TracksAreConserved}
 use Rattle.shared_core.specs.Rooms.{Room, all_tracks, room_of}
-use Rattle.shared_core.specs.Shown.{data_of, kept_extents as kept_at, mounted_in, set_on}
-use Rattle.shared_core.specs.Tracks.{AddsUp, IsShown, NothingKept, VolumesAddUp, free_tracks}
+use Rattle.shared_core.specs.Shown.{data_of, mounted_in, set_on}
+use Rattle.shared_core.specs.Tracks.{AddsUp, IsShown, VolumesAddUp, free_tracks, kept_tracks}
 use Rattle.shared_core.proofs.SetTracks.{not_among, not_among_both, once, once-are_different, once-touches, sum_of_all}
-use Rattle.shared_core.proofs.Unkept.{no_tracks_kept}
+use Rattle.shared_core.proofs.Showing.{sum_shown}
 
 -- sums that are equal part by part
-sums : (a b c x y z free used was_free was_used : ℕ) → a ≡ free → b ≡ 0 → c ≡ used → x ≡ was_free → y ≡ 0 → z ≡ was_used → free + used ≡ was_free + was_used →
-    a + (b + c) ≡ x + (y + z)
-sums a b c x y z free used was_free was_used h i j k l m e = omega arith
+sums : (a b c x y z free kept used was_free was_kept was_used : ℕ) → a ≡ free → b ≡ kept → c ≡ used → x ≡ was_free → y ≡ was_kept → z ≡ was_used →
+    free + (kept + used) ≡ was_free + (was_kept + was_used) → a + (b + c) ≡ x + (y + z)
+sums a b c x y z free kept used was_free was_kept was_used h i j k l m e = omega arith
 
 -- the room of the volume of a serial
 abbrev room_in : List Room → List ℕ → Option Room
@@ -52,10 +52,10 @@ found_in P [] serial x a e = absurd (none-some x e)
 found_in P (m ∷ ms) serial x a e =
     found_step P (bytes_eq m.serial serial) m x (mounted_in ms serial) (All-head P m ms a) (found_in P ms serial x (All-tail P m ms a)) e
 
--- with nothing kept, tracks are free or in sets
-free_or_in_sets : (m : MountedState) → AddsUp m → ((at : KeptPlace) → get m.kept at ≡ None) →
-    all_tracks m.volume.tracks ≡ count_of Free m.volume.tracks + tracks_in (extents_of_all m.volume.sets)
-free_or_in_sets m a none = omega (arith, a.aside, a.in_sets, no_tracks_kept m.kept none)
+-- tracks are free, kept or in sets
+by_use : (m : MountedState) → AddsUp m →
+    all_tracks m.volume.tracks ≡ count_of Free m.volume.tracks + (tracks_in (extents_kept m.kept) + tracks_in (extents_of_all m.volume.sets))
+by_use m a = omega (arith, a.aside, a.in_sets)
 
 -- what is shown of the volume of a serial
 module _ (s : SharedStore) (shared : Shared) (shown : IsShown s shared) (serial : List ℕ) (o : Option MountedState) (e : mounted_in s.volumes serial ≡ o) where
@@ -68,8 +68,8 @@ module _ (s : SharedStore) (shared : Shared) (shown : IsShown s shared) (serial 
   free_is : shared.free serial ≡ free_tracks o
   free_is = shown.free serial ∙ ap free_tracks e
 
-  kept_is : kept_on shared.kept serial ≡ 0
-  kept_is = ap (λ kept. kept_on kept serial) shown.kept
+  kept_is : kept_on shared.kept serial ≡ sum_by (λ k. k.tracks) (kept_tracks o)
+  kept_is = ap (λ kept. kept_on kept serial) shown.kept ∙ ap (λ v. sum_by (λ k. k.tracks) (kept_tracks v)) e
 
 module _ (old new : SharedStore) (before after : Shared) (shown_old : IsShown old before) (shown_new : IsShown new after) (serial : List ℕ) where
   no_volume : mounted_in old.volumes serial ≡ None → mounted_in new.volumes serial ≡ None → IsConserved before after serial
@@ -97,9 +97,8 @@ module _ (old new : SharedStore) (before after : Shared) (shown_old : IsShown ol
         let p = not_among_both (keys m.volume.sets) (keys n.volume.sets) k (once-touches all_keys k t) in
         (not_among m.volume.sets k p.0, not_among n.volume.sets k p.1)
 
-    one_volume : room_of n ≡ room_of m → ((at : KeptPlace) → get m.kept at ≡ None) → ((at : KeptPlace) → get n.kept at ≡ None) → AddsUp m → AddsUp n →
-        IsConserved before after serial
-    one_volume r no_old no_new a b =
+    one_volume : room_of n ≡ room_of m → AddsUp m → AddsUp n → IsConserved before after serial
+    one_volume r a b =
         let rooms : all_tracks n.volume.tracks ≡ all_tracks m.volume.tracks = ap (λ (room : Room). room.all) r in
         let sum_old : sum_by (λ k. tracks_of (set_on (Some m) k)) (once all_keys) ≡ tracks_in (extents_of_all m.volume.sets) =
         sum_of_all (once all_keys) m.volume.sets (once-are_different all_keys) (λ k t. (nothing_in k t).0) in
@@ -113,27 +112,27 @@ module _ (old new : SharedStore) (before after : Shared) (shown_old : IsShown ol
               ∙ sym (set_is old before shown_old serial (Some m) e k ∙ ap (option_map data_of) (nothing_in k t).0);
           sum = sums (after.free serial) (kept_on after.kept serial) (used_by after.store serial (once all_keys))
               (before.free serial) (kept_on before.kept serial) (used_by before.store serial (once all_keys))
-              (count_of Free n.volume.tracks) (tracks_in (extents_of_all n.volume.sets)) (count_of Free m.volume.tracks) (tracks_in (extents_of_all m.volume.sets))
+              (count_of Free n.volume.tracks) (tracks_in (extents_kept n.kept)) (tracks_in (extents_of_all n.volume.sets))
+              (count_of Free m.volume.tracks) (tracks_in (extents_kept m.kept)) (tracks_in (extents_of_all m.volume.sets))
               (free_is new after shown_new serial (Some n) f)
-              (kept_is new after shown_new serial (Some n) f)
+              (kept_is new after shown_new serial (Some n) f ∙ sum_shown n)
               (used_is new after shown_new serial (Some n) f (once all_keys) ∙ sum_new)
               (free_is old before shown_old serial (Some m) e)
-              (kept_is old before shown_old serial (Some m) e)
+              (kept_is old before shown_old serial (Some m) e ∙ sum_shown m)
               (used_is old before shown_old serial (Some m) e (once all_keys) ∙ sum_old)
-              (sym (free_or_in_sets n b no_new) ∙ rooms ∙ free_or_in_sets m a no_old);
+              (sym (by_use n b) ∙ rooms ∙ by_use m a);
         }
 
   by_volume : (o p : Option MountedState) → mounted_in old.volumes serial ≡ o → mounted_in new.volumes serial ≡ p → option_map room_of p ≡ option_map room_of o →
-      NothingKept old → NothingKept new → VolumesAddUp old → VolumesAddUp new → IsConserved before after serial
-  by_volume None None e f r no_old no_new a b = no_volume e f
-  by_volume None (Some n) e f r no_old no_new a b = absurd (none-some (room_of n) (sym r))
-  by_volume (Some m) None e f r no_old no_new a b = absurd (none-some (room_of m) r)
-  by_volume (Some m) (Some n) e f r no_old no_new a b =
+      VolumesAddUp old → VolumesAddUp new → IsConserved before after serial
+  by_volume None None e f r a b = no_volume e f
+  by_volume None (Some n) e f r a b = absurd (none-some (room_of n) (sym r))
+  by_volume (Some m) None e f r a b = absurd (none-some (room_of m) r)
+  by_volume (Some m) (Some n) e f r a b =
       one_volume m n e f (same_Some (room_of n) (room_of m) r)
-      (λ at. sym (ap (λ v. kept_at v at) e) ∙ no_old serial at) (λ at. sym (ap (λ v. kept_at v at) f) ∙ no_new serial at)
       (found_in AddsUp old.volumes serial m a e) (found_in AddsUp new.volumes serial n b f)
 
 pub conserved : TracksAreConserved
-conserved old new before after a b no_old no_new rooms shown_old shown_new serial =
+conserved old new before after a b rooms shown_old shown_new serial =
     by_volume old new before after shown_old shown_new serial (mounted_in old.volumes serial) (mounted_in new.volumes serial) refl refl
-    (its_room new.volumes serial ∙ ap (λ r. room_in r serial) rooms ∙ sym (its_room old.volumes serial)) no_old no_new a b
+    (its_room new.volumes serial ∙ ap (λ r. room_in r serial) rooms ∙ sym (its_room old.volumes serial)) a b

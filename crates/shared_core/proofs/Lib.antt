@@ -4,10 +4,12 @@ mod Written
 mod CutSets
 mod Entries
 mod SeenSets
-mod Making
+pub mod Making
 mod OwnSets
 mod NoEntries
 mod Unkept
+pub mod Showing
+pub mod ShownLists
 mod SetTracks
 mod Conserving
 mod AddingUp

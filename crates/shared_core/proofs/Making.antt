@@ -18,7 +18,7 @@ use Rattle.shared_core.specs.Rooms.{holds_new, is_same_place}
 use Rattle.shared_core.specs.Writes.{KeepsOthersOn, WritesOn}
 use Rattle.shared_core.proofs.Written.{put_on, taken_all, used_all}
 
-same_place-true : (a b : KeptPlace) → is_same_place a b ≡ true → a ≡ b
+pub same_place-true : (a b : KeptPlace) → is_same_place a b ≡ true → a ≡ b
 same_place-true a b h =
     let p : (((a.job == b.job) && (a.step == b.step)) ≡ true) × ((a.dd == b.dd) ≡ true) = and_parts (a.job == b.job && a.step == b.step) (a.dd == b.dd) h in
     let q : ((a.job == b.job) ≡ true) × ((a.step == b.step) ≡ true) = and_parts (a.job == b.job) (a.step == b.step) p.0 in
@@ -27,7 +27,7 @@ same_place-true a b h =
     let d : a.dd ≡ b.dd = eqb-true a.dd b.dd p.1 in
     λ k. record { job = i k; step = s k; dd = d k }
 
-same_place-refl : (a : KeptPlace) → is_same_place a a ≡ true
+pub same_place-refl : (a : KeptPlace) → is_same_place a a ≡ true
 same_place-refl a =
     and_from (a.job == a.job && a.step == a.step) (a.dd == a.dd)
     (and_from (a.job == a.job) (a.step == a.step) (eq-eqb a.job a.job refl) (eq-eqb a.step a.step refl)) (eq-eqb a.dd a.dd refl)
@@ -39,7 +39,7 @@ both true false f g = sym (f refl)
 both false true f g = g refl
 both false false f g = refl
 
-same_in_order : (at place : KeptPlace) → eq_by_cmp place_cmp at place ≡ is_same_place at place
+pub same_in_order : (at place : KeptPlace) → eq_by_cmp place_cmp at place ≡ is_same_place at place
 same_in_order at place =
     both (eq_by_cmp place_cmp at place) (is_same_place at place)
     (λ h. subst (λ p. is_same_place at p ≡ true) (tied_equal at place h) (same_place-refl at))

@@ -1,19 +1,16 @@
 -- Where nothing is kept.
 use Rattle.std.proofs.Common.{◌≡◌, ℕ, ◌&&◌, Bool, true, false, cond, List, [], ◌∷◌, Option, Some, None, refl, ap, ◌∙◌}
 use Rattle.std.specs.FinMap.{empty, get, get-empty}
-use Rattle.std.specs.List.{All, flat_map}
+use Rattle.std.specs.List.{All}
 use Rattle.std.specs.Str.{bytes_eq}
 use Rattle.std.proofs.lemmas.List.Elements.{All-head, All-tail}
 use Rattle.extent_core.specs.declared.extent.Extent.{Extent}
 use Rattle.jcl_meaning.specs.declared.state.Place.{Place}
-use Rattle.vtoc_core.specs.Extents.{tracks_in}
 use Rattle.mount_core.specs.declared.place.KeptPlace.{KeptPlace}
-use Rattle.mount_core.specs.Kept.{Kept, extents_kept, place_cmp}
+use Rattle.mount_core.specs.Kept.{Kept, place_cmp}
 use Rattle.mount_core.specs.Mounts.{MountedState}
-use Rattle.mount_core.proofs.Places.{place_total, places_tie}
 use Rattle.shared_core.specs.Rooms.{is_same_place, kept_place, without_kept}
 use Rattle.shared_core.specs.Shown.{kept_extents, mounted_in}
-use Rattle.shared_core.proofs.NoEntries.{no_entries}
 
 none_out : (b : Bool) (x : Option (List Extent)) → x ≡ None → cond b None x ≡ None
 none_out true x h = refl
@@ -26,9 +23,6 @@ keeps_nothing job [] kept h serial at = h serial at
 keeps_nothing job (p ∷ places) kept h serial at =
     keeps_nothing job places (λ s a. cond (is_same_place a (kept_place job p) && bytes_eq s p.serial) None (kept s a))
     (λ s a. none_out (is_same_place a (kept_place job p) && bytes_eq s p.serial) (kept s a) (h s a)) serial at
-
-pub no_tracks_kept : (kept : Kept) → ((at : KeptPlace) → get kept at ≡ None) → tracks_in (extents_kept kept) ≡ 0
-no_tracks_kept kept h = ap (λ (es : List (KeptPlace × List Extent)). tracks_in (flat_map (λ e. e.1) es)) (no_entries place_total places_tie kept h)
 
 -- on volumes that are new nothing is kept
 first_or : (at : KeptPlace) (b : Bool) (m : MountedState) (o : Option MountedState) → get m.kept at ≡ None → kept_extents o at ≡ None → kept_extents (cond b (Some m) o) at ≡ None

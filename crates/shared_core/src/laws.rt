@@ -3,7 +3,7 @@ ghost use Rattle.std.specs.Prelude.{◌≡◌, ℕ};
 ghost use Rattle.std.specs.FinMap as map;
 ghost use Rattle.std.specs.List.{All};
 ghost use Rattle.world_meaning.specs.Lenses.{put_back, seen};
-ghost use Rattle.shared_core.specs.Laws.{NothingKeptStays, SetsOfOthersStay, TracksAreConserved};
+ghost use Rattle.shared_core.specs.Laws.{KeptIsSpent, NothingIsShown, NothingKeptStays, SetsOfOthersStay, TracksAreConserved};
 ghost use Rattle.shared_core.specs.Rooms.{others_of};
 ghost use Rattle.shared_core.specs.Shown.{world_store_of};
 ghost use Rattle.shared_core.specs.Tracks.{NothingKept};
@@ -24,9 +24,19 @@ pub fn new_volumes_keep_nothing()
     ensures { (s : SharedStore) → All (λ m. m.kept ≡ map.empty) s.volumes → NothingKept s }
 {}
 
+/// Where no tracks are kept none are shown.
+pub fn nothing_is_shown()
+    ensures { NothingIsShown }
+{}
+
 /// A job that makes sets keeps no tracks where none were kept.
 pub fn nothing_kept_stays()
     ensures { NothingKeptStays }
+{}
+
+/// A job that makes sets uses up the tracks that were kept for them, and no others.
+pub fn kept_is_spent()
+    ensures { KeptIsSpent }
 {}
 
 /// What free tracks lose sets gain, and the other way round.

@@ -1,5 +1,6 @@
 -- A job's turn as an event of the machine.
 use Rattle.std.proofs.Common.{◌≡◌, ℕ, ◌++◌, true, List, [], ◌∷◌, Some, refl, sym, ap, ◌∙◌, if◌then◌else◌}
+use Rattle.std.specs.Prelude.{filter}
 use Rattle.jcl_plan.specs.declared.entry.JobLine.{JobLine}
 use Rattle.machine_meaning.specs.Spools.{sets_of, with_sets}
 use Rattle.world_meaning.specs.Holdings.{cancels_without, released}
@@ -33,9 +34,12 @@ acts_advances c s r plan a grants before after new told free listing h assured c
     (machine_acts q.its_turn q.growth q.primary free q.advances assured q.goes h.goes_on refl left conserved on, refl)
 
 -- where nothing is made all that is kept stays
-all_kept : (job : ℕ) (kept : List Kept) → kept ≡ kept_unless_made kept job []
-all_kept job [] = refl
-all_kept job (k ∷ kept) = ap (λ l. k ∷ l) (all_kept job kept)
+all_there : (kept : List Kept) → kept ≡ filter (λ k. true) kept
+all_there [] = refl
+all_there (k ∷ kept) = ap (λ l. k ∷ l) (all_there kept)
+
+all_kept : (job : ℕ) (kept : List ℕ → List Kept) → kept ≡ kept_unless_made kept job []
+all_kept job kept = λ i serial. all_there (kept serial) i
 
 pub ends_advances : EndsAdvance
 ends_advances c s r plan a grants walk free listing h conserved =

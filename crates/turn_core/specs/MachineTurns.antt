@@ -65,7 +65,7 @@ ActsAdvance = (c : Config) (s : Shared) (r : Running) (plan : JobPlan) (a : Admi
     (a.assured ≡ true → h.acts.primary ≡ true) → Conserves s (shared_told s r.job new told free) →
     (g : Advances c s r plan a (count_at plan c.programs before.todo) before.course.own h.acts.its_turn.done.lines (shared_told s r.job new told free)
     (Some (running_told c r plan a after)))
-    × (choice_of_advance g ≡ AtAction r.job (has_cancel s.cancels r.job) a.fixed h.acts.its_turn h.acts.growth h.acts.primary)
+    × (choice_of_advance g ≡ AtAction r.job (has_cancel s.cancels r.job) a h.acts.its_turn h.acts.growth h.acts.primary)
 
 -- and so is the turn of its last line
 abbrev pub EndsAdvance : Type 0

@@ -80,7 +80,7 @@ may_fail_records c old r plan fixed told lines new runs (refused free b t n cons
 
 answered_records : (c : Config) (old : Shared) (r : Running) (plan : JobPlan) (fixed : Fixed) (lines : List JobLine) (new : Shared)
     (runs : Option Running) → Answered c old r plan fixed lines new runs → LeavesRecords c old r new runs
-answered_records c old r plan fixed lines new runs (assured kept free safe are t n conserved goes_on) = inl (ap (λ (s : Shared). s.records) n)
+answered_records c old r plan fixed lines new runs (assured places kept free safe are_made are others t n conserved goes_on) = inl (ap (λ (s : Shared). s.records) n)
 answered_records c old r plan fixed lines new runs (no_space serial there t n goes_on) = inl (ap (λ (s : Shared). s.records) n)
 answered_records c old r plan fixed lines new runs (risk fault step dd path meets m) = may_fail_records c old r plan fixed _ lines new runs m
 answered_records c old r plan fixed lines new runs (too_many step low high views m) = may_fail_records c old r plan fixed _ lines new runs m

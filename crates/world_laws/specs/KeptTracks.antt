@@ -1,15 +1,13 @@
 -- The tracks kept for a job.
-use Rattle.std.specs.Prelude.{◌≡◌, ◌≢◌, ◌==◌, ℕ, true, List, filter, All, Some}
+use Rattle.std.specs.Prelude.{◌≡◌, ◌≢◌, ℕ, true, List, All, Some}
 use Rattle.jcl_plan.specs.declared.entry.Entry.{Entry}
 use Rattle.world_meaning.specs.declared.event.Event.{Event}
 use Rattle.world_meaning.specs.Cancels.{RunsNot, is_admitted}
 use Rattle.world_meaning.specs.Readings.{Denoting}
 use Rattle.world_meaning.specs.Transitions.{Transition}
-use Rattle.world_meaning.specs.Worlds.{Initiator, IsAt, Kept, Running, World}
+use Rattle.world_meaning.specs.Tracks.{kept_of}
+use Rattle.world_meaning.specs.Worlds.{Initiator, IsAt, Running, World}
 use Rattle.world_laws.specs.Beside.{IsCancelOf, IsTurnOf}
-
-abbrev pub kept_for : ℕ → List Kept → List Kept
-kept_for job kept = filter (λ k. k.job == job) kept
 
 -- The event is no turn of the job, and does not end it: where it is cancelled it is admitted.
 pub record StaysOn (w : World) (e : Event) (job : ℕ) : Type 0 where
@@ -20,4 +18,4 @@ pub record StaysOn (w : World) (e : Event) (job : ℕ) : Type 0 where
 
 abbrev pub KeptStay : Type 0
 KeptStay = (job_of : Denoting) (old new : World) (e : Event) (lines : List Entry) (job : ℕ) → StaysOn old e job → Transition job_of old e lines new →
-    kept_for job new.shared.kept ≡ kept_for job old.shared.kept
+    (serial : List ℕ) → kept_of job new.shared.kept serial ≡ kept_of job old.shared.kept serial

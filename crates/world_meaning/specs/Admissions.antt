@@ -1,5 +1,5 @@
 -- A job whose names are held is admitted, waits for space, or is refused: ASSURED, WAIT SPACE, RISK, TOOMANY, UNCHECKED, REFUSED.
-use Rattle.std.specs.Prelude.{◌≡◌, ℕ, ◌≤◌, Bool, true, false, List, [], ◌∷◌, ◌++◌, length, Option, Some, None, sum_by, All}
+use Rattle.std.specs.Prelude.{◌≡◌, ℕ, ◌≤◌, Bool, true, false, ◌&&◌, ◌==◌, List, [], ◌∷◌, length, Option, Some, None, sum_by, All}
 use Rattle.std.specs.List.{Contains, list_any}
 use Rattle.jcl_plan.specs.declared.entry.JobLine.{JobLine}
 use Rattle.jcl_plan.specs.declared.entry.JobLine.TheVariants as line
@@ -12,15 +12,16 @@ use Rattle.jcl_meaning.specs.declared.state.Place.{Place}
 use Rattle.jcl_meaning.specs.Agendas.{budget_of}
 use Rattle.jcl_meaning.specs.Solo.{fixed_in, nothing_own}
 use Rattle.jcl_meaning.specs.States.{Fixed}
-use Rattle.jcl_meaning.specs.Stores.{Store}
 use Rattle.jcl_meaning.specs.Takes.{primary_of}
-use Rattle.path_meaning.specs.Paths.{HasMoreViews, IsSafe, Makes, MeetsFault}
+use Rattle.path_meaning.specs.Paths.{HasMoreViews, IsSafe, MeetsFault}
+use Rattle.path_meaning.specs.Verdicts.{AreMade}
 use Rattle.cb_meaning.specs.Writable.{kind_at}
 use Rattle.world_meaning.specs.Holdings.{released}
 use Rattle.world_meaning.specs.Lenses.{seen}
 use Rattle.world_meaning.specs.Placements.{ArePlaces}
-use Rattle.world_meaning.specs.Tracks.{Conserves, is_kept_for}
+use Rattle.world_meaning.specs.Tracks.{Conserves, is_kept_for, kept_of, kept_without}
 use Rattle.world_meaning.specs.Worlds.{Admitted, Config, Kept, Named, Running, Shared, going_on}
+use Rattle.plain.specs.Lists.{all_different}
 
 -- What is fixed for a job at its admission: where its sets are placed, what its keys mean in the store as it now sees it, and the date.
 abbrev pub fixed_at : Config → Shared → ℕ → JobPlan → List Place → Fixed
@@ -34,26 +35,26 @@ primary_asked (Some Dummy) = 0
 primary_asked (Some (Sysout class)) = 0
 primary_asked (Some (Cards cards)) = 0
 
-abbrev pub place_kept : Kept → Place
-place_kept k = record { step = k.step; dd = k.dd; serial = k.serial }
+-- the primary of the DD of a place, and of all these places
+abbrev pub asked_at : JobPlan → Place → ℕ
+asked_at plan p = primary_asked (kind_at plan.steps p.step p.dd)
 
-pub record IsFounded (fixed : Fixed) (plan : JobPlan) (store : Store) (job : ℕ) (k : Kept) : Type 0 where
-  pub of_job : k.job ≡ job
+abbrev pub tracks_asked : JobPlan → List Place → ℕ
+tracks_asked plan places = sum_by (asked_at plan) places
+
+-- what is kept on a volume is the primary of a DD, at one of these places
+pub record IsKeptAt (plan : JobPlan) (places : List Place) (serial : List ℕ) (k : Kept) : Type 0 where
   pub tracks : k.tracks ≡ primary_asked (kind_at plan.steps k.step k.dd)
-  pub made : Makes fixed plan store (place_kept k)
+  pub place : Contains places (record { step = k.step; dd = k.dd; serial = serial })
 
-abbrev pub AreDifferent : ℕ → List Kept → Type 0
-AreDifferent job [] = Unit {0}
-AreDifferent job (k ∷ ks) = All (λ other. is_kept_for job (place_kept k) other ≡ false) ks × AreDifferent job ks
+abbrev pub is_same_dd : Kept → Kept → Bool
+is_same_dd a b = a.step == b.step && a.dd == b.dd
 
--- the primary of every DD is kept on each volume where some path makes its set, and nothing else
-pub record AreKept (fixed : Fixed) (plan : JobPlan) (store : Store) (job : ℕ) (kept : List Kept) : Type 0 where
-  pub founded : All (IsFounded fixed plan store job) kept
-  pub all : (p : Place) → Makes fixed plan store p → list_any (is_kept_for job p) kept ≡ true
-  pub once : AreDifferent job kept
-
-abbrev pub tracks_kept : List Kept → ℕ
-tracks_kept kept = sum_by (λ k. k.tracks) kept
+-- For a job the primary is kept at each of these places, each once and nothing else.
+pub record AreKept (plan : JobPlan) (job : ℕ) (places : List Place) (kept : List ℕ → List Kept) : Type 0 where
+  pub founded : (serial : List ℕ) → All (IsKeptAt plan places serial) (kept_of job kept serial)
+  pub all : (p : Place) → Contains places p → list_any (is_kept_for job p p.serial) (kept p.serial) ≡ true
+  pub once : (serial : List ℕ) → all_different is_same_dd (kept_of job kept serial) ≡ true
 
 -- some DD is for a set
 abbrev pub is_for_set : DdKind → Bool
@@ -75,13 +76,14 @@ pub data MayFail (c : Config) (old : Shared) (r : Running) (plan : JobPlan) (fix
   refused : (free : List ℕ → ℕ) → c.refuses ≡ true → lines ≡ told ∷ line.Refused ∷ [] → new ≡ released c old r.job free → Conserves old new → runs ≡ None →
       MayFail c old r plan fixed told lines new runs
 
--- ASSURED t TRACKS b ACTIONS, WAIT SPACE serial, RISK Fn STEP s DD d PATH p, TOOMANY STEP s; and UNCHECKED of a job that names a set, as long as
--- nothing analyses it
+-- ASSURED t TRACKS b ACTIONS: no path meets a fault, and the primary of every DD is kept on each volume where some path makes its set. WAIT SPACE serial,
+-- RISK Fn STEP s DD d PATH p, TOOMANY STEP s; and UNCHECKED of a job that names a set, as long as nothing analyses it.
 pub data Answered (c : Config) (old : Shared) (r : Running) (plan : JobPlan) (fixed : Fixed)
     (lines : List JobLine) (new : Shared) (runs : Option Running) : Type 0 where
-  assured : (kept : List Kept) (free : List ℕ → ℕ) → IsSafe fixed plan (seen r.job old.store) → AreKept fixed plan (seen r.job old.store) r.job kept →
-      lines ≡ line.Assured (tracks_kept kept) (budget_of plan c.programs) ∷ [] →
-      new ≡ record old { kept = old.kept ++ kept; free = free } → Conserves old new →
+  assured : (made : List Place) (kept : List ℕ → List Kept) (free : List ℕ → ℕ) → IsSafe fixed plan (seen r.job old.store) →
+      AreMade fixed plan (seen r.job old.store) made → AreKept plan r.job made kept → kept_without kept r.job ≡ old.kept →
+      lines ≡ line.Assured (tracks_asked plan made) (budget_of plan c.programs) ∷ [] →
+      new ≡ record old { kept = kept; free = free } → Conserves old new →
       runs ≡ admitted r lines plan fixed true → Answered c old r plan fixed lines new runs
   no_space : (serial : List ℕ) → Contains c.volumes serial → lines ≡ line.WaitSpace serial ∷ [] → new ≡ old → runs ≡ going_on r lines (Named plan) →
       Answered c old r plan fixed lines new runs

@@ -5,7 +5,6 @@ use Rattle.jcl_plan.specs.declared.entry.JobLine.{JobLine}
 use Rattle.jcl_plan.specs.declared.plan.JobPlan.{JobPlan}
 use Rattle.jcl_meaning.specs.declared.state.Own.{Own}
 use Rattle.jcl_meaning.specs.declared.state.Place.{Place}
-use Rattle.jcl_meaning.specs.States.{Fixed}
 use Rattle.world_meaning.specs.declared.event.Event.{Event}
 use Rattle.world_meaning.specs.declared.event.Event.TheVariants as event
 use Rattle.world_meaning.specs.Readings.{Denoting}
@@ -19,13 +18,13 @@ use Rattle.world_meaning.specs.Worlds.{Admission, Admitted, Config, Initiator, N
 pub data Choice : Type 0 where
   Closed : Choice
   AtAdmission : ℕ → JobPlan → List Place → List JobLine → Choice
-  AtAction : ℕ → Bool → Fixed → Advanced → Bool → Bool → Choice
+  AtAction : ℕ → Bool → Admission → Advanced → Bool → Bool → Choice
 
 abbrev pub choice_of_advance : {c : Config} {old : Shared} {r : Running} {plan : JobPlan} {a : Admission} {count : ℕ} {own : Own}
     {lines : List JobLine} {new : Shared} {runs : Option Running} → Advances c old r plan a count own lines new runs → Choice
 choice_of_advance (turn.waits x growth primary advances waits told same stays) = Closed
 choice_of_advance {old = old} {r = r} {a = a} (turn.acts x growth primary free advances granted goes on told left conserved runs) =
-    AtAction r.job (has_cancel old.cancels r.job) a.fixed x growth primary
+    AtAction r.job (has_cancel old.cancels r.job) a x growth primary
 choice_of_advance (turn.ends x growth primary free advances granted goes over told left conserved runs) = Closed
 
 abbrev pub choice_of_going : (c : Config) (old : Shared) (r : Running) (stage : Stage) (lines : List JobLine) (new : Shared) (runs : Option Running) →

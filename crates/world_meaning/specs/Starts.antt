@@ -1,5 +1,5 @@
 -- The machine of a configuration, before its first event.
-use Rattle.std.specs.Prelude.{◌≡◌, ◌≢◌, ℕ, ◌<◌, ◌≤◌, ◌==◌, true, false, List, [], ◌∷◌, length, map, None, All}
+use Rattle.std.specs.Prelude.{◌≡◌, ℕ, ◌<◌, ◌≤◌, ◌==◌, true, false, List, [], ◌∷◌, length, map, None, All}
 use Rattle.std.specs.List.{list_any}
 use Rattle.jcl_meaning.specs.WellFormed.{AreWellFormedPrograms}
 use Rattle.vtoc_core.specs.declared.entry.SetKey.TheVariants as world
@@ -21,7 +21,7 @@ pub record IsWellFormed (w : WorldStore) : Type 0 where
 
 -- nothing is selected, held, kept, under way or spooled
 pub record IsUnused (s : Shared) : Type 0 where
-  pub kept : s.kept ≡ []
+  pub kept : (serial : List ℕ) → s.kept serial ≡ []
   pub holds : s.holds ≡ []
   pub operations : s.operations ≡ []
   pub cancels : s.cancels ≡ []

@@ -1,5 +1,5 @@
 -- The tracks of a volume: free, kept, and in sets. What one of these loses another gains.
-use Rattle.std.specs.Prelude.{◌≡◌, ℕ, ◌+◌, Bool, true, false, not, ◌&&◌, ◌==◌, List, [], ◌∷◌, filter, sum_by, Option, Some, None, if◌then◌else◌}
+use Rattle.std.specs.Prelude.{◌≡◌, ℕ, ◌+◌, Bool, true, false, not, ◌&&◌, ◌==◌, List, filter, sum_by, Option, Some, None}
 use Rattle.std.specs.List.{list_any}
 use Rattle.std.specs.Str.{bytes_eq}
 use Rattle.vtoc_core.specs.declared.entry.SetKey.{SetKey}
@@ -19,8 +19,8 @@ abbrev pub used_by : WorldStore → List ℕ → List SetKey → ℕ
 used_by w serial keys = sum_by (λ k. tracks_of (w.set k serial)) keys
 
 -- the tracks kept on a volume
-abbrev pub kept_on : List Kept → List ℕ → ℕ
-kept_on kept serial = sum_by (λ k. if bytes_eq k.serial serial then k.tracks else 0) kept
+abbrev pub kept_on : (List ℕ → List Kept) → List ℕ → ℕ
+kept_on kept serial = sum_by (λ k. k.tracks) (kept serial)
 
 abbrev pub is_touched : List SetKey → SetKey → Bool
 is_touched keys k = list_any (same_key k) keys
@@ -36,12 +36,15 @@ pub record IsConserved (old new : Shared) (serial : List ℕ) : Type 0 where
 abbrev pub Conserves : Shared → Shared → Type 0
 Conserves old new = (serial : List ℕ) → IsConserved old new serial
 
--- the tracks that are kept for others than a job, and for others than a DD of it on a volume
-abbrev pub kept_without : List Kept → ℕ → List Kept
-kept_without kept job = filter (λ k. not (k.job == job)) kept
+-- what is kept for a job, for others than a job, and for others than the DDs of it that made these sets
+abbrev pub kept_of : ℕ → (List ℕ → List Kept) → List ℕ → List Kept
+kept_of job kept serial = filter (λ k. k.job == job) (kept serial)
 
-abbrev pub is_kept_for : ℕ → Place → Kept → Bool
-is_kept_for job p k = k.job == job && k.step == p.step && k.dd == p.dd && bytes_eq k.serial p.serial
+abbrev pub kept_without : (List ℕ → List Kept) → ℕ → List ℕ → List Kept
+kept_without kept job serial = filter (λ k. not (k.job == job)) (kept serial)
 
-abbrev pub kept_unless_made : List Kept → ℕ → List Place → List Kept
-kept_unless_made kept job made = filter (λ k. not (list_any (λ p. is_kept_for job p k) made)) kept
+abbrev pub is_kept_for : ℕ → Place → List ℕ → Kept → Bool
+is_kept_for job p serial k = k.job == job && k.step == p.step && k.dd == p.dd && bytes_eq serial p.serial
+
+abbrev pub kept_unless_made : (List ℕ → List Kept) → ℕ → List Place → List ℕ → List Kept
+kept_unless_made kept job made serial = filter (λ k. not (list_any (λ p. is_kept_for job p serial k) made)) (kept serial)

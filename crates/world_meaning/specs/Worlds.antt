@@ -24,20 +24,19 @@ pub record Config : Type 0 where
   pub refuses : Bool
   pub most_views : ℕ
 
--- tracks that are kept for the set that a DD of a job is to make on a volume
+-- tracks that are kept on a volume for the set that a DD of a job is to make there
 pub record Kept : Type 0 where
   pub job : ℕ
   pub step : ℕ
   pub dd : ℕ
-  pub serial : List ℕ
   pub tracks : ℕ
 
--- what all jobs change: sets and catalog, each volume's free tracks, tracks that are kept, the records of the queue, the names that are held,
--- operations under way, jobs whose cancel has not acted yet, what the writers have to write, and the date
+-- what all jobs change: sets and catalog, each volume's free tracks, and what is kept on it, each for one DD of a job; the records of the queue, the
+-- names that are held, operations under way, jobs whose cancel has not acted yet, what the writers have to write, and the date
 pub record Shared : Type 0 where
   pub store : WorldStore
   pub free : List ℕ → ℕ
-  pub kept : List Kept
+  pub kept : List ℕ → List Kept
   pub records : Records
   pub holds : List Hold
   pub operations : List Operation

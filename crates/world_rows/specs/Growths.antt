@@ -38,13 +38,17 @@ no_sets = record { set = λ k v. None; catalog = λ n. None }
 
 -- ten of eleven tracks are kept for the first job
 abbrev pub of_another : Kept
-of_another = record { job = 1; step = 2; dd = 1; serial = serial; tracks = 10 }
+of_another = record { job = 1; step = 2; dd = 1; tracks = 10 }
+
+-- on the one volume that the machine has
+abbrev pub kept_there : List Kept → List ℕ → List Kept
+kept_there kept v = kept
 
 abbrev pub bare : World
 bare = machine (growing ∷ []) no_sets 1 None (Some (stands_at 2 grower fixed 1 (record nothing_own { runs = true })))
 
 abbrev pub start : World
-start = record bare { shared = record bare.shared { kept = of_another ∷ [] } }
+start = record bare { shared = record bare.shared { kept = kept_there (of_another ∷ []) } }
 
 abbrev pub turns : List Did
 turns =

@@ -102,7 +102,7 @@ abbrev pub shared_with : WorldStore → ℕ → Shared
 shared_with store free = record {
   store = store;
   free = free_tracks free;
-  kept = [];
+  kept = λ v. [];
   records = record { at = λ n. []; free = 1 ∷ 2 ∷ 3 ∷ 4 ∷ 5 ∷ 6 ∷ 7 ∷ 8 ∷ [] };
   holds = [];
   operations = [];

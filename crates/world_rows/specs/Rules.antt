@@ -24,7 +24,7 @@ use Rattle.world_meaning.specs.Records.{with_record}
 use Rattle.world_meaning.specs.Tracks.{kept_on}
 use Rattle.world_rows.specs.Devices as devices
 use Rattle.world_rows.specs.Generations as generations
-use Rattle.world_rows.specs.Growths.{no_sets, of_another}
+use Rattle.world_rows.specs.Growths.{kept_there, no_sets, of_another}
 use Rattle.world_rows.specs.Machines.{dd_with, few_records, fixed_with, free_tracks, serial, set_of, shared_set, store_with}
 use Rattle.world_rows.specs.Zaps.{records}
 use Rattle.cb_meaning.specs.Fields.{with_part}
@@ -87,8 +87,8 @@ pub record ZapsComeBefore : Type 0 where
 
 -- Kept tracks are one job's: once another has made its set of them, no number of tracks is left that the first may take ten of.
 pub record TracksAreKeptForOne : Type 0 where
-  pub kept : kept_on (of_another ∷ []) serial ≡ 10
-  pub left : (n : ℕ) → n + 10 ≡ free_tracks 1 serial + kept_on [] serial → ⊥
+  pub kept : kept_on (kept_there (of_another ∷ [])) serial ≡ 10
+  pub left : (n : ℕ) → n + 10 ≡ free_tracks 1 serial + kept_on (kept_there []) serial → ⊥
 
 -- A job that waits holds no name: two that hold what they could get would wait for one another for ever.
 abbrev pub holds_one_each : List Hold
