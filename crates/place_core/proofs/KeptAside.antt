@@ -14,25 +14,31 @@ use Rattle.mount_core.specs.Kept.{place_cmp}
 use Rattle.mount_core.specs.Mounts.{MountedState, kept_given_back, kept_for}
 use Rattle.mount_core.proofs.KeptMaps.{get_inserted, remove-insert, tied_equal}
 use Rattle.mount_core.proofs.Places.{place_total}
+use Rattle.place_core.specs.Keepings.{keep_on}
 use Rattle.place_core.specs.Volumes.{aside_by, aside_on, back_on, has_room}
 
 module _ (at : KeptPlace) (n : ℕ) (m : MountedState) where
   abbrev free_here : List Extent
   free_here = free_extents m.volume.tracks
 
-  -- tracks that are planned are set aside
-  pub aside_is : 0 < n → (list : List Extent) → planned free_here n ≡ Some list → aside_on at n m ≡ kept_for m at list
-  aside_is l list p =
-      ap (λ b. cond b m (aside_by (planned free_here n) at m)) (false_from_ne_true (n == 0) (λ h. omega (arith, l, eqb-true n 0 h)))
-      ∙ ap (λ o. aside_by o at m) p
-
-  pub room_is : (list : List Extent) → planned free_here n ≡ Some list → has_room n (Some m) ≡ true
-  room_is list p = le-leb n (five_largest free_here) (planned_some free_here n list p)
-
   -- where there is no room for them nothing changes
   no_plan : (o : Option (List Extent)) → planned free_here n ≡ o → five_largest free_here < n → aside_by o at m ≡ m
   no_plan None p l = refl
   no_plan (Some list) p l = absurd (omega (arith, l, planned_some free_here n list p))
+
+  -- tracks that are planned are kept
+  pub keep_is : (list : List Extent) → planned free_here n ≡ Some list → keep_on at n m ≡ kept_for m at list
+  keep_is list p = ap (λ o. aside_by o at m) p
+
+  pub keep_not : five_largest free_here < n → keep_on at n m ≡ m
+  keep_not l = no_plan (planned free_here n) refl l
+
+  -- some tracks set aside are kept
+  pub aside_keeps : 0 < n → aside_on at n m ≡ keep_on at n m
+  aside_keeps l = ap (λ b. cond b m (aside_by (planned free_here n) at m)) (false_from_ne_true (n == 0) (λ h. omega (arith, l, eqb-true n 0 h)))
+
+  pub room_is : (list : List Extent) → planned free_here n ≡ Some list → has_room n (Some m) ≡ true
+  room_is list p = le-leb n (five_largest free_here) (planned_some free_here n list p)
 
   either : (b : Bool) (x : MountedState) → x ≡ m → cond b m x ≡ m
   either true x h = refl
@@ -56,6 +62,9 @@ module _ (at : KeptPlace) (n : ℕ) (m : MountedState) where
   serial_if true x h = refl
   serial_if false x h = h
 
+  pub keep_serial : (keep_on at n m).serial ≡ m.serial
+  keep_serial = serial_by (planned free_here n)
+
   pub serial_stays : (aside_on at n m).serial ≡ m.serial
   serial_stays = serial_if (n == 0) (aside_by (planned free_here n) at m) (serial_by (planned free_here n))
 
@@ -73,6 +82,9 @@ module _ (at : KeptPlace) (n : ℕ) (m : MountedState) where
       marked_back Aside Free list m.volume.tracks (planned_is m.volume.tracks n list p).free in
       ap (λ o. kept_given_back o (kept_for m at list) at) (get_inserted m.kept at list)
       ∙ (λ i. record { serial = m.serial; volume = record { tracks = tracks i; sets = m.volume.sets }; kept = remove-insert m.kept at list none i })
+
+  pub keep_back : get m.kept at ≡ None → back_on at (keep_on at n m) ≡ m
+  keep_back none = back_by none (planned free_here n) refl
 
   back_if : (b : Bool) (x : MountedState) → Returns m → Returns x → Returns (cond b m x)
   back_if true x h k = h

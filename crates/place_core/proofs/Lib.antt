@@ -4,3 +4,8 @@ mod KeptAside
 mod Choosing
 mod Undoing
 mod Configured
+mod Pairwise
+mod GivenBack
+mod KeptOn
+mod KeepingOn
+mod KeptAll

@@ -1,2 +1,3 @@
 pub mod Volumes
 pub mod Placings
+pub mod Keepings

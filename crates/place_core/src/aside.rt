@@ -2,6 +2,7 @@
 ghost use Rattle.std.specs.Prelude.{◌≡◌, ℕ, ◌<◌, None, true, IsErr, IfNone, IfOk, IfSome, OnErr, OnOk};
 ghost use Rattle.shared_core.specs.Rooms.{kept_place};
 ghost use Rattle.shared_core.specs.Shown.{kept_extents, mounted_in};
+ghost use Rattle.place_core.specs.Keepings.{keep_on};
 ghost use Rattle.place_core.specs.Placings.{chosen};
 ghost use Rattle.place_core.specs.Volumes.{IsClear, IsMissing, StandsAt, all_back, aside_at, aside_on, back_on, changed_on, has_room};
 
@@ -21,6 +22,29 @@ fn place_of(volumes: &[Mounted], serial: Serial) -> Option<usize>
     position_of(volumes, serial)
 }
 
+/// Keeps tracks at a place on the volume of a serial if it has room for them, and tells whether it has. An `Err` changes nothing.
+pub(crate) fn keep_at(
+    volumes: &mut [Mounted],
+    serial: Serial,
+    at: KeptPlace,
+    tracks: u16,
+) -> Result<bool, AllocError>
+    requires { kept_extents (mounted_in volumes.old serial) at ≡ None }
+    ensures room { IfOk result (λ room. room ≡ has_room tracks (mounted_in volumes.old serial)) }
+    ensures ok { OnOk result (volumes.new ≡ changed_on (keep_on at tracks) serial volumes.old) }
+    ensures memory { IsErr result → has_room tracks (mounted_in volumes.old serial) ≡ true }
+    ensures err { OnErr result (volumes.new ≡ volumes.old) }
+{
+    let Some(place) = place_of(volumes, serial) else {
+        return Ok(false);
+    };
+    match volumes[place].keep(at, tracks) {
+        Ok(()) => Ok(true),
+        Err(VolumeFault::NoSpace) => Ok(false),
+        Err(_) => Err(AllocError),
+    }
+}
+
 /// Sets tracks aside on the volume of a serial if it has room for them, and tells whether it has. An `Err` changes nothing.
 fn set_aside(
     volumes: &mut [Mounted],
@@ -35,14 +59,7 @@ fn set_aside(
     ensures memory { IsErr result → has_room tracks (mounted_in volumes.old serial) ≡ true }
     ensures err { OnErr result (volumes.new ≡ volumes.old) }
 {
-    let Some(place) = place_of(volumes, serial) else {
-        return Ok(false);
-    };
-    match volumes[place].keep(at, tracks) {
-        Ok(()) => Ok(true),
-        Err(VolumeFault::NoSpace) => Ok(false),
-        Err(_) => Err(AllocError),
-    }
+    keep_at(volumes, serial, at, tracks)
 }
 
 /// Sets tracks aside on the first of these volumes that has room for them, and tells which that is, or else the first. An `Err` changes nothing.
@@ -78,7 +95,7 @@ pub(crate) fn give_back(volumes: &mut [Mounted], serial: Serial, at: &KeptPlace)
 }
 
 /// The place at which tracks are set aside for a set of a job.
-fn kept_place(job: u16, place: &Place) -> KeptPlace
+pub(crate) fn kept_place(job: u16, place: &Place) -> KeptPlace
     ensures { result ≡ kept_place job place.now }
 {
     KeptPlace {

@@ -2,6 +2,7 @@
 #![tactic(auto)]
 
 mod aside;
+pub mod keep;
 pub mod laws;
 pub mod place;
 mod rule;

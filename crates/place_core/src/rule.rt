@@ -1,10 +1,11 @@
 //! On which volumes a DD's set may be placed.
-ghost use Rattle.std.specs.Prelude.{◌≡◌};
+ghost use Rattle.std.specs.Prelude.{◌≡◌, Some};
 ghost use Rattle.jcl_meaning.specs.Takes.{primary_of};
+ghost use Rattle.world_meaning.specs.Admissions.{primary_asked};
 ghost use Rattle.world_meaning.specs.Placements.{places};
 ghost use Rattle.world_meaning.specs.Placements.{unit_volumes};
 
-use jcl_plan::plan::{Space, Status, VolumePlan};
+use jcl_plan::plan::{DdKind, Space, Status, VolumePlan};
 use jname_core::serial::Serial;
 use plain::listed::Listed;
 
@@ -49,5 +50,17 @@ pub(crate) fn primary_of(space: &Option<Space>) -> u16
     match space {
         None => 0,
         Some(space) => space.primary,
+    }
+}
+
+/// The primary that a DD asks for.
+pub(crate) fn primary_asked(kind: &DdKind) -> u16
+    ensures { result ≡ primary_asked (Some kind.now) }
+{
+    match kind {
+        DdKind::Set(plan) => primary_of(&plan.space),
+        DdKind::Sysout(_) => 0,
+        DdKind::Dummy => 0,
+        DdKind::Cards(_) => 0,
     }
 }

@@ -1,22 +1,10 @@
-use Rattle.std.proofs.Common.{Err, get_or, slice_set, sym, ap, ◌∙◌}
-use Rattle.place_core.specs.Volumes.{aside_on}
-use Rattle.place_core.proofs.KeptAside.{aside_is, aside_not}
+use Rattle.std.proofs.Common.{◌≡◌, List, OnOk, subst, sym}
+use Rattle.mount_core.specs.Mounts.{MountedState}
+use Rattle.place_core.specs.Volumes.{changed_on}
+use Rattle.place_core.proofs.KeptAside.{aside_keeps}
 use Rattle.place_core.proofs.aside.set_aside.Goals as goal
 
-pub returns-in-Ok-clause-ok : goal.returns-in-Ok-clause-ok
-returns-in-Ok-clause-ok c =
-    let m = c.index-volumes-place.result in
-    let x = get_or c.args.volumes.now c.in-Some.place m in
-    let k = c.in-Ok.ensures.ok in
-    ap (slice_set c.args.volumes.now c.in-Some.place)
-    (k.2 ∙ sym (aside_is c.args.at c.args.tracks x c.requires.some k.0 k.1))
-    ∙ sym (c.in-Some.ensures.there.changed (aside_on c.args.at c.args.tracks) m)
-
-pub returns-in-Err-NoSpace-clause-ok : goal.returns-in-Err-NoSpace-clause-ok
-returns-in-Err-NoSpace-clause-ok c =
-    let m = c.index-volumes-place.result in
-    let x = get_or c.args.volumes.now c.in-Some.place m in
-    let full = (c.in-Err-NoSpace.ensures.space.0 (ap Err c.in-Err-NoSpace.field-0-is)).1 in
-    ap (slice_set c.args.volumes.now c.in-Some.place)
-    (c.in-Err-NoSpace.ensures.err ∙ sym (aside_not c.args.at c.args.tracks x full))
-    ∙ sym (c.in-Some.ensures.there.changed (aside_on c.args.at c.args.tracks) m)
+pub returns-clause-ok : goal.returns-clause-ok
+returns-clause-ok c =
+    subst (λ (v : List MountedState). OnOk c.keep_at.result (c.keep_at.new.volumes ≡ v))
+    (λ i. changed_on (λ m. sym (aside_keeps c.args.at c.args.tracks m c.requires.some) i) c.args.serial c.args.volumes.now) c.keep_at.ensures.ok

@@ -1,0 +1,22 @@
+use Rattle.std.proofs.Common.{Err, get_or, slice_set, sym, ap, ◌∙◌}
+use Rattle.place_core.specs.Keepings.{keep_on}
+use Rattle.place_core.proofs.KeptAside.{keep_is, keep_not}
+use Rattle.place_core.proofs.aside.keep_at.Goals as goal
+
+pub returns-in-Ok-clause-ok : goal.returns-in-Ok-clause-ok
+returns-in-Ok-clause-ok c =
+    let m = c.index-volumes-place.result in
+    let x = get_or c.args.volumes.now c.in-Some.place m in
+    let k = c.in-Ok.ensures.ok in
+    ap (slice_set c.args.volumes.now c.in-Some.place)
+    (k.2 ∙ sym (keep_is c.args.at c.args.tracks x k.0 k.1))
+    ∙ sym (c.in-Some.ensures.there.changed (keep_on c.args.at c.args.tracks) m)
+
+pub returns-in-Err-NoSpace-clause-ok : goal.returns-in-Err-NoSpace-clause-ok
+returns-in-Err-NoSpace-clause-ok c =
+    let m = c.index-volumes-place.result in
+    let x = get_or c.args.volumes.now c.in-Some.place m in
+    let full = (c.in-Err-NoSpace.ensures.space.0 (ap Err c.in-Err-NoSpace.field-0-is)).1 in
+    ap (slice_set c.args.volumes.now c.in-Some.place)
+    (c.in-Err-NoSpace.ensures.err ∙ sym (keep_not c.args.at c.args.tracks x full))
+    ∙ sym (c.in-Some.ensures.there.changed (keep_on c.args.at c.args.tracks) m)
