@@ -1,0 +1,3 @@
+mod SameActs
+mod SameTurns
+mod Granted
