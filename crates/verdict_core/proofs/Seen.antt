@@ -1,0 +1,47 @@
+-- What may become of a job on a copy of what it sees may become of it in the store.
+use Rattle.std.proofs.Common.{◌≡◌, ℕ, List, [], refl, subst, sym}
+use Rattle.std.specs.Prelude.{Err, IfOk, Ok, Result}
+use Rattle.jcl_plan.specs.declared.plan.JobPlan.{JobPlan}
+use Rattle.jcl_meaning.specs.declared.names.HeldName.{HeldName}
+use Rattle.jcl_meaning.specs.declared.state.KeyMeaning.{KeyMeaning}
+use Rattle.jcl_meaning.specs.declared.state.Place.{Place}
+use Rattle.jcl_meaning.specs.Names.{names_of}
+use Rattle.jcl_meaning.specs.Solo.{fixed_in, fixed_with}
+use Rattle.jcl_meaning.specs.Stores.{Store}
+use Rattle.jcl_meaning.specs.WellFormed.{IsWellFormedPlan}
+use Rattle.part_core.specs.Parts.{ShowsEntries, ShowsSets}
+use Rattle.part_laws.specs.Keeping.{HasSoundGroups}
+use Rattle.part_laws.specs.PartLaws.{StartFits}
+use Rattle.path_search.specs.Verdicts.{IsVerdict}
+use Rattle.path_search.specs.declared.verdict.Verdict.{Verdict}
+use Rattle.path_search.specs.declared.verdict.Verdict.TheVariants.{Risk, Safe, TooMany}
+use Rattle.start_laws.specs.Starts.{EarliestIsSeen, FirstWithMoreIsSeen, FreeIsSeen, IsAnalysed, MeaningsAreSeen, SeesSame}
+
+module _ (means : MeaningsAreSeen) (free : FreeIsSeen) (earliest : EarliestIsSeen) (first : FirstWithMoreIsSeen) (starts : StartFits) (plan : JobPlan)
+    (s t : Store) (date limit : ℕ) (formed : IsWellFormedPlan plan) (groups : HasSoundGroups s) where
+  module _ (volumes : List (List ℕ)) (places : List Place) (sets : ShowsSets (names_of plan) s t) (entries : ShowsEntries (names_of plan) s t) where
+    same : SeesSame plan date t s
+    same = record { sets = λ key serial. sym (sets key serial date); catalog = λ name. sym (entries name) }
+
+    analysed : IsAnalysed (fixed_in volumes s plan places date) plan
+    analysed = record { tests = refl; fits = starts plan [] s formed groups }
+
+    in_store : (v : Verdict) → IsVerdict (fixed_in volumes s plan places date) plan t limit v → IsVerdict (fixed_in volumes s plan places date) plan s limit v
+    in_store (Safe made) h = free (fixed_in volumes s plan places date) plan t s limit made.items analysed same h
+    in_store (Risk report) h =
+        earliest (fixed_in volumes s plan places date) plan t s limit report.fault report.step report.dd report.path.items analysed same h
+    in_store (TooMany step) h = first (fixed_in volumes s plan places date) plan t s limit step analysed same h
+
+    seen_so : (v : Verdict) → IsVerdict (fixed_in volumes t plan places date) plan t limit v → IsVerdict (fixed_in volumes s plan places date) plan s limit v
+    seen_so v h =
+        in_store v (subst (λ (meanings : List KeyMeaning). IsVerdict (fixed_with volumes plan places meanings date) plan t limit v) (means plan date t s same) h)
+
+  -- with what the code found: these names, a copy of the places, and the volumes of the copy
+  pub judged : {E : Type 0} (names : List HeldName) (volumes its_volumes : List (List ℕ)) (places its_places : List Place) → names ≡ names_of plan →
+      its_volumes ≡ volumes → its_places ≡ places → ShowsSets names s t → ShowsEntries names s t → (r : Result Verdict E) →
+      IfOk r (IsVerdict (fixed_in its_volumes t plan its_places date) plan t limit) → IfOk r (IsVerdict (fixed_in volumes s plan places date) plan s limit)
+  judged names volumes its_volumes places its_places of_plan on at sets entries (Ok v) h =
+      seen_so volumes places (subst (λ ns. ShowsSets ns s t) of_plan sets) (subst (λ ns. ShowsEntries ns s t) of_plan entries) v
+      (subst (λ (ps : List Place). IsVerdict (fixed_in volumes t plan ps date) plan t limit v) at
+      (subst (λ vs. IsVerdict (fixed_in vs t plan its_places date) plan t limit v) on h))
+  judged names volumes its_volumes places its_places of_plan on at sets entries (Err e) h = h

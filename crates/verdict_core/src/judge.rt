@@ -1,0 +1,62 @@
+//! A job before its admission.
+ghost use Rattle.std.specs.Prelude.{◌≡◌, IfOk};
+ghost use Rattle.jcl_meaning.specs.WellFormed.{IsWellFormedPlan};
+ghost use Rattle.part_laws.specs.Keeping.{HasSoundGroups};
+ghost use Rattle.place_core.specs.Placings.{NothingKeptFor};
+ghost use Rattle.shared_core.specs.Shown.{world_store_of};
+ghost use Rattle.world_meaning.specs.Lenses.{seen};
+ghost use Rattle.verdict_core.specs.Judging.{IsJudged};
+
+use crate::verdict::verdict_in;
+use disp_core::resolve::meanings_of;
+use jcl_meaning::state::{KeyMeaning, Place};
+use jcl_plan::day::Day;
+use jcl_plan::plan::JobPlan;
+use jname_core::serial::Serial;
+use path_search::verdict::Verdict;
+use place_core::place::place_sets;
+use plain::listed::Listed;
+use shared_core::store::SharedStore;
+use std::alloc::{AllocError, Global};
+
+/// Where a job's sets are placed, what its keys mean, and what may become of it so.
+#[derive(Drop)]
+pub struct Judged {
+    pub places: Listed<Place>,
+    pub meanings: Listed<KeyMeaning>,
+    pub verdict: Verdict,
+}
+
+/// Places a job's sets and tells what may become of it so, on a date, with this many views behind a step at most. The store is as it was.
+pub fn judge(
+    alloc: Global,
+    store: &mut SharedStore,
+    job: u16,
+    plan: &JobPlan,
+    units: &[Listed<Serial>],
+    date: Day,
+    most_views: usize,
+) -> Result<Judged, AllocError>
+    requires none { NothingKeptFor job store.old }
+    requires plan { IsWellFormedPlan plan.now }
+    requires groups { HasSoundGroups (seen job (world_store_of store.old)) }
+    ensures judged { IfOk result (IsJudged store.old units.now job plan.now date most_views) }
+    ensures store { store.new ≡ store.old }
+{
+    let places = place_sets(alloc, store, job, plan, units)?;
+    let meanings = meanings_of(alloc, plan, &*store, job)?;
+    let verdict = verdict_in(
+        alloc,
+        &*store,
+        job,
+        plan,
+        places.as_slice(),
+        date,
+        most_views,
+    )?;
+    Ok(Judged {
+        places,
+        meanings,
+        verdict,
+    })
+}

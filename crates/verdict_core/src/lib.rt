@@ -1,0 +1,6 @@
+//! What may become of a job in the store of all jobs, before it is admitted. (This profile)
+#![tactic(auto)]
+
+pub mod judge;
+pub mod tracks;
+pub mod verdict;
