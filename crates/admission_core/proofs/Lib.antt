@@ -1,1 +1,3 @@
-pub mod Admitting
+mod Apart
+mod Answering
+mod Refused

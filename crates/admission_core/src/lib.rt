@@ -1,6 +1,6 @@
-//! A job whose names are held is admitted: its budget, what its keys mean, and what is answered. (This profile)
+//! A job whose names are held is admitted, or waits for space. (This profile)
 #![tactic(auto)]
 
 pub mod admission;
+pub mod admit;
 pub mod budget;
-pub mod sets;

@@ -1,5 +1,5 @@
 -- A turn of an admitted job is the machine's case.
-use Rattle.std.proofs.Common.{◌≡◌, ◌≢◌, ℕ, suc, ◌≤◌, Bool, true, false, not, cond, List, [], ◌∷◌, ◌++◌, All, drop, map, Option, Some, None, length, refl, sym, ap, ◌∙◌, subst}
+use Rattle.std.proofs.Common.{◌≡◌, ◌≢◌, ℕ, suc, ◌≤◌, Bool, true, false, cond, arith, List, [], ◌∷◌, ◌++◌, All, drop, map, Option, Some, None, length, refl, sym, ap, ◌∙◌, subst}
 use Rattle.std.specs.Prelude.{IfOk, IfSome, OnErr, OnOk, Result, Ok, Err}
 use Rattle.std.specs.List.{Contains}
 use Rattle.std.proofs.lemmas.List.Elements.{All-append, All-cons, All-head, All-nil, All-tail}
@@ -10,29 +10,31 @@ use Rattle.jcl_plan.specs.declared.plan.JobPlan.{JobPlan}
 use Rattle.cb_queue.specs.RecordQueues.{RecordQueue}
 use Rattle.prog_core.specs.declared.units.Operation.{Operation}
 use Rattle.prog_core.specs.Operations.{IsRoomFor, OneEach, is_owner, without_owner}
-use Rattle.jcl_meaning.specs.NoSets.{HasNoSets}
+use Rattle.jcl_meaning.specs.Names.{names_of}
 use Rattle.machine_meaning.specs.Spools.{sets_of, with_sets}
-use Rattle.world_meaning.specs.Admissions.{names_a_set}
 use Rattle.world_meaning.specs.Choices.{choice_of_advance}
 use Rattle.world_meaning.specs.Holdings.{cancels_without, released}
-use Rattle.world_meaning.specs.Lenses.{WorldStore, seen}
+use Rattle.world_meaning.specs.Lenses.{seen}
 use Rattle.world_meaning.specs.Records.{Reopened}
+use Rattle.world_meaning.specs.Tracks.{Conserves}
 use Rattle.world_meaning.specs.Turns.{Advances, has_cancel}
 use Rattle.world_meaning.specs.Worlds as world
 use Rattle.world_meaning.specs.Worlds.{Config, Shared}
-use Rattle.world_meaning.proofs.Conserved.{conserved_same}
 use Rattle.world_meaning.proofs.Following.{unopened}
 use Rattle.world_meaning.proofs.JobLens.{put_same}
-use Rattle.shared_core.specs.Shown.{world_store_of}
+use Rattle.shared_core.specs.Shown.{mounted_in, world_store_of}
 use Rattle.shared_core.specs.Tracks.{free_on}
 use Rattle.shared_core.specs.declared.store.SharedStore.{SharedStore}
 use Rattle.turn_core.specs.MachineTurns.{ActsAdvance, EndsAdvance, WaitsAdvance, shared_ended, shared_told}
 use Rattle.turn_core.specs.Standing.{JobActs, JobEnds, TellsJob, count_at, undone}
-use Rattle.turn_core.specs.TurnLaws.{FewLines, NoneRefused}
+use Rattle.turn_core.specs.Performing.{StoreAnswers, primary_by}
+use Rattle.turn_core.specs.TurnLaws.{FewLines}
 use Rattle.turn_core.specs.Turning.{Around, Waits, operations_by}
 use Rattle.turn_core.specs.declared.walk.Acted.{Acted}
 use Rattle.turn_core.specs.declared.walk.Turned.{Turned}
 use Rattle.turn_core.specs.declared.walk.Walk.{Walk}
+use Rattle.disp_core.specs.Grants.{made_of}
+use Rattle.grant_laws.specs.Granted.{GrantedTurns, GrantsAll, with_primaries}
 use Rattle.admission_core.specs.declared.admission.Admission.{Admission}
 use Rattle.admit_core.proofs.Wanted.{releasing_leaves, releasing_leaves_none}
 use Rattle.machine_core.specs.declared.parts.Parts.{Parts}
@@ -42,18 +44,22 @@ use Rattle.init_core.specs.declared.running.Progress.{Progress}
 use Rattle.init_core.specs.declared.running.Progress.TheVariants.{GoesOn, Over}
 use Rattle.init_core.specs.declared.running.Running.{Running}
 use Rattle.init_core.specs.declared.running.Stage.TheVariants as stage
-use Rattle.init_core.specs.Choosing.{IsChosenByVolumes}
+use Rattle.init_core.specs.Choosing.{IsChosenByVolumes, IsGrantedByVolumes}
 use Rattle.init_core.specs.Going.{Went}
+use Rattle.init_core.specs.Providing.{IsForAction}
 use Rattle.init_core.specs.Running.{AreOn, IsAt, IsGood, config_of, shown_admission, shown_running}
 use Rattle.init_core.specs.Turning.{IsEnded, IsWritten, answers_of, around_in, with_spool}
+use Rattle.init_core.proofs.Covering.{granted}
 use Rattle.init_core.proofs.Reading.{good_again}
 use Rattle.init_core.proofs.Rooms.{known_on, room_if, stand_on}
 use Rattle.init_core.proofs.Volumes.{IsOnOne, StandOn, acted_on}
 use Rattle.init_core.proofs.Wanting.{lines_behind, none_told, nothing_behind, one_told}
 
-not_so : (b : Bool) → not b ≡ true → b ≡ false
-not_so true e = absurd cc
-not_so false e = refl
+clash : false ≡ true → ⊥
+clash e = absurd cc
+
+one_more : {m n : ℕ} → m ≤ suc n → m ≤ suc (suc n)
+one_more h = omega (arith, h)
 
 -- operations stay on configured volumes
 not_owned : (job : ℕ) (o : Operation) (b : Bool) → (cond b (record { serial = o.serial; owner = None }) o).serial ≡ o.serial
@@ -93,6 +99,9 @@ module _ {Q : Type 0} (queue_of : Q → RecordQueue) (profile : Profile) (p : Pa
   abbrev pub its_around : Around
   its_around = around_in profile p.units job plan a (has_cancel p.cancels job) p.store
 
+  abbrev pub answered_by : StoreAnswers → Around
+  answered_by grants = record its_around { grants = grants }
+
   abbrev pub from : ℕ
   from = length walk.course.lines
 
@@ -102,7 +111,7 @@ module _ {Q : Type 0} (queue_of : Q → RecordQueue) (profile : Profile) (p : Pa
 
   -- with what is open in it as the volumes decide it
   abbrev pub chosen_to : List JobLine → Shared → Option world.Running → Type 0
-  chosen_to lines new runs = (g : advances_to lines new runs) × IsChosenByVolumes c p.store (choice_of_advance g)
+  chosen_to lines new runs = (g : advances_to lines new runs) × IsChosenByVolumes c p.store p.date (choice_of_advance g)
 
   pub told_as : (st : SharedStore) (after : Walk) (cancelled : Bool) (told same : Turned) → cancelled ≡ has_cancel p.cancels job → told ≡ same →
       TellsJob (around_in profile p.units job plan a cancelled p.store) plan (seen job (world_store_of p.store)) walk (seen job (world_store_of st)) after told →
@@ -134,7 +143,7 @@ module _ {Q : Type 0} (queue_of : Q → RecordQueue) (profile : Profile) (p : Pa
         let goes : chosen_to (drop from walk.course.lines) (shown queue_of p) (Some (shown_running c its)) =
         subst (λ ls. chosen_to ls (shown queue_of p) (Some (shown_running c its)))
         (sym (lines_behind walk.course.lines walk.course.lines [] (sym (nothing_behind walk.course.lines))))
-        (here.0, subst (IsChosenByVolumes c p.store) (sym here.1) tt) in
+        (here.0, subst (IsChosenByVolumes c p.store p.date) (sym here.1) tt) in
         subst (λ x. Went queue_of c p its (record p { store = st }) (GoesOn (at_walk x) from)) (sym same)
         (subst (λ x. Went queue_of c p its (record p { store = x }) (GoesOn (at_walk walk) from)) (sym is) (record {
           middle = shown queue_of p;
@@ -143,35 +152,36 @@ module _ {Q : Type 0} (queue_of : Q → RecordQueue) (profile : Profile) (p : Pa
           chosen = goes.1;
           few = none_told (drop from walk.course.lines) (length walk.course.own.dds)
               (lines_behind walk.course.lines walk.course.lines [] (sym (nothing_behind walk.course.lines)));
+          once = tt;
           good = g;
           left = record { same = refl; ready = record { some = some; at = at } };
           rest = record { waiting = refl; others = λ other apart none. none };
         }))
 
-    module _ (st : SharedStore) (after : Walk) (told : Acted) (is : IsWritten job p.store st)
-        (t : JobActs its_around plan (seen job (world_store_of p.store)) (seen job (world_store_of st)) walk after told) where
+    module _ (st : SharedStore) (after : Walk) (told : Acted) (is : IsWritten job (made_of told.made) p.store st) where
       abbrev pub told_free : List ℕ → ℕ
       told_free = λ serial. free_on st.volumes serial
 
       abbrev pub told_shared : Shared
       told_shared = shared_told (shown queue_of p) job (seen job (world_store_of st)) told told_free
 
-      pub acted : ActsAdvance → FewLines → (a.assured ≡ true → t.acts.primary ≡ true) → IfSome told.starts (λ serial. Contains c.volumes serial) →
-          IsAt c p.names job after (stage.Admitted plan held a) →
+      -- with the answers of a store, of which what is open in it is known
+      pub acted : ActsAdvance → FewLines → (grants : StoreAnswers)
+          (t : JobActs (answered_by grants) plan (seen job (world_store_of p.store)) (seen job (world_store_of st)) walk after told) →
+          (a.assured ≡ true → t.acts.primary ≡ true) →
+          IsGrantedByVolumes p.store job (has_cancel p.cancels job) (shown_admission c plan a) t.acts.its_turn t.acts.growth t.acts.primary →
+          IfSome told.starts (λ serial. Contains c.volumes serial) → IsAt c p.names job after (stage.Admitted plan held a) →
           (units : List Operation) (cancels : List ℕ) → units ≡ operations_by p.units job told.starts told.cancelled →
           cancels ≡ cond told.cancelled (cancels_without p.cancels job) p.cancels →
           Went queue_of c p its (record p { store = st; units = units; cancels = cancels }) (GoesOn (at_walk after) from)
-      acted law short granted on there units cancels us cs =
-          let here = law c (shown queue_of p) (shown_running c its) plan (shown_admission c plan a) (answers_of job p.store) walk after (seen job (world_store_of st)) told told_free refl t granted
-          (is.conserves (shown queue_of p) told_shared (record { store = refl; free = λ v. refl; kept = sym is.none_shown })
-          (record { store = sym is.world; free = λ v. refl; kept = sym is.none_shown_now })) in
+      acted law short grants t granted by_volumes on there units cancels us cs =
+          let here = law c (shown queue_of p) (shown_running c its) plan (shown_admission c plan a) grants walk after (seen job (world_store_of st)) told told_free refl t granted
+          (is.conserves (shown queue_of p) told_shared (record { store = refl; free = λ v. refl; kept = refl })
+          (record { store = sym is.world; free = λ v. refl; kept = sym is.kept })) in
           let goes : chosen_to (drop from after.course.lines) told_shared (Some (shown_running c (at_walk after))) =
           subst (λ ls. chosen_to ls told_shared (Some (shown_running c (at_walk after))))
-          (sym (lines_behind walk.course.lines after.course.lines t.acts.its_turn.done.lines t.acts.lines)) (
-            here.0,
-            subst (IsChosenByVolumes c p.store) (sym here.1)
-                (record { growth_answered = t.acts.growth_answered; primary_answered = t.acts.primary_answered }),
-          ) in
+          (sym (lines_behind walk.course.lines after.course.lines t.acts.its_turn.done.lines t.acts.lines))
+          (here.0, subst (IsChosenByVolumes c p.store p.date) (sym here.1) by_volumes) in
           record {
             middle = told_shared;
             goes = goes.0;
@@ -179,16 +189,18 @@ module _ {Q : Type 0} (queue_of : Q → RecordQueue) (profile : Profile) (p : Pa
                 (λ i. record (shown queue_of p) {
                   store = sym is.world i;
                   free = told_free;
+                  kept = sym is.kept i;
                   operations = sym us i;
                   cancels = sym cs i;
                 })
                 (unopened c.layout told_shared);
             chosen = goes.1;
-            few = subst (λ (ls : List JobLine). length ls ≤ suc (length walk.course.own.dds))
+            few = one_more
+                (subst (λ (ls : List JobLine). length ls ≤ suc (length walk.course.own.dds))
                 (sym (lines_behind walk.course.lines after.course.lines t.acts.its_turn.done.lines t.acts.lines))
-                (short its_around plan (seen job (world_store_of p.store)) (seen job (world_store_of st)) walk after told t);
+                (short (answered_by grants) plan (seen job (world_store_of p.store)) (seen job (world_store_of st)) walk after told t));
+            once = tt;
             good = record {
-              kept = is.kept;
               volumes = is.volumes ∙ g.volumes;
               layout = g.layout;
               fields = g.fields;
@@ -205,27 +217,32 @@ module _ {Q : Type 0} (queue_of : Q → RecordQueue) (profile : Profile) (p : Pa
       mid = with_spool job walk plan p
 
       abbrev pub ended_shared : Shared
-      ended_shared = shared_ended c (shown queue_of p) job plan walk.course.lines walk.course.own.outputs (shown queue_of p).free
+      ended_shared = shared_ended c (shown queue_of p) job plan walk.course.lines walk.course.own.outputs (shown queue_of new).free
 
-      released_there : released c (shown queue_of mid) job (shown queue_of mid).free ≡ ended_shared
+      released_there : released c (shown queue_of mid) job (shown queue_of new).free ≡ ended_shared
       released_there = λ i. released c (record (shown queue_of p) {
         store = sym (put_same job (world_store_of p.store)) i;
         spool = with_sets p.spool (sets_of job plan.message_class (walk.course.lines ++ line.End ∷ []) walk.course.own.outputs);
-      }) job (shown queue_of p).free
+      }) job (shown queue_of new).free
+
+      conserved_there : Conserves (shown queue_of p) (released c (shown queue_of mid) job (shown queue_of new).free)
+      conserved_there serial =
+          let h = (e.released c refl).conserves serial in record { touched = h.touched; once = h.once; others = h.others; sum = h.sum }
 
       back_good : IsGood queue_of c mid
-      back_good = record { kept = g.kept; volumes = g.volumes; layout = g.layout; fields = g.fields; operations = g.operations; few = g.few }
+      back_good = record { volumes = g.volumes; layout = g.layout; fields = g.fields; operations = g.operations; few = g.few }
 
-      pub ended : EndsAdvance → JobEnds its_around plan (seen job (world_store_of p.store)) walk → Went queue_of c p its new (Over line.End)
+      pub ended : EndsAdvance → JobEnds its_around plan (seen job (world_store_of p.store)) walk → Went queue_of c p its new (Over None line.End)
       ended law h =
-          let here = law c (shown queue_of p) (shown_running c its) plan (shown_admission c plan a) (answers_of job p.store) walk (shown queue_of p).free refl h
-          (conserved_same (shown queue_of p) ended_shared (ap (λ (w : WorldStore). w.set) (put_same job (world_store_of p.store))) refl refl) in
+          let here = law c (shown queue_of p) (shown_running c its) plan (shown_admission c plan a) (answers_of job p.store) walk (shown queue_of new).free refl h
+          (subst (λ s. Conserves (shown queue_of p) s) released_there conserved_there) in
           record {
             middle = ended_shared;
             goes = here.0;
             reopened = subst (λ s. Reopened c.layout s (shown queue_of new)) released_there (e.released c refl).reopened;
-            chosen = subst (IsChosenByVolumes c p.store) (sym here.1) tt;
+            chosen = subst (IsChosenByVolumes c p.store p.date) (sym here.1) tt;
             few = one_told (line.End ∷ []) line.End (length walk.course.own.dds) refl;
+            once = tt;
             good = good_again queue_of c job mid new e.back back_good;
             left = subst (λ hs. HoldsNone hs job) (sym e.back.names) (releasing_leaves_none p.names job);
             rest = record {
@@ -235,7 +252,7 @@ module _ {Q : Type 0} (queue_of : Q → RecordQueue) (profile : Profile) (p : Pa
           }
 
     pub ended_by : (r : Result Progress Running) (st : SharedStore) (after : Walk) → st ≡ p.store → (new : Parts Q) → after ≡ walk →
-        IfOk r (λ came. came ≡ Over line.End) → OnOk r (IsEnded queue_of job after plan (record p { store = st }) new) → EndsAdvance →
+        IfOk r (λ came. came ≡ Over None line.End) → OnOk r (IsEnded queue_of job after plan (record p { store = st }) new) → EndsAdvance →
         JobEnds its_around plan (seen job (world_store_of p.store)) walk → IfOk r (Went queue_of c p its new)
     ended_by (Ok came) st after is new same over e law h =
         subst (Went queue_of c p its new) (sym over)
@@ -245,16 +262,46 @@ module _ {Q : Type 0} (queue_of : Q → RecordQueue) (profile : Profile) (p : Pa
         law h)
     ended_by (Err back) st after is new same over e law h = tt
 
-    pub acted_so : (st : SharedStore) (after : Walk) (told : Acted) (is : IsWritten job p.store st)
-        (t : JobActs its_around plan (seen job (world_store_of p.store)) (seen job (world_store_of st)) walk after told) → ActsAdvance → FewLines → NoneRefused →
-        ((plan : JobPlan) → names_a_set plan ≡ false → HasNoSets plan) →
-        (units : List Operation) (cancels : List ℕ) → units ≡ operations_by p.units job told.starts told.cancelled →
-        cancels ≡ cond told.cancelled (cancels_without p.cancels job) p.cancels →
-        Went queue_of c p its (record p { store = st; units = units; cancels = cancels }) (GoesOn (at_walk after) from)
-    acted_so st after told is t law short refused setless units cancels us cs =
-        acted st after told is t law short
-        (λ e. refused its_around plan (seen job (world_store_of p.store)) (seen job (world_store_of st)) walk after told
-        (setless plan (not_so (names_a_set plan) (sym at.1.unless_set ∙ e))) t)
-        (moved_on st after told t).1
-        (at.0, record { stands = t.stands; unless_set = at.1.unless_set; on = (moved_on st after told t).0 })
-        units cancels us cs
+    -- the store grants each primary of an assured job
+    all_granted : IsForAction queue_of c p job plan a walk → GrantsAll its_around plan (seen job (world_store_of p.store)) walk
+    all_granted provided place key may sees =
+        granted plan job place (names_of plan) key (mounted_in p.store.volumes place.serial) sees (provided.covered place may)
+
+    module _ (st : SharedStore) (after : Walk) (told : Acted) (is : IsWritten job (made_of told.made) p.store st)
+        (t : JobActs its_around plan (seen job (world_store_of p.store)) (seen job (world_store_of st)) walk after told) (law : ActsAdvance) (short : FewLines)
+        (units : List Operation) (cancels : List ℕ) (us : units ≡ operations_by p.units job told.starts told.cancelled)
+        (cs : cancels ≡ cond told.cancelled (cancels_without p.cancels job) p.cancels) where
+      abbrev behind_it : Type 0
+      behind_it = Went queue_of c p its (record p { store = st; units = units; cancels = cancels }) (GoesOn (at_walk after) from)
+
+      stays_at : IsAt c p.names job after (stage.Admitted plan held a)
+      stays_at = (at.0, record { stands = t.stands; on = (moved_on st after told t).0 })
+
+      with_checks : a.assured ≡ false → behind_it
+      with_checks e =
+          acted st after told is law short its_around.grants t (λ so. absurd (clash (sym e ∙ so)))
+          (record {
+            growth_answered = t.acts.growth_answered;
+            primary_answered = t.acts.primary_answered ∙ (λ i. cond (sym e i) true
+                (primary_by its_around.grants.new its_around.fixed t.acts.its_turn.action t.acts.its_turn.before.store t.acts.its_turn.before.own));
+          })
+          (moved_on st after told t).1 stays_at units cancels us cs
+
+      assured_so : GrantedTurns → IsForAction queue_of c p job plan a walk → a.assured ≡ true → behind_it
+      assured_so grants provided e =
+          let h = grants its_around plan (seen job (world_store_of p.store)) (seen job (world_store_of st)) walk after told provided.programs provided.fits
+          (all_granted provided) t in
+          acted st after told is law short (with_primaries its_around).grants h.0 (λ so. h.1)
+          (record {
+            growth_answered = h.0.acts.growth_answered;
+            primary_answered = h.1 ∙ (λ i. cond (sym e i) true
+                (primary_by its_around.grants.new its_around.fixed h.0.acts.its_turn.action h.0.acts.its_turn.before.store h.0.acts.its_turn.before.own));
+          })
+          (moved_on st after told t).1 stays_at units cancels us cs
+
+      by_admission : (b : Bool) → a.assured ≡ b → GrantedTurns → (a.assured ≡ true → IsForAction queue_of c p job plan a walk) → behind_it
+      by_admission true e grants provided = assured_so grants (provided e) e
+      by_admission false e grants provided = with_checks e
+
+      pub acted_so : GrantedTurns → (a.assured ≡ true → IsForAction queue_of c p job plan a walk) → behind_it
+      acted_so grants provided = by_admission a.assured refl grants provided

@@ -1,5 +1,5 @@
 -- A selected job's turn is the machine's case.
-use Rattle.std.proofs.Common.{◌≡◌, ℕ, List, ◌∷◌, [], All, Option, Some, length, refl, sym, ap, ◌∙◌, subst}
+use Rattle.std.proofs.Common.{◌≡◌, ℕ, List, ◌∷◌, [], All, Option, Some, None, length, refl, sym, ap, ◌∙◌, subst}
 use Rattle.std.specs.List.{Contains}
 use Rattle.enq_core.specs.declared.table.Want.{Want}
 use Rattle.enq_core.specs.Holds.{HoldsNone}
@@ -12,9 +12,7 @@ use Rattle.cb_queue.specs.RecordQueues.{RecordQueue}
 use Rattle.world_meaning.specs.Holdings.{Holds, blocked, broken, held as holding, read as reading, released}
 use Rattle.world_meaning.specs.Worlds as world
 use Rattle.world_meaning.specs.Worlds.{Config, Shared}
-use Rattle.shared_core.specs.Tracks.{NothingKept}
 use Rattle.turn_core.specs.declared.walk.Walk.{Walk}
-use Rattle.place_core.specs.Placings.{serials_of}
 use Rattle.admit_core.proofs.Wanted.{releasing_leaves, releasing_leaves_none}
 use Rattle.machine_core.specs.declared.parts.Parts.{Parts}
 use Rattle.machine_core.specs.Released.{GivesBack, IsReleased}
@@ -26,6 +24,7 @@ use Rattle.init_core.specs.declared.running.Stage.TheVariants as stage
 use Rattle.init_core.specs.Finding.{IsDenoted}
 use Rattle.init_core.specs.Going.{Went}
 use Rattle.init_core.specs.Running.{IsGood, config_of}
+use Rattle.init_core.proofs.Serials.{same_serials}
 use Rattle.init_core.proofs.Wanting.{one_told}
 
 -- the names are held in the same way, however far the initiator is
@@ -37,8 +36,7 @@ holds_for old new job listing s t plan lines runs (blocked by first told is on) 
 -- what a job gave back leaves the parts good
 pub good_again : {Q : Type 0} (queue_of : Q → RecordQueue) (c : Config) (job : ℕ) (old new : Parts Q) → GivesBack queue_of job old new → IsGood queue_of c old → IsGood queue_of c new
 good_again queue_of c job old new b g = record {
-  kept = subst NothingKept (sym b.store) g.kept;
-  volumes = ap (λ s. serials_of s.volumes) b.store ∙ g.volumes;
+  volumes = same_serials old.store.volumes new.store.volumes b.store.rooms ∙ g.volumes;
   layout = b.records.layout ∙ g.layout;
   fields = g.fields;
   operations = subst (λ os. All (λ o. Contains c.volumes o.serial) os) (sym b.units) g.operations;
@@ -51,13 +49,14 @@ module _ {Q : Type 0} (queue_of : Q → RecordQueue) (profile : Profile) (old ne
   c = config_of profile (queue_of old.queue).layout
 
   pub broke : (n : ℕ) → first_fault c.layout (length c.units) (queue.shown (queue_of old.queue)) job first ≡ Some n → GivesBack queue_of job old new →
-      IsReleased queue_of c job old new → Went queue_of c old (record { job = job; walk = walk; stage = stage.Selected first }) new (Over (line.Broken n))
+      IsReleased queue_of c job old new → Went queue_of c old (record { job = job; walk = walk; stage = stage.Selected first }) new (Over None (line.Broken n))
   broke n fault b r = record {
-    middle = released c (shown queue_of old) job (shown queue_of old).free;
-    goes = broken n (shown queue_of old).free fault refl refl r.conserves refl;
+    middle = released c (shown queue_of old) job (shown queue_of new).free;
+    goes = broken n (shown queue_of new).free fault refl refl r.conserves refl;
     reopened = r.reopened;
     chosen = tt;
     few = one_told (line.Broken n ∷ []) (line.Broken n) (length walk.course.own.dds) refl;
+    once = tt;
     good = good_again queue_of c job old new b g;
     left = subst (λ hs. HoldsNone hs job) (sym b.names) (releasing_leaves_none old.names job);
     rest = record {
@@ -76,6 +75,7 @@ module _ {Q : Type 0} (queue_of : Q → RecordQueue) (profile : Profile) (old ne
     reopened = w.reopened;
     chosen = tt;
     few = w.few;
+    once = tt;
     good = w.good;
     left = w.left;
     rest = w.rest;

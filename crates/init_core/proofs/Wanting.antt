@@ -61,20 +61,20 @@ pub listing_told : (before after more : List JobLine) → after ≡ before ++ mo
 listing_told before after more e = e ∙ ap (λ xs. before ++ xs) (sym (lines_behind before after more e))
 
 -- one line at most
-pub one_at_most : (lines : List JobLine) (n : ℕ) → length lines ≤ 1 → length lines ≤ suc n
+pub one_at_most : (lines : List JobLine) (n : ℕ) → length lines ≤ 1 → length lines ≤ suc (suc n)
 one_at_most lines n one = omega arith
 
-pub one_told : (lines : List JobLine) (line : JobLine) (n : ℕ) → lines ≡ line ∷ [] → length lines ≤ suc n
+pub one_told : (lines : List JobLine) (line : JobLine) (n : ℕ) → lines ≡ line ∷ [] → length lines ≤ suc (suc n)
 one_told lines line n e = one_at_most lines n (subst (λ (ls : List JobLine). length ls ≤ 1) (sym e) (omega arith))
 
-pub none_told : (lines : List JobLine) (n : ℕ) → lines ≡ [] → length lines ≤ suc n
+pub none_told : (lines : List JobLine) (n : ℕ) → lines ≡ [] → length lines ≤ suc (suc n)
 none_told lines n e = one_at_most lines n (subst (λ (ls : List JobLine). length ls ≤ 1) (sym e) (omega arith))
 
 abbrev pub with_lines : Walk → List JobLine → Walk
 with_lines walk lines = record { todo = walk.todo; course = record { own = walk.course.own; lines = lines } }
 
 pub still_good : {Q : Type 0} (queue_of : Q → RecordQueue) (c : Config) (p : Parts Q) (names : List Hold) → IsGood queue_of c p → IsGood queue_of c (record p { names = names })
-still_good queue_of c p names g = record { kept = g.kept; volumes = g.volumes; layout = g.layout; fields = g.fields; operations = g.operations; few = g.few }
+still_good queue_of c p names g = record { volumes = g.volumes; layout = g.layout; fields = g.fields; operations = g.operations; few = g.few }
 
 module _ {Q : Type 0} (queue_of : Q → RecordQueue) (c : Config) (p : Parts Q) (names : List Hold) (job : ℕ) (walk : Walk) (lines : List JobLine) (plan : JobPlan) (wants : List Want)
     (some : job ≢ 0) (none : HoldsNone p.names job) (are : wants ≡ wants_of plan) (g : IsGood queue_of c p) where
@@ -105,6 +105,7 @@ module _ {Q : Type 0} (queue_of : Q → RecordQueue) (c : Config) (p : Parts Q) 
     reopened = unopened c.layout (shown queue_of new);
     chosen = tt;
     few = one_told told _ (length walk.course.own.dds) (lines_behind walk.course.lines lines _ w.told);
+    once = tt;
     good = still_good queue_of c p names g;
     left = record { same = refl; ready = record { some = some; at = w.for_job } };
     rest = record {
@@ -122,6 +123,7 @@ module _ {Q : Type 0} (queue_of : Q → RecordQueue) (c : Config) (p : Parts Q) 
     reopened = unopened c.layout (shown queue_of new);
     chosen = tt;
     few = one_told told _ (length walk.course.own.dds) (lines_behind walk.course.lines lines _ w.told);
+    once = tt;
     good = still_good queue_of c p names g;
     left = record { same = refl; ready = record { some = some; at = (subst (λ hs. HoldsNone hs job) (sym w.same) none, are) } };
     rest = record {

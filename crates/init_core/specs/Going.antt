@@ -11,7 +11,10 @@ use Rattle.world_meaning.specs.Worlds.{Config, Shared}
 use Rattle.machine_core.specs.declared.parts.Parts.{Parts}
 use Rattle.machine_core.specs.Shown.{shown}
 use Rattle.init_core.specs.declared.running.Progress.{Progress}
+use Rattle.init_core.specs.declared.running.Progress.TheVariants.{GoesOn}
 use Rattle.init_core.specs.declared.running.Running.{Running}
+use Rattle.init_core.specs.declared.running.Stage.{Stage}
+use Rattle.init_core.specs.declared.running.Stage.TheVariants.{Named}
 use Rattle.init_core.specs.Choosing.{IsChosenByVolumes}
 use Rattle.init_core.specs.Running.{IsGood, IsReady, lines_told, runs_after, shown_running}
 
@@ -23,6 +26,11 @@ pub record IsOn (c : Config) (holds : List Hold) (job : ℕ) (r : Running) : Typ
 abbrev pub IsLeft : Config → List Hold → ℕ → Option Running → Type 0
 IsLeft c holds job None = HoldsNone holds job
 IsLeft c holds job (Some r) = IsOn c holds job r
+
+-- a job that is answered is told of with its answer
+abbrev pub IsToldOnce : Stage → Progress → Type 0
+IsToldOnce (Named plan held) (GoesOn r from) = ⊥
+IsToldOnce stage came = Unit {0}
 
 -- what stays as it was in the queue, and of the holds of other jobs
 pub record LeavesRest {Q : Type 0} (queue_of : Q → RecordQueue) (job : ℕ) (old new : Parts Q) : Type 0 where
@@ -36,9 +44,10 @@ pub record Went {Q : Type 0} (queue_of : Q → RecordQueue) (c : Config) (old : 
   pub goes : world.GoesOn c (shown queue_of old) (shown_running c r) (shown_running c r).stage (lines_told came) middle
       (option_map (shown_running c) (runs_after came))
   pub reopened : Reopened c.layout middle (shown queue_of new)
-  pub chosen : IsChosenByVolumes c old.store (choice_of_going c (shown queue_of old) (shown_running c r) (shown_running c r).stage (lines_told came) middle
+  pub chosen : IsChosenByVolumes c old.store old.date (choice_of_going c (shown queue_of old) (shown_running c r) (shown_running c r).stage (lines_told came) middle
       (option_map (shown_running c) (runs_after came)) goes)
-  pub few : length (lines_told came) ≤ suc (length r.walk.course.own.dds)
+  pub few : length (lines_told came) ≤ suc (suc (length r.walk.course.own.dds))
+  pub once : IsToldOnce r.stage came
   pub good : IsGood queue_of c new
   pub left : IsLeft c new.names r.job (runs_after came)
   pub rest : LeavesRest queue_of r.job old new

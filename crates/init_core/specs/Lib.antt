@@ -4,3 +4,5 @@ pub mod Naming
 pub mod Going
 pub mod Turning
 pub mod Choosing
+pub mod Providing
+pub mod Answering

@@ -1,5 +1,5 @@
 -- A job at an initiator, as the machine's definitions have it.
-use Rattle.std.specs.Prelude.{◌≡◌, ◌≢◌, ℕ, ◌≤◌, List, [], ◌∷◌, drop, length, not, Option, Some, None, All}
+use Rattle.std.specs.Prelude.{◌≡◌, ◌≢◌, ℕ, ◌≤◌, List, [], ◌∷◌, ◌++◌, drop, length, Option, Some, None, All}
 use Rattle.std.specs.List.{Contains}
 use Rattle.jcl_plan.specs.declared.plan.JobPlan.{JobPlan}
 use Rattle.enq_core.specs.declared.table.Hold.{Hold}
@@ -10,11 +10,9 @@ use Rattle.jcl_meaning.specs.declared.state.TakenSet.{TakenSet}
 use Rattle.cb_meaning.specs.declared.layout.Layout.{Layout}
 use Rattle.cb_meaning.specs.Layouts.{HasOwnFields}
 use Rattle.cb_queue.specs.RecordQueues.{RecordQueue}
-use Rattle.world_meaning.specs.Admissions.{names_a_set}
 use Rattle.world_meaning.specs.Holdings.{wants_of}
 use Rattle.world_meaning.specs.Worlds as world
 use Rattle.world_meaning.specs.Worlds.{Config}
-use Rattle.shared_core.specs.Tracks.{NothingKept}
 use Rattle.turn_core.specs.Standing.{Stands, count_at}
 use Rattle.turn_core.specs.declared.walk.Walk.{Walk}
 use Rattle.place_core.specs.Placings.{serials_of}
@@ -23,7 +21,7 @@ use Rattle.admission_core.specs.declared.admission.Admission.{Admission}
 use Rattle.machine_core.specs.declared.parts.Parts.{Parts}
 use Rattle.init_core.specs.declared.running.Profile.{Profile}
 use Rattle.init_core.specs.declared.running.Progress.{Progress}
-use Rattle.init_core.specs.declared.running.Progress.TheVariants.{GoesOn, Over}
+use Rattle.init_core.specs.declared.running.Progress.TheVariants.{Answered, GoesOn, Over}
 use Rattle.init_core.specs.declared.running.Running.{Running}
 use Rattle.init_core.specs.declared.running.Stage.{Stage}
 use Rattle.init_core.specs.declared.running.Stage.TheVariants.{Admitted, Named, Selected, Wanting}
@@ -54,11 +52,17 @@ shown_running c r = record { job = r.job; listing = r.walk.course.lines; stage =
 -- what a turn left the job with, and the lines that it wrote
 abbrev pub runs_after : Progress → Option Running
 runs_after (GoesOn r from) = Some r
-runs_after (Over line) = None
+runs_after (Answered r line) = Some r
+runs_after (Over before last) = None
+
+abbrev pub told_before : Option JobLine → List JobLine
+told_before None = []
+told_before (Some line) = line ∷ []
 
 abbrev pub lines_told : Progress → List JobLine
 lines_told (GoesOn r from) = drop from r.walk.course.lines
-lines_told (Over line) = line ∷ []
+lines_told (Answered r line) = line ∷ []
+lines_told (Over before last) = told_before before ++ last ∷ []
 
 -- the set that a DD took, if it took one, is on a configured volume
 abbrev pub IsTakenOn : List (List ℕ) → Option TakenSet → Type 0
@@ -68,10 +72,9 @@ IsTakenOn volumes (Some t) = Contains volumes t.serial
 abbrev pub AreOn : List (List ℕ) → List DdState → Type 0
 AreOn volumes dds = All (λ x. IsTakenOn volumes x.taken) dds
 
--- what holds of an admitted job: its place is one of its agenda, it is assured only where it names no set, and its sets are on configured volumes
+-- what holds of an admitted job: its place is one of its agenda, and its sets are on configured volumes
 pub record IsUnderWay (c : Config) (plan : JobPlan) (a : Admission) (walk : Walk) : Type 0 where
   pub stands : Stands plan c.programs walk.todo
-  pub unless_set : a.assured ≡ not (names_a_set plan)
   pub on : AreOn c.volumes walk.course.own.dds
 
 -- What holds of a job at an initiator, by how far this is with it.
@@ -85,10 +88,9 @@ pub record IsReady (c : Config) (holds : List Hold) (r : Running) : Type 0 where
   pub some : r.job ≢ 0
   pub at : IsAt c holds r.job r.walk r.stage
 
--- What holds of the parts between two events: no tracks are kept, the volumes are those that are configured, sixteen at most, the layout too, and
--- operations are on these volumes.
+-- What holds of the parts between two events: the volumes are those that are configured, sixteen at most, the layout too, and operations are on these
+-- volumes.
 pub record IsGood {Q : Type 0} (queue_of : Q → RecordQueue) (c : Config) (p : Parts Q) : Type 0 where
-  pub kept : NothingKept p.store
   pub volumes : serials_of p.store.volumes ≡ c.volumes
   pub layout : (queue_of p.queue).layout ≡ c.layout
   pub fields : HasOwnFields c.layout

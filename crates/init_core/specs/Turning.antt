@@ -4,12 +4,13 @@ use Rattle.jcl_plan.specs.declared.entry.JobLine.TheVariants as line
 use Rattle.jcl_plan.specs.declared.plan.JobPlan.{JobPlan}
 use Rattle.cb_queue.specs.RecordQueues.{RecordQueue}
 use Rattle.prog_core.specs.declared.units.Operation.{Operation}
+use Rattle.jcl_meaning.specs.declared.state.Place.{Place}
 use Rattle.world_meaning.specs.Lenses.{put_back, seen}
-use Rattle.world_meaning.specs.Tracks.{Conserves}
-use Rattle.world_meaning.specs.Worlds.{Config, Shared}
+use Rattle.world_meaning.specs.Tracks.{kept_unless_made}
+use Rattle.world_meaning.specs.Worlds.{Config}
 use Rattle.shared_core.specs.Rooms.{grants_growth, grants_new}
 use Rattle.shared_core.specs.Shown.{world_store_of}
-use Rattle.shared_core.specs.Tracks.{IsShown, NothingKept, kept_shown}
+use Rattle.shared_core.specs.Tracks.{ConservesTracks, kept_shown}
 use Rattle.shared_core.specs.declared.store.SharedStore.{SharedStore}
 use Rattle.place_core.specs.Placings.{serials_of}
 use Rattle.admission_core.specs.Admitted.{fixed_for}
@@ -41,14 +42,13 @@ around_in p operations job plan a cancelled store = record {
   grants = answers_of job store;
 }
 
--- A job wrote what it sees: nothing is kept, the volumes are the same, and their tracks are conserved.
-pub record IsWritten (job : ℕ) (old new : SharedStore) : Type 0 where
+-- A job wrote what it sees: a set that it made at one of these places uses up what was kept for it, the volumes are the same, and their tracks are
+-- conserved.
+pub record IsWritten (job : ℕ) (made : List Place) (old new : SharedStore) : Type 0 where
   pub world : world_store_of new ≡ put_back job (world_store_of old) (seen job (world_store_of new))
-  pub kept : NothingKept new
-  pub none_shown : kept_shown old.volumes ≡ λ serial. []
-  pub none_shown_now : kept_shown new.volumes ≡ λ serial. []
+  pub kept : kept_shown new.volumes ≡ kept_unless_made (kept_shown old.volumes) job made
   pub volumes : serials_of new.volumes ≡ serials_of old.volumes
-  pub conserves : (before after : Shared) → IsShown old before → IsShown new after → Conserves before after
+  pub conserves : ConservesTracks old new
 
 -- The spool took over the job's listing, with its last line, and its outputs.
 abbrev pub with_spool : {Q : Type 0} → ℕ → Walk → JobPlan → Parts Q → Parts Q

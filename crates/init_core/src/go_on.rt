@@ -1,6 +1,7 @@
 //! A job's turn.
 ghost use Rattle.std.specs.Prelude.{◌≡◌, IfErr, IfOk, OnErr};
 ghost use Rattle.init_core.specs.Going.{Went};
+ghost use Rattle.init_core.specs.Providing.{IsProvided};
 ghost use Rattle.init_core.specs.Running.{IsGood, IsReady, config_of};
 
 use crate::admission::admit_job;
@@ -22,6 +23,7 @@ pub fn go_on<Q: RecordStore>(
 ) -> Result<Progress, Running>
     requires good { IsGood Q.queue (config_of profile.now (Q.queue parts.old.queue).layout) parts.old }
     requires ready { IsReady (config_of profile.now (Q.queue parts.old.queue).layout) parts.old.names running }
+    requires provided { IsProvided Q.queue (config_of profile.now (Q.queue parts.old.queue).layout) parts.old running }
     ensures ok { IfOk result (Went Q.queue (config_of profile.now (Q.queue parts.old.queue).layout) parts.old running parts.new) }
     ensures err { IfErr result (λ r. r ≡ running) }
     ensures same { OnErr result (parts.new ≡ parts.old) }

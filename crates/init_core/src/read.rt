@@ -81,7 +81,10 @@ pub(crate) fn read<Q: RecordStore>(
     match find(alloc, &parts.queue, profile, job, first) {
         Ok(Found::Broken(fault)) => {
             release_unnamed(parts, job);
-            Ok(Progress::Over(JobLine::Broken(fault)))
+            Ok(Progress::Over {
+                before: None,
+                last: JobLine::Broken(fault),
+            })
         }
         Ok(Found::Job(plan, wants)) => match want(parts, job, walk, plan, wants) {
             Ok(came) => Ok(came),

@@ -69,7 +69,18 @@ pub struct Profile<'c> {
 /// What a job's turn came to.
 pub enum Progress {
     /// The job goes on. It wrote the lines of its listing from this place on.
-    GoesOn { job: Running, from: usize },
-    /// It is over, and this was its last line.
-    Over(JobLine),
+    GoesOn {
+        job: Running,
+        from: usize,
+    },
+    /// The job was answered, with this line, and goes on.
+    Answered {
+        job: Running,
+        line: JobLine,
+    },
+    /// It is over, and these were its last lines: one, or two where it was answered so.
+    Over {
+        before: Option<JobLine>,
+        last: JobLine,
+    },
 }

@@ -1,16 +1,17 @@
 //! A turn of an admitted job: its actions up to the first that writes, or its end.
-ghost use Rattle.std.specs.Prelude.{◌≡◌, ◌≢◌, false, IfErr, IfOk, IfSome, OnErr, OnOk, if◌then◌else◌};
+ghost use Rattle.std.specs.Prelude.{◌≡◌, ◌≢◌, false, IfErr, IfOk, IfSome, None, OnErr, OnOk, if◌then◌else◌};
 ghost use Rattle.jcl_plan.specs.declared.entry.JobLine.TheVariants as line;
 ghost use Rattle.prog_core.specs.Operations.{IsRoomFor, is_busy};
 ghost use Rattle.world_meaning.specs.Holdings.{cancels_without};
 ghost use Rattle.world_meaning.specs.Lenses.{seen};
 ghost use Rattle.shared_core.specs.Shown.{world_store_of};
-ghost use Rattle.shared_core.specs.Tracks.{NothingKept};
 ghost use Rattle.disp_core.specs.Courses.{fixed_by};
+ghost use Rattle.disp_core.specs.Grants.{made_of};
 ghost use Rattle.admission_core.specs.Admitted.{fixed_for};
 ghost use Rattle.turn_core.specs.Standing.{Stands, TellsJob};
-ghost use Rattle.turn_core.specs.Turning.{acts, operations_by};
+ghost use Rattle.turn_core.specs.Turning.{acts, made_in, operations_by};
 ghost use Rattle.init_core.specs.Going.{Went};
+ghost use Rattle.init_core.specs.Providing.{IsProvided};
 ghost use Rattle.init_core.specs.Running.{IsAt, IsGood, config_of};
 ghost use Rattle.init_core.specs.Turning.{IsEnded, IsWritten, around_in};
 ghost use Rattle.init_core.specs.declared.running.Progress.TheVariants as progress;
@@ -18,23 +19,21 @@ ghost use Rattle.init_core.specs.declared.running.Stage.TheVariants as stage;
 
 use crate::running::{Profile, Progress, Running, Stage};
 use admission_core::admission::Admission;
-use admission_core::sets::names_none;
 use admit_core::cancels::Cancels;
 use cb_queue::store::RecordStore;
 use disp_core::course::Given;
 use enq_core::table::Held;
+use grant_laws::granted_turns;
 use jcl_plan::entry::JobLine;
 use jcl_plan::plan::JobPlan;
 use machine_core::over::release;
 use machine_core::parts::Parts;
 use prog_core::units::{Units, operations_are_apart};
-use shared_core::laws::{
-    nothing_is_shown, nothing_kept_stays, sets_of_others_stay, tracks_are_conserved,
-};
+use shared_core::laws::{kept_is_spent, sets_of_others_stay, tracks_are_conserved};
 use shared_core::store::SharedStore;
 use shared_core::sums::volumes_add_up;
 use std::alloc::{AllocError, Global};
-use turn_core::laws::{acts_advance, ends_advance, few_lines, none_refused, waits_advance};
+use turn_core::laws::{acts_advance, ends_advance, few_lines, waits_advance};
 use turn_core::turn::turn;
 use turn_core::walk::{Acted, Turned, Walk};
 
@@ -64,16 +63,14 @@ fn take_turn(
     cancelled: bool,
 ) -> Result<Turned, AllocError>
     requires stands { Stands plan.now profile.now.programs.now walk.old.todo }
-    requires kept { NothingKept store.old }
     ensures ok { IfOk result (TellsJob (around_in profile.now units.now job plan.now admission.now cancelled store.old) plan.now
         (seen job (world_store_of store.old)) walk.old (seen job (world_store_of store.new)) walk.new) }
-    ensures written { IsWritten job store.old store.new }
+    ensures written { IfOk result (λ told. IsWritten job (made_of (made_in told)) store.old store.new) }
     ensures same { IfOk result (λ told. acts told ≡ false → (store.new ≡ store.old) × (walk.new ≡ walk.old)) }
     ensures err { OnErr result ((store.new ≡ store.old) × (walk.new ≡ walk.old)) }
 {
     sets_of_others_stay();
-    nothing_is_shown();
-    nothing_kept_stays();
+    kept_is_spent();
     tracks_are_conserved();
     volumes_add_up(&*store);
     let given = given(profile, plan, admission);
@@ -141,7 +138,7 @@ fn end<Q: RecordStore>(
 ) -> Result<Progress, Running>
     requires some { job ≢ 0 }
     requires its_own { held ≡ job }
-    ensures over { IfOk result (λ came. came ≡ progress.Over line.End) }
+    ensures over { IfOk result (λ came. came ≡ progress.Over None line.End) }
     ensures ok { OnOk result (IsEnded Q.queue job walk plan parts.old parts.new) }
     ensures err { IfErr result (λ r. r ≡ record { job = job; walk = walk; stage = stage.Admitted plan held admission }) }
     ensures same { OnErr result (parts.new ≡ parts.old) }
@@ -155,7 +152,10 @@ fn end<Q: RecordStore>(
     ) {
         Ok(()) => {
             release(parts, job, held);
-            Ok(Progress::Over(JobLine::End))
+            Ok(Progress::Over {
+                before: None,
+                last: JobLine::End,
+            })
         }
         Err(_) => Err(admitted(job, walk, plan, held, admission)),
     }
@@ -175,6 +175,8 @@ pub(crate) fn advance<Q: RecordStore>(
     requires some { job ≢ 0 }
     requires at { IsAt (config_of profile.now (Q.queue parts.old.queue).layout) parts.old.names job walk (stage.Admitted plan held admission) }
     requires good { IsGood Q.queue (config_of profile.now (Q.queue parts.old.queue).layout) parts.old }
+    requires provided { IsProvided Q.queue (config_of profile.now (Q.queue parts.old.queue).layout) parts.old
+        (record { job = job; walk = walk; stage = stage.Admitted plan held admission }) }
     ensures ok { IfOk result (Went Q.queue (config_of profile.now (Q.queue parts.old.queue).layout) parts.old
         (record { job = job; walk = walk; stage = stage.Admitted plan held admission }) parts.new) }
     ensures err { IfErr result (λ r. r ≡ record { job = job; walk = walk; stage = stage.Admitted plan held admission }) }
@@ -184,8 +186,7 @@ pub(crate) fn advance<Q: RecordStore>(
     acts_advance();
     ends_advance();
     few_lines();
-    none_refused();
-    names_none();
+    granted_turns();
     operations_are_apart(&parts.units);
     let from = walk.course.lines.len();
     let cancelled = parts.cancels.has(job);

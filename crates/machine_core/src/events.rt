@@ -1,10 +1,11 @@
 //! The events that change no job at an initiator.
-ghost use Rattle.std.specs.Prelude.{◌≡◌, ◌+◌, ◌++◌, ◌∷◌, [], IfErr, IfOk, IfSome, IfNone, OnErr, OnOk, map};
+ghost use Rattle.std.specs.Prelude.{◌≡◌, ◌+◌, ◌++◌, ◌∷◌, [], IfErr, IfOk, IfSome, IfNone, OnErr, OnOk, Some, map, sum_by};
 ghost use Rattle.std.specs.List.{list_any};
 ghost use Rattle.std.specs.Str.{bytes_eq};
 ghost use Rattle.jcl_plan.specs.declared.entry.Entry.TheVariants as entry;
-ghost use Rattle.shared_core.specs.Tracks.{free_on};
+ghost use Rattle.shared_core.specs.Tracks.{free_on, kept_shown, kept_tracks};
 ghost use Rattle.world_meaning.specs.Displays.{volume_line};
+ghost use Rattle.world_meaning.specs.Tracks.{kept_on};
 ghost use Rattle.machine_core.specs.Events.{DeviceEnds, DeviceIsRefused, Shows, WriterWrites};
 ghost use Rattle.machine_core.specs.Shown.{shown};
 
@@ -68,14 +69,37 @@ fn free_on(volumes: &[Mounted], serial: Serial) -> usize
     }
 }
 
-/// What is shown of a volume: no tracks are kept.
+/// The tracks that are kept on a volume.
+fn tracks_kept(m: &Mounted) -> usize
+    ensures { result ≡ sum_by (λ k. k.tracks) (kept_tracks (Some m.now)) }
+{
+    m.kept_tracks()
+}
+
+/// The tracks that are kept on the volume of a serial.
+fn kept_on(volumes: &[Mounted], serial: Serial) -> usize
+    ensures { result ≡ kept_on (kept_shown volumes.now) serial }
+{
+    match volumes.split_first() {
+        None => 0,
+        Some((m, others)) => {
+            if m.serial().as_slice() == serial.as_slice() {
+                tracks_kept(m)
+            } else {
+                kept_on(others, serial)
+            }
+        }
+    }
+}
+
+/// What is shown of a volume: its free tracks, and those that are kept.
 fn volume_line<Q: RecordStore>(parts: &Parts<Q>, serial: Serial) -> Entry
     ensures { result ≡ volume_line (shown Q.queue parts.now) serial }
 {
     Entry::Volume {
         serial,
         free: free_on(parts.store.volumes.as_slice(), serial),
-        kept: 0,
+        kept: kept_on(parts.store.volumes.as_slice(), serial),
     }
 }
 

@@ -4,31 +4,51 @@ ghost use Rattle.enq_core.specs.Holds.{HoldsNone};
 ghost use Rattle.world_meaning.specs.Holdings.{cancels_without};
 ghost use Rattle.world_meaning.specs.Worlds.{Config};
 ghost use Rattle.admit_core.specs.Releases.{Releases};
+ghost use Rattle.place_core.specs.Keepings.{GivesBackAll};
+ghost use Rattle.shared_core.specs.Tracks.{ConservesTracks};
 ghost use Rattle.machine_core.specs.Released.{GivesBack, IsReleased};
 
 use crate::parts::Parts;
 use admit_core::records::release_records;
 use cb_queue::store::RecordStore;
 use enq_core::table::Held;
+use place_core::keep::give_all_back_for;
+use shared_core::laws::tracks_are_conserved;
+use shared_core::store::SharedStore;
+use shared_core::sums::volumes_add_up;
 
-/// Gives back a job's records, and a cancel that did not act.
-fn leave_queue<Q: RecordStore>(parts: &mut Parts<Q>, job: u16)
+/// Gives back the tracks that are kept for a job.
+fn leave_volumes(store: &mut SharedStore, job: u16)
+    ensures back { GivesBackAll job store.old store.new }
+    ensures conserves { ConservesTracks store.old store.new }
+{
+    tracks_are_conserved();
+    volumes_add_up(&*store);
+    give_all_back_for(store, job);
+    volumes_add_up(&*store);
+}
+
+/// Gives back the tracks that are kept for a job, its records, and a cancel that did not act.
+fn leave<Q: RecordStore>(parts: &mut Parts<Q>, job: u16)
     requires { job ≢ 0 }
     ensures records { Releases job (Q.queue parts.old.queue) (Q.queue parts.new.queue) }
-    ensures rest { parts.new ≡ record parts.old { queue = parts.new.queue; cancels = cancels_without parts.old.cancels job } }
+    ensures back { GivesBackAll job parts.old.store parts.new.store }
+    ensures conserves { ConservesTracks parts.old.store parts.new.store }
+    ensures rest { parts.new ≡ record parts.old { store = parts.new.store; queue = parts.new.queue; cancels = cancels_without parts.old.cancels job } }
 {
+    leave_volumes(&mut parts.store, job);
     release_records(&mut parts.queue, job);
     parts.cancels.remove(job);
 }
 
-/// A job whose names are held gives them back, its records, and a cancel that did not act. It takes no memory.
+/// A job whose names are held gives them back, its kept tracks, its records, and a cancel that did not act. It takes no memory.
 pub fn release<Q: RecordStore>(parts: &mut Parts<Q>, job: u16, held: Held)
     requires some { job ≢ 0 }
     requires its_own { held ≡ job }
     ensures back { GivesBack Q.queue job parts.old parts.new }
     ensures released { (c : Config) → c.layout ≡ (Q.queue parts.old.queue).layout → IsReleased Q.queue c job parts.old parts.new }
 {
-    leave_queue(parts, job);
+    leave(parts, job);
     parts.names.release(held);
 }
 
@@ -39,5 +59,5 @@ pub fn release_unnamed<Q: RecordStore>(parts: &mut Parts<Q>, job: u16)
     ensures back { GivesBack Q.queue job parts.old parts.new }
     ensures released { (c : Config) → c.layout ≡ (Q.queue parts.old.queue).layout → IsReleased Q.queue c job parts.old parts.new }
 {
-    leave_queue(parts, job);
+    leave(parts, job);
 }

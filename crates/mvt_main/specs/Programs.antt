@@ -39,18 +39,18 @@ said_of Nothing = []
 said_of (Fault number line) = text_of (Fault number line) ++ codes "\n"
 said_of OutOfMemory = text_of OutOfMemory ++ codes "\n"
 
--- what is told of a session that was run, of a source and a sink of which this is seen before and behind it
-pub record IsReported (source source_after : SourceState) (sink sink_after : SinkState) (answer : ℕ × Message) : Type 0 where
+-- what is told of a session that was run with these options, of a source and a sink of which this is seen before and behind it
+pub record IsReported (o : Options) (source source_after : SourceState) (sink sink_after : SinkState) (answer : ℕ × Message) : Type 0 where
   pub outcome : Result SessionEnd SessionFault
-  pub run : IsRun source source_after sink sink_after outcome
+  pub run : IsRun o source source_after sink sink_after outcome
   pub failures : AreTold source_after.failed sink_after.failed outcome
   pub told : answer ≡ reported outcome
 
--- a session was run, and what is told of it is said, where all of that was written
-pub record EndsSession (source source_after : SourceState) (sink sink_after : SinkState) (errors errors_after : Option (List ℕ))
+-- a session was run with these options, and what is told of it is said, where all of that was written
+pub record EndsSession (o : Options) (source source_after : SourceState) (sink sink_after : SinkState) (errors errors_after : Option (List ℕ))
     (answer : Ended) : Type 0 where
   pub message : Message
-  pub reported : IsReported source source_after sink sink_after (answer.status, message)
+  pub reported : IsReported o source source_after sink sink_after (answer.status, message)
   pub said : OnTrue answer.said (Appends errors errors_after (said_of message))
 
 -- Nothing was run, for an error of this kind. What is said of a command line is the text of that error, of which nothing is claimed.
@@ -72,7 +72,7 @@ pub record EndsUnread (kind : IoKind) (errors errors_after : Option (List ℕ)) 
 abbrev pub EndsAs : Result Options Error → SourceState → SourceState → SinkState → SinkState → Option (List ℕ) → Option (List ℕ) → Ended
     → Type 0
 EndsAs (Ok options) source source_after sink sink_after errors errors_after answer =
-    EndsSession source source_after sink sink_after errors errors_after answer
+    EndsSession options source source_after sink sink_after errors errors_after answer
 EndsAs (Err error) source source_after sink sink_after errors errors_after answer =
     (source_after ≡ source) × (sink_after ≡ sink) × EndsUnrun (kind_of error) errors errors_after answer
 

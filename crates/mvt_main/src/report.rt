@@ -55,7 +55,7 @@ pub fn report(outcome: Result<SessionEnd, SessionFault>) -> (u8, Message)
     }
 }
 
-/// Runs the session that the source gives, writes its listing to the sink, and tells the status and the message of its end.
+/// Runs the session that the source gives with these options, writes its listing to the sink, and tells the status and the message of its end.
 pub fn session_report<R: Read, W: Write>(
     alloc: Global,
     source: &mut Source<'_, R>,
@@ -64,7 +64,7 @@ pub fn session_report<R: Read, W: Write>(
 ) -> (u8, Message)
     requires source_unfailed { source.old.failed ≡ false }
     requires sink_unfailed { sink.old.failed ≡ false }
-    ensures { IsReported (source_state R.remaining source.old) (source_state R.remaining source.new)
+    ensures { IsReported options (source_state R.remaining source.old) (source_state R.remaining source.new)
         (sink_state W.contents sink.old) (sink_state W.contents sink.new) result }
 {
     let outcome = run_streams(alloc, source, sink, options);

@@ -3,7 +3,7 @@ use Rattle.std.proofs.Common.{◌≡◌, ◌+◌, ◌-◌, ◌++◌, ◌≤◌, 
 use Rattle.std.proofs.Common.{subst, arith}
 use Rattle.std.specs.Prelude.{All, is_some, slice_get}
 use Rattle.std.specs.List.{Contains}
-use Rattle.std.proofs.lemmas.List.Elements.{All-append, All-cons, All-contains, All-head, All-nil, All-tail}
+use Rattle.std.proofs.lemmas.List.Elements.{All-append, All-cons, All-contains, All-head, All-nil, All-tail, All-weaker}
 use Rattle.std.proofs.lemmas.Map.Views.{Contains-from_any}
 use Rattle.jname_core.specs.declared.key.Key.{Key}
 use Rattle.jcl_plan.specs.declared.outcome.Outcome.{Outcome}
@@ -26,9 +26,10 @@ use Rattle.jcl_meaning.specs.declared.take.How.TheVariants as how
 use Rattle.jcl_meaning.specs.declared.take.Target.{Target}
 use Rattle.jcl_meaning.specs.declared.take.Target.TheVariants as target
 use Rattle.jcl_meaning.specs.Acts.{act}
-use Rattle.jcl_meaning.specs.Agendas.{Action, Dispose, Finish, Left, Over, Start, Take, disposes_from, left_by, lefts_from, lefts_in, step_actions, takes_from}
+use Rattle.jcl_meaning.specs.Agendas.{Action, Dispose, Finish, Left, Over, Start, Take, disposes_from, left_by, lefts_from, lefts_in, path_agenda, step_actions, steps_from, takes_from}
 use Rattle.jcl_meaning.specs.EndActs.{disposes, disposes_at, finishes, leaves, left_at, passed_by, set_disposes}
 use Rattle.jcl_meaning.specs.Plans.{passes}
+use Rattle.jcl_meaning.specs.Programs.{moves_of}
 use Rattle.jcl_meaning.specs.Resolutions.{meaning_at}
 use Rattle.jcl_meaning.specs.Solo.{run}
 use Rattle.jcl_meaning.specs.States.{Done, Fixed, State, cancel_due, if_runs}
@@ -36,7 +37,7 @@ use Rattle.jcl_meaning.specs.TakeActs.{decided, decision_at, place_made, takes, 
 use Rattle.jcl_meaning.specs.Takes.{decide, is_known, is_there, looked_at}
 use Rattle.part_laws.proofs.SameWrites.{same_bytes}
 use Rattle.view_laws.specs.PathParts.{part_from, path_part}
-use Rattle.reach_laws.proofs.Parts.{last_part}
+use Rattle.reach_laws.proofs.Parts.{last_part, none_asked}
 
 -- a set that a DD of this step makes, the step having so many DDs
 pub record MadeFor (volumes : List (List ℕ)) (step most : ℕ) (p : Place) : Type 0 where
@@ -254,3 +255,27 @@ none_made_at_end plan fixed s =
     ap (λ actions. (run fixed actions s).made) (last_part plan)
     ∙ all_absurd (run fixed (lefts_from 1 plan.steps ++ (Over ∷ [])) s).made
     (run_makes fixed (λ (p : Place). ⊥) (lefts_from 1 plan.steps ++ (Over ∷ [])) s (end_makes fixed (λ (p : Place). ⊥) plan.steps))
+
+-- a whole path
+abbrev IsOnVolume : Fixed → Place → Type 0
+IsOnVolume fixed p = Contains fixed.volumes p.serial
+
+on_volumes : (fixed : Fixed) (n most : ℕ) (a : Action) → Makes fixed (MadeFor fixed.volumes n most) a → Makes fixed (IsOnVolume fixed) a
+on_volumes fixed n most a h = λ s. All-weaker (MadeFor fixed.volumes n most) (IsOnVolume fixed) (λ p m. m.configured) (act fixed a s).made (h s)
+
+steps_make : (fixed : Fixed) (n : ℕ) (steps : List StepPlan) → All (Makes fixed (IsOnVolume fixed)) (steps_from (moves_of []) n steps)
+steps_make fixed n [] = All-nil (Makes fixed (IsOnVolume fixed))
+steps_make fixed n (step ∷ steps) =
+    All-append (Makes fixed (IsOnVolume fixed)) (step_actions n step (moves_of [] step.program)) (steps_from (moves_of []) (n + 1) steps)
+    (subst (λ moves. All (Makes fixed (IsOnVolume fixed)) (step_actions n step moves)) (sym (none_asked step.program))
+    (All-weaker (Makes fixed (MadeFor fixed.volumes n (length step.dds))) (Makes fixed (IsOnVolume fixed)) (on_volumes fixed n (length step.dds))
+    (step_actions n step []) (step_makes fixed n step)))
+    (steps_make fixed (n + 1) steps)
+
+pub made_configured : (plan : JobPlan) (fixed : Fixed) (s : State) (p : Place) → Contains (run fixed (path_agenda plan) s).made p → Contains fixed.volumes p.serial
+made_configured plan fixed s p h =
+    All-contains (IsOnVolume fixed) (run fixed (path_agenda plan) s).made p
+    (run_makes fixed (IsOnVolume fixed) (path_agenda plan) s
+    (All-append (Makes fixed (IsOnVolume fixed)) (steps_from (moves_of []) 1 plan.steps) (lefts_from 1 plan.steps ++ (Over ∷ [])) (steps_make fixed 1 plan.steps)
+    (end_makes fixed (IsOnVolume fixed) plan.steps)))
+    h

@@ -19,7 +19,7 @@ use Rattle.view_laws.specs.PathParts.{part_from, path_part}
 use Rattle.reach_laws.specs.Paths.{before_part, part_ran}
 
 -- without programs no step has requests
-none_asked : (program : List ℕ) → moves_of [] program ≡ []
+pub none_asked : (program : List ℕ) → moves_of [] program ≡ []
 none_asked program = either (is_iefbr14 program)
   where
     either : (b : Bool) → cond {A = List Move} b [] [] ≡ []

@@ -14,7 +14,7 @@ use Rattle.jcl_meaning.specs.Stores.{Store}
 use Rattle.jcl_meaning.specs.Views.{View, ran_to, view_of}
 use Rattle.meaning_laws.specs.Laws.{joined}
 use Rattle.part_laws.specs.Fits.{Fits}
-use Rattle.path_meaning.specs.Paths.{HasMoreViews, fates_in}
+use Rattle.path_meaning.specs.Paths.{HasMoreViews, Makes, fates_in}
 use Rattle.view_laws.specs.PathParts.{IsBefore, next_outcome, path_part}
 use Rattle.view_laws.specs.ViewLaws.{DidTheSame}
 
@@ -90,3 +90,7 @@ MadeByStep = (plan : JobPlan) (fixed : Fixed) (k : ℕ) (step : StepPlan) (later
 
 abbrev pub NoneMadeAtEnd : Type 0
 NoneMadeAtEnd = (plan : JobPlan) (fixed : Fixed) (s : State) → (run fixed (path_part plan (length plan.steps)) s).made ≡ []
+
+-- A whole path makes sets on configured volumes alone.
+abbrev pub MadeIsConfigured : Type 0
+MadeIsConfigured = (fixed : Fixed) (plan : JobPlan) (store : Store) (p : Place) → Makes fixed plan store p → Contains fixed.volumes p.serial

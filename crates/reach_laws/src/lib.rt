@@ -3,7 +3,7 @@
 #![tactic(auto)]
 
 ghost use Rattle.reach_laws.specs.OneAnswer.{IsOneAnswer};
-ghost use Rattle.reach_laws.specs.Paths.{AgendaHas, AreFew, FitsBefore, MadeByStep, MetWithin, NoneMadeAtEnd, PathBegins, PathEnds, PathGoesOn, PathSees, StandsBefore, TellsFates};
+ghost use Rattle.reach_laws.specs.Paths.{AgendaHas, AreFew, FitsBefore, MadeByStep, MadeIsConfigured, MetWithin, NoneMadeAtEnd, PathBegins, PathEnds, PathGoesOn, PathSees, StandsBefore, TellsFates};
 
 /// The path up to behind a step is the path up to before it, and the step.
 pub fn path_goes_on()
@@ -58,6 +58,11 @@ pub fn met_within()
 /// A step makes sets for its own DDs alone, on configured volumes.
 pub fn made_by_step()
     ensures { MadeByStep }
+{}
+
+/// Wherever a job makes a set on some path, it is on a configured volume.
+pub fn made_is_configured()
+    ensures { MadeIsConfigured }
 {}
 
 /// The job's end makes no set.

@@ -18,12 +18,14 @@ use Rattle.enq_core.specs.declared.table.Hold.{Hold}
 use Rattle.machine_meaning.specs.declared.config.ConfiguredInitiator.{ConfiguredInitiator}
 use Rattle.machine_meaning.specs.declared.config.ConfiguredUnit.{ConfiguredUnit}
 use Rattle.prog_core.specs.declared.units.Operation.{Operation}
+use Rattle.case_laws.specs.Cases.{IsSupplied, StartsSupplied}
 use Rattle.run_laws.specs.Soundness.{IsSound, StartsSound}
 use Rattle.shared_core.specs.declared.store.SharedStore.{SharedStore}
 use Rattle.enq_core.specs.Holds.{HoldsNone}
 use Rattle.place_core.specs.Placings.{serials_of}
 use Rattle.shared_core.specs.Shown.{kept_extents, mounted_in, set_on}
-use Rattle.shared_core.specs.Tracks.{NothingKept, free_on}
+use Rattle.shared_core.specs.Tracks.{free_on, kept_shown}
+use Rattle.shared_core.proofs.Showing.{nothing_shown}
 use Rattle.world_meaning.specs.Starts.{IsStart}
 use Rattle.world_meaning.specs.Worlds as world
 use Rattle.world_meaning.specs.Worlds.{World}
@@ -88,11 +90,14 @@ module _ {Q : Type 0} (queue_of : Q → RecordQueue) (store : SharedStore) (q : 
       most_views = p.most_views;
     }
 
-    shared_at : shown queue_of s.parts ≡ start_shared c l FIRST_DAY
-    shared_at = ap (shown queue_of) parts ∙ (λ i. record {
+    no_tracks : IsConfigured c → (serial : List ℕ) → kept_shown store.volumes serial ≡ []
+    no_tracks k serial = ap (λ vs. kept_shown vs serial) t.volumes ∙ nothing_shown (mounted_in c.volumes serial) (nothing_on c.volumes k.kept serial)
+
+    shared_at : IsConfigured c → shown queue_of s.parts ≡ start_shared c l FIRST_DAY
+    shared_at k = ap (shown queue_of) parts ∙ (λ i. record {
       store = record { set = λ k serial. set_on (mounted_in (t.volumes i) serial) k; catalog = λ name. finite.get (t.catalog i) name };
       free = λ serial. free_on (t.volumes i) serial;
-      kept = λ serial. [];
+      kept = λ serial. no_tracks k serial i;
       records = queue.shown (empty i);
       holds = [];
       operations = [];
@@ -107,23 +112,19 @@ module _ {Q : Type 0} (queue_of : Q → RecordQueue) (store : SharedStore) (q : 
         ∙ idle_shown (config_in queue_of p s) fixed.initiators
         ∙ ap (map idle) t.initiators
 
-    pub world_at : world_in queue_of (config_in queue_of p s) s ≡ start_of c p.refuses p.most_views l FIRST_DAY
-    world_at = λ i. record {
+    pub world_at : IsConfigured c → world_in queue_of (config_in queue_of p s) s ≡ start_of c p.refuses p.most_views l FIRST_DAY
+    world_at k = λ i. record {
       config = config_at i;
-      shared = shared_at i;
+      shared = shared_at k i;
       initiators = seats_at i;
       waiting = waiting_in (queue_at i).waiting (backlog i);
       jobs = jobs i;
       events = events i;
     }
 
-    module _ (k : IsConfigured c) (law : StartsOfConfigurations) (sound : StartsSound) (reads : ReadsWhatItHolds) where
+    module _ (k : IsConfigured c) (law : StartsOfConfigurations) (sound : StartsSound) (supplied : StartsSupplied) (reads : ReadsWhatItHolds) where
       pub is_start : IsStart (start_of c p.refuses p.most_views l FIRST_DAY)
       is_start = law c p.refuses p.most_views FIRST_DAY l k for_machine.link
-
-      nothing_kept : NothingKept s.parts.store
-      nothing_kept = subst NothingKept (sym (ap (λ (x : Parts Q). x.store) parts))
-          (λ serial at. subst (λ vs. kept_extents (mounted_in vs serial) at ≡ None) (sym t.volumes) (nothing_on c.volumes k.kept serial at))
 
       same_serials : serials_of s.parts.store.volumes ≡ p.volumes.now
       same_serials = ap (λ (x : Parts Q). serials_of x.store.volumes) parts ∙ ap serials_of t.volumes ∙ sym t.serials ∙ sym volumes
@@ -136,7 +137,6 @@ module _ {Q : Type 0} (queue_of : Q → RecordQueue) (store : SharedStore) (q : 
       pub begins_fit : IsFit queue_of (config_in queue_of p s) s
       begins_fit = record {
         good = record {
-          kept = nothing_kept;
           volumes = same_serials;
           layout = refl;
           fields = subst HasOwnFields (sym layout_at) (reads l for_machine.holds);
@@ -158,7 +158,11 @@ module _ {Q : Type 0} (queue_of : Q → RecordQueue) (store : SharedStore) (q : 
       }
 
       pub begins_kept : IsKept queue_of (config_in queue_of p s) s
-      begins_kept = record { sound = subst IsSound (sym world_at) (sound (start_of c p.refuses p.most_views l FIRST_DAY) is_start); fit = begins_fit }
+      begins_kept = record {
+        sound = subst IsSound (sym (world_at k)) (sound (start_of c p.refuses p.most_views l FIRST_DAY) is_start);
+        supplied = subst IsSupplied (sym (world_at k)) (supplied (start_of c p.refuses p.most_views l FIRST_DAY) is_start);
+        fit = begins_fit;
+      }
 
 -- each unit has its name and its volumes
 pub units_counted : (us : List ConfiguredUnit) → length (unit_names us) ≡ length (unit_volumes us)

@@ -27,7 +27,6 @@ use Rattle.world_meaning.specs.Turns.{has_cancel}
 use Rattle.world_meaning.specs.Worlds as world
 use Rattle.world_meaning.specs.Worlds.{Config, Shared, Waiting, World, with_running, without_waiting}
 use Rattle.world_meaning.proofs.Following.{unopened}
-use Rattle.shared_core.specs.Tracks.{NothingKept}
 use Rattle.place_core.specs.Placings.{serials_of}
 use Rattle.turn_core.specs.declared.walk.Walk.{Walk}
 use Rattle.admit_core.specs.Cancelled.{with_job}
@@ -148,10 +147,10 @@ module _ {Q : Type 0} (queue_of : Q → RecordQueue) (c : Config) (s : State Q) 
 
       pub leads_waiting : LeadsTo (CancelsJob w job lines) (world_in queue_of c new)
       leads_waiting = record {
-        middle = record w { waiting = without_waiting w.waiting job; shared = released c w.shared job w.shared.free };
-        does_so = table.waiting v w.shared.free there is told refl
-            (subst (λ (sh : Shared). Conserves sh (released c sh job sh.free)) middle_shown gone.conserves);
-        reopened = subst (λ (sh : Shared). Reopened c.layout (released c sh job sh.free) (shown queue_of new.parts)) middle_shown gone.reopened;
+        middle = record w { waiting = without_waiting w.waiting job; shared = released c w.shared job (shown queue_of new.parts).free };
+        does_so = table.waiting v (shown queue_of new.parts).free there is told refl
+            (subst (λ (sh : Shared). Conserves sh (released c sh job (shown queue_of new.parts).free)) middle_shown gone.conserves);
+        reopened = subst (λ (sh : Shared). Reopened c.layout (released c sh job (shown queue_of new.parts).free) (shown queue_of new.parts)) middle_shown gone.reopened;
         rest = λ i. record {
           config = c;
           shared = shown queue_of new.parts;
@@ -202,9 +201,9 @@ module _ {Q : Type 0} (queue_of : Q → RecordQueue) (c : Config) (s : State Q) 
         leads_selected = record {
           middle = record w {
             initiators = with_running w.initiators place (shown_initiator c it) None;
-            shared = released c w.shared job w.shared.free;
+            shared = released c w.shared job (shown queue_of new.parts).free;
           };
-          does_so = table.selected place (shown_initiator c it) (shown_running c r) w.shared.free (shown_at c s.initiators.items place it at) shown_runs is
+          does_so = table.selected place (shown_initiator c it) (shown_running c r) (shown queue_of new.parts).free (shown_at c s.initiators.items place it at) shown_runs is
               (stage_is false not_yet) told refl gone_there.conserves;
           reopened = gone_there.reopened;
           rest = λ i. record {
@@ -294,7 +293,6 @@ module _ {Q : Type 0} (queue_of : Q → RecordQueue) (c : Config) (s : State Q) 
 
         good_noted : IsGood queue_of c new.parts
         good_noted = record {
-          kept = subst (λ (p : Parts Q). NothingKept p.store) (sym parts) kept.fit.good.kept;
           volumes = ap (λ (p : Parts Q). serials_of p.store.volumes) parts ∙ kept.fit.good.volumes;
           layout = ap (λ (p : Parts Q). (queue_of p.queue).layout) parts ∙ kept.fit.good.layout;
           fields = kept.fit.good.fields;

@@ -4,6 +4,7 @@ use Rattle.cb_queue.specs.RecordQueues.{RecordQueue}
 use Rattle.machine_meaning.specs.declared.machine.TheConstants.{MOST_EVENTS}
 use Rattle.run_laws.specs.Soundness.{IsSound, RunsAt}
 use Rattle.world_meaning.specs.Worlds.{Config, Running, World}
+use Rattle.case_laws.specs.Cases.{HasAssured, IsSupplied}
 use Rattle.sched_core.specs.Fits.{IsFit, IsKept}
 use Rattle.sched_core.specs.Machines.{world_in}
 use Rattle.sched_core.specs.declared.state.State.{State}
@@ -28,6 +29,19 @@ module _ (w : World) (n : ℕ) where
     groups = s.groups;
   }
 
+  on : (place : ℕ) (r : Running) → RunsAt w place r → RunsAt (record w { events = n }) place r
+  on place r h = record { it = h.it; at = h.at; running = h.running }
+
+  assured_on : (job : ℕ) → HasAssured w job → HasAssured (record w { events = n }) job
+  assured_on job h = record { place = h.place; running = h.running; runs = on h.place h.running h.runs; its = h.its; assured = h.assured }
+
+  pub supplied_at : IsSupplied w → IsSupplied (record w { events = n })
+  supplied_at s = record {
+    spooled = s.spooled;
+    running = λ place r h. s.running place r (back place r h);
+    kept = λ serial k there. assured_on k.job (s.kept serial k there);
+  }
+
 module _ {Q : Type 0} (queue_of : Q → RecordQueue) (c : Config) (s : State Q) where
   pub fit_at : (n : ℕ) → n ≤ MOST_EVENTS → IsFit queue_of c s → IsFit queue_of c (record s { events = n })
   fit_at n few f = record {
@@ -42,4 +56,8 @@ module _ {Q : Type 0} (queue_of : Q → RecordQueue) (c : Config) (s : State Q) 
   }
 
   pub kept_at : (n : ℕ) → n ≤ MOST_EVENTS → IsKept queue_of c s → IsKept queue_of c (record s { events = n })
-  kept_at n few k = record { sound = sound_at (world_in queue_of c s) n k.sound; fit = fit_at n few k.fit }
+  kept_at n few k = record {
+    sound = sound_at (world_in queue_of c s) n k.sound;
+    supplied = supplied_at (world_in queue_of c s) n k.supplied;
+    fit = fit_at n few k.fit;
+  }

@@ -1,5 +1,5 @@
 -- What the volumes decide, from what is known of an action and what is chosen.
-use Rattle.std.proofs.Common.{◌≡◌, ℕ, Bool, true, false, List, [], ◌∷◌, Option, Some, refl, ap, sym, subst, ◌∙◌}
+use Rattle.std.proofs.Common.{◌≡◌, ℕ, cond, Bool, true, false, List, [], ◌∷◌, Option, Some, refl, ap, sym, subst, ◌∙◌}
 use Rattle.jcl_plan.specs.declared.entry.Entry.{Entry}
 use Rattle.jcl_plan.specs.declared.entry.JobLine.{JobLine}
 use Rattle.jcl_plan.specs.declared.entry.JobLine.TheVariants as line
@@ -24,13 +24,21 @@ use Rattle.sched_core.proofs.ActionFacts.{IsDone, ToldOf, at_step}
 use Rattle.sched_core.proofs.RefusedGrowth.{growth_refused}
 use Rattle.sched_core.proofs.RefusedPrimary.{primary_refused, volume_refused}
 
+-- a primary that is refused is none of an assured job
+unless_assured : (b primary asked_so : Bool) → primary ≡ cond b true asked_so → primary ≡ false → asked_so ≡ false
+unless_assured true primary asked_so e refused = absurd (clash (sym refused ∙ e))
+  where
+    clash : false ≡ true → ⊥
+    clash c = absurd cc
+unless_assured false primary asked_so e refused = sym e ∙ refused
+
 module _ (old : Machine) (e : Event) (lines : List Entry) (new : World) (s : Steps old e lines new) (job : ℕ) (cancel : Bool) (admission : Admission) (x : Advanced)
     (is : IsAction old e lines new s job cancel admission x) where
   known : ToldOf (AtAction job cancel admission x is.growth is.primary) lines
   known = subst (λ (c : Choice). ToldOf c lines) is.chosen (at_step (denoting old) (world_of old) (meant_by e) lines new s.0)
 
-  chosen : IsChosenByVolumes (world_of old).config old.parts.store (AtAction job cancel admission x is.growth is.primary)
-  chosen = subst (IsChosenByVolumes (world_of old).config old.parts.store) is.chosen s.1
+  chosen : IsChosenByVolumes (world_of old).config old.parts.store old.parts.date (AtAction job cancel admission x is.growth is.primary)
+  chosen = subst (IsChosenByVolumes (world_of old).config old.parts.store old.parts.date) is.chosen s.1
 
   did : (a : Action) → x.action ≡ a → x.done ≡ act admission.fixed a x.before
   did a at = known.1.done ∙ ap (λ (b : Action). act admission.fixed b x.before) at
@@ -44,8 +52,15 @@ module _ (old : Machine) (e : Event) (lines : List Entry) (new : World) (s : Ste
   growth_is step move at =
       chosen.growth_answered ∙ ap (λ (a : Action). growth_by (answers_of job old.parts.store).growth cancel a x.before.store x.before.own) at
 
-  primary_is : (a : Action) → x.action ≡ a → is.primary ≡ primary_by (answers_of job old.parts.store).new admission.fixed a x.before.store x.before.own
-  primary_is a at = chosen.primary_answered ∙ ap (λ (b : Action). primary_by (answers_of job old.parts.store).new admission.fixed b x.before.store x.before.own) at
+  primary_is : (a : Action) → x.action ≡ a → is.primary ≡ false → primary_by (answers_of job old.parts.store).new admission.fixed a x.before.store x.before.own ≡ false
+  primary_is a at refused =
+      sym (by_action at)
+      ∙ unless_assured admission.assured is.primary (primary_by (answers_of job old.parts.store).new admission.fixed x.action x.before.store x.before.own)
+      chosen.primary_answered refused
+    where
+      by_action : x.action ≡ a → primary_by (answers_of job old.parts.store).new admission.fixed x.action x.before.store x.before.own
+          ≡ primary_by (answers_of job old.parts.store).new admission.fixed a x.before.store x.before.own
+      by_action at = ap (λ (b : Action). primary_by (answers_of job old.parts.store).new admission.fixed b x.before.store x.before.own) at
 
 pub actions_are_told : ActionsAreTold
 actions_are_told old e lines new s job cancel admission x is = (known old e lines new s job cancel admission x is).0
@@ -71,8 +86,8 @@ primary_is_refused old e lines new s job cancel admission x n dd d p key backs i
     let no : is.primary ≡ false = sym facts.its_primary
     ∙ primary_refused admission.fixed n dd d p key x.before backs kind means (ap (λ (z : Done). z.lines) (sym does) ∙ told) in
     volume_refused (answers_of job old.parts.store).new admission.fixed n dd d p key x.before.store x.before.own kind means
-    (sym (primary_is old e lines new s job cancel admission x is (Take n dd d) at) ∙ no)
+    (primary_is old e lines new s job cancel admission x is (Take n dd d) at no)
 
 pub sets_are_placed : SetsArePlaced
 sets_are_placed old e lines new s job plan places told is =
-    (subst (IsChosenByVolumes (world_of old).config old.parts.store) is s.1).by_room
+    (subst (IsChosenByVolumes (world_of old).config old.parts.store old.parts.date) is s.1).by_room

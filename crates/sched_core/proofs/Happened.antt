@@ -12,6 +12,7 @@ use Rattle.jcl_plan.specs.declared.fault.Cause.{Cause}
 use Rattle.jcl_plan.specs.declared.fault.Cause.TheVariants.{A}
 use Rattle.jcl_plan.specs.declared.fault.EventFault.TheVariants.{NoSuchInitiator, PastLimit}
 use Rattle.machine_meaning.specs.declared.machine.TheConstants.{MOST_EVENTS}
+use Rattle.case_laws.specs.Cases.{IsSupplied, SuppliesAreKept}
 use Rattle.run_laws.specs.Soundness.{IsSound, SoundnessIsKept}
 use Rattle.world_meaning.specs.declared.event.Event as meant
 use Rattle.world_meaning.specs.Readings.{Denoting}
@@ -226,18 +227,23 @@ module _ {Q : Type 0} (queue_of : Q → RecordQueue) (c : Config) (s : State Q) 
   abbrev pub first : World
   first = world_in queue_of c s
 
-  module _ (few : s.events < MOST_EVENTS) (law : SoundnessIsKept) (after : State Q) (fit : IsFit queue_of c after) where
+  module _ (few : s.events < MOST_EVENTS) (law : SoundnessIsKept) (supplies : SuppliesAreKept) (after : State Q) (fit : IsFit queue_of c after) where
     abbrev pub then : World
     then = world_in queue_of c after
 
     pub kept_done : (lines : List Entry) → LeadsTo (DoesSo s.parts.store job_of (counted first) e lines) then → IsKept queue_of c after
-    kept_done lines l = record { sound = law job_of first then e lines kept.sound (done s.parts.store job_of e first then few lines l).0; fit = fit }
+    kept_done lines l =
+        let t = (done s.parts.store job_of e first then few lines l).0 in
+        record { sound = law job_of first then e lines kept.sound t; supplied = supplies job_of first then e lines kept.sound kept.supplied t; fit = fit }
 
     pub kept_refused : (cause : Cause) → DoesSo s.parts.store job_of (counted first) e (entry.Refused cause ∷ []) (counted first) × (then ≡ counted first) → IsKept queue_of c after
-    kept_refused cause h = record {
-      sound = law job_of first then e (entry.Refused cause ∷ []) kept.sound (refuses s.parts.store job_of e first then few cause h).0.0;
-      fit = fit;
-    }
+    kept_refused cause h =
+        let t = (refuses s.parts.store job_of e first then few cause h).0.0 in
+        record {
+          sound = law job_of first then e (entry.Refused cause ∷ []) kept.sound t;
+          supplied = supplies job_of first then e (entry.Refused cause ∷ []) kept.sound kept.supplied t;
+          fit = fit;
+        }
 
     -- the count is taken back
     pub as_before : (n : ℕ) → n ≡ s.events → then ≡ counted first → world_in queue_of c (record after { events = n }) ≡ first
@@ -246,6 +252,7 @@ module _ {Q : Type 0} (queue_of : Q → RecordQueue) (c : Config) (s : State Q) 
     pub kept_before : (n : ℕ) → n ≡ s.events → then ≡ counted first → IsKept queue_of c (record after { events = n })
     kept_before n same is = record {
       sound = subst IsSound (sym (as_before n same is)) kept.sound;
+      supplied = subst IsSupplied (sym (as_before n same is)) kept.supplied;
       fit = fit_at queue_of c after n (subst (λ k. k ≤ MOST_EVENTS) (sym same) kept.fit.few_events) fit;
     }
 

@@ -3,6 +3,7 @@ pub mod Places
 pub mod Unchanged
 pub mod Waits
 pub mod Turning
+pub mod Providing
 pub mod Selected
 pub mod Entered
 pub mod Cancelled

@@ -75,7 +75,7 @@ module _ {Q : Type 0} (queue_of : Q → RecordQueue) (c : Config) (s : State Q) 
 
   fit_units : (units : List Operation) → All (λ o. Contains c.volumes o.serial) units → IsFit queue_of c (with_parts (record s.parts { units = units }))
   fit_units units on = record {
-    good = record { kept = kept.fit.good.kept; volumes = kept.fit.good.volumes; layout = kept.fit.good.layout; fields = kept.fit.good.fields; operations = on; few = kept.fit.good.few };
+    good = record { volumes = kept.fit.good.volumes; layout = kept.fit.good.layout; fields = kept.fit.good.fields; operations = on; few = kept.fit.good.few };
     holds = kept.fit.holds;
     listed = kept.fit.listed;
     ready = kept.fit.ready;
@@ -88,7 +88,6 @@ module _ {Q : Type 0} (queue_of : Q → RecordQueue) (c : Config) (s : State Q) 
   fit_spool : (spool : List SpoolSet) → IsFit queue_of c (with_parts (record s.parts { spool = spool }))
   fit_spool spool = record {
     good = record {
-      kept = kept.fit.good.kept;
       volumes = kept.fit.good.volumes;
       layout = kept.fit.good.layout;
       fields = kept.fit.good.fields;

@@ -8,7 +8,6 @@ use Rattle.enq_core.specs.declared.table.Hold.{Hold}
 use Rattle.enq_core.specs.Holds.{HoldsNone}
 use Rattle.machine_meaning.specs.declared.machine.TheConstants.{MOST_EVENTS, MOST_JOBS}
 use Rattle.world_meaning.specs.Worlds.{Config}
-use Rattle.shared_core.specs.Tracks.{NothingKept}
 use Rattle.place_core.specs.Placings.{serials_of}
 use Rattle.admit_core.specs.Listed.{AreListed, waiting_in}
 use Rattle.machine_core.specs.Shown.{shown}
@@ -26,7 +25,6 @@ use Rattle.sched_core.specs.declared.state.State.{State}
 module _ {Q : Type 0} (queue_of : Q → RecordQueue) (c : Config) (old new : Parts Q) (parts : new ≡ record old { queue = new.queue }) where
   pub good_with : (queue_of new.queue).layout ≡ (queue_of old.queue).layout → IsGood queue_of c old → IsGood queue_of c new
   good_with layout g = record {
-    kept = subst (λ (p : Parts Q). NothingKept p.store) (sym parts) g.kept;
     volumes = ap (λ (p : Parts Q). serials_of p.store.volumes) parts ∙ g.volumes;
     layout = layout ∙ g.layout;
     fields = g.fields;

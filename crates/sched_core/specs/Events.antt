@@ -36,19 +36,19 @@ RefusesFirst result does = (cause : Cause) (new : World) → does (entry.Refused
 -- volumes decide it.
 abbrev pub ActsSo : SharedStore → World → ℕ → Initiator → Option Running → List Entry → World → Type 0
 ActsSo store old place x running lines new = (g : Acts old place x running lines new)
-    × IsChosenByVolumes old.config store (choice_of_acting old place x running lines new g)
+    × IsChosenByVolumes old.config store old.shared.date (choice_of_acting old place x running lines new g)
 
 abbrev pub ActsAt : SharedStore → World → ℕ → List Entry → World → Type 0
 ActsAt store old place lines new = (x : Initiator) → IsAt old place x → ActsSo store old place x x.running lines new
 
 abbrev pub TurnsSo : SharedStore → World → ℕ → List Entry → World → Type 0
-TurnsSo store old number lines new = (g : Turns old number lines new) × IsChosenByVolumes old.config store (choice_of_turn g)
+TurnsSo store old number lines new = (g : Turns old number lines new) × IsChosenByVolumes old.config store old.shared.date (choice_of_turn g)
 
 abbrev pub DoesSo : SharedStore → Denoting → World → Event → List Entry → World → Type 0
-DoesSo store job_of old e lines new = (d : Does job_of old e lines new) × IsChosenByVolumes old.config store (choice_of_event job_of old e lines new d)
+DoesSo store job_of old e lines new = (d : Does job_of old e lines new) × IsChosenByVolumes old.config store old.shared.date (choice_of_event job_of old e lines new d)
 
 abbrev pub FollowsSo : SharedStore → Denoting → World → Event → List Entry → World → Type 0
-FollowsSo store job_of old e lines new = (t : Transition job_of old e lines new) × IsChosenByVolumes old.config store (choice_of t)
+FollowsSo store job_of old e lines new = (t : Transition job_of old e lines new) × IsChosenByVolumes old.config store old.shared.date (choice_of t)
 
 -- it selects a job, or none waits for it
 abbrev pub SelectsAt : World → ℕ → List Entry → World → Type 0

@@ -4,6 +4,7 @@ use Rattle.cb_chain.specs.Written.{HoldsJobs}
 use Rattle.cb_queue.specs.RecordQueues.{RecordQueue}
 use Rattle.enq_core.specs.Holds.{HoldsNone}
 use Rattle.machine_meaning.specs.declared.machine.TheConstants.{MOST_EVENTS, MOST_JOBS}
+use Rattle.case_laws.specs.Cases.{IsSupplied}
 use Rattle.run_laws.specs.Soundness.{IsSound}
 use Rattle.world_meaning.specs.Worlds.{Config}
 use Rattle.jcl_refs.specs.Plans.{most_steps}
@@ -28,7 +29,8 @@ pub record IsFit {Q : Type 0} (queue_of : Q → RecordQueue) (c : Config) (s : S
   pub few_jobs : s.jobs ≤ MOST_JOBS
   pub few_events : s.events ≤ MOST_EVENTS
 
--- and it is sound
+-- and it is sound, and has what its next events need
 pub record IsKept {Q : Type 0} (queue_of : Q → RecordQueue) (c : Config) (s : State Q) : Type 0 where
   pub sound : IsSound (world_in queue_of c s)
+  pub supplied : IsSupplied (world_in queue_of c s)
   pub fit : IsFit queue_of c s

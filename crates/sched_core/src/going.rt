@@ -3,6 +3,7 @@ ghost use Rattle.std.specs.Prelude.{◌≡◌, ◌≢◌, ◌+◌, ◌≤◌, �
 ghost use Rattle.std.specs.Vec.{vec_capacity, vec_len};
 ghost use Rattle.jcl_plan.specs.declared.fault.Cause.{Cause};
 ghost use Rattle.world_meaning.specs.Worlds.{of_job};
+ghost use Rattle.init_core.specs.Providing.{IsProvided};
 ghost use Rattle.init_core.specs.Running.{IsGood, IsReady, config_of};
 ghost use Rattle.init_core.specs.declared.running.Running.{Running};
 ghost use Rattle.sched_core.specs.Copies.{unless_risk};
@@ -48,12 +49,12 @@ fn tell(entries: &mut Vec<Entry>, job: u16, lines: &[JobLine])
     }
 }
 
-/// Room for the lines of a turn: one, or that of a fault and one for each DD that the step took.
+/// Room for the lines of a turn: two, or that of a fault and one for each DD that the step took.
 fn room_for(alloc: Global, running: &Running) -> Result<Vec<Entry>, AllocError>
     ensures items { IfOk result (λ entries. (entries.items ≡ []) × (vec_len entries ≡ 0)) }
-    ensures room { IfOk result (λ entries. 1 + length running.now.walk.course.own.dds ≤ vec_capacity entries) }
+    ensures room { IfOk result (λ entries. 2 + length running.now.walk.course.own.dds ≤ vec_capacity entries) }
 {
-    let Some(count) = running.walk.course.own.dds.len().checked_add(1) else {
+    let Some(count) = running.walk.course.own.dds.len().checked_add(2) else {
         return Err(AllocError);
     };
     Vec::with_capacity(alloc, count)
@@ -67,7 +68,8 @@ fn turn_of<Q: RecordStore>(
     x: &mut Initiator,
 ) -> Result<Listed<Entry>, AllocError>
     requires good { IsGood Q.queue (config_of profile.now (Q.queue parts.old.queue).layout) parts.old }
-    requires runs { (r : Running) × (x.old.running ≡ Some r) × IsReady (config_of profile.now (Q.queue parts.old.queue).layout) parts.old.names r }
+    requires runs { (r : Running) × (x.old.running ≡ Some r) × IsReady (config_of profile.now (Q.queue parts.old.queue).layout) parts.old.names r
+        × IsProvided Q.queue (config_of profile.now (Q.queue parts.old.queue).layout) parts.old r }
     ensures ok { IfOk result (TurnsJob Q.queue (config_of profile.now (Q.queue parts.old.queue).layout) parts.old x.old parts.new x.new) }
     ensures err { OnErr result ((parts.new ≡ parts.old) × (x.new ≡ x.old)) }
 {
@@ -85,8 +87,16 @@ fn turn_of<Q: RecordStore>(
             seat(x, Some(running));
             Ok(Listed::new(entries))
         }
-        Ok(Progress::Over(line)) => {
-            tell(&mut entries, job, &[line]);
+        Ok(Progress::Answered { job: running, line }) => {
+            entries.push_reserved(Entry::Job(job, line));
+            seat(x, Some(running));
+            Ok(Listed::new(entries))
+        }
+        Ok(Progress::Over { before, last }) => {
+            if let Some(line) = before {
+                entries.push_reserved(Entry::Job(job, line));
+            }
+            entries.push_reserved(Entry::Job(job, last));
             Ok(Listed::new(entries))
         }
         Err(running) => {
@@ -105,7 +115,8 @@ fn turn_at<Q: RecordStore>(
     place: usize,
 ) -> Result<Listed<Entry>, AllocError>
     requires good { IsGood Q.queue (config_of profile.now (Q.queue parts.old.queue).layout) parts.old }
-    requires runs { (r : Running) × RunsIn initiators.old.items place r × IsReady (config_of profile.now (Q.queue parts.old.queue).layout) parts.old.names r }
+    requires runs { (r : Running) × RunsIn initiators.old.items place r × IsReady (config_of profile.now (Q.queue parts.old.queue).layout) parts.old.names r
+        × IsProvided Q.queue (config_of profile.now (Q.queue parts.old.queue).layout) parts.old r }
     ensures ok { IfOk result (TurnsAt Q.queue (config_of profile.now (Q.queue parts.old.queue).layout) place parts.old initiators.old.items
         parts.new initiators.new.items) }
     ensures err { OnErr result ((parts.new ≡ parts.old) × (initiators.new.items ≡ initiators.old.items)) }

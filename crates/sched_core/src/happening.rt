@@ -16,6 +16,7 @@ use crate::reading::read;
 use crate::selecting::select_at;
 use crate::showing::{display, end_device, write};
 use crate::state::{Initiator, State};
+use case_laws::supplies_are_kept;
 use cb_queue::store::RecordStore;
 use init_core::running::Profile;
 use input_core::event::Event;
@@ -120,6 +121,7 @@ pub(crate) fn apply_in<Q: RecordStore>(
     ensures kept { IsKept Q.queue (config_in Q.queue profile.now state.old) state.new }
 {
     soundness_is_kept();
+    supplies_are_kept();
     if MOST_EVENTS <= state.events {
         return Err(ApplyFault::Refused(Cause::A(EventFault::PastLimit)));
     }

@@ -18,6 +18,7 @@ use crate::happening::apply_in;
 use crate::start::{idle_of, started};
 use crate::state::State;
 use admit_core::laws::layout_reads_what_it_holds;
+use case_laws::starts_supplied;
 use cb_queue::store::RecordStore;
 use config_core::laws::configuration_is_start;
 use config_core::start::Fixed;
@@ -85,6 +86,7 @@ impl<'c, Q: RecordStore> System<'c, Q> {
     {
         configuration_is_start();
         starts_sound();
+        starts_supplied();
         layout_reads_what_it_holds();
         let initiators = idle_of(alloc, fixed.initiators.as_slice())?;
         Ok(System {

@@ -8,6 +8,7 @@ use Rattle.session_text.specs.declared.fault.Fault.{Fault}
 use Rattle.session_text.specs.declared.fault.Fault.TheVariants.{NoEnd}
 use Rattle.session_text.specs.declared.statement.Says.TheVariants.{Config}
 use Rattle.session_text.specs.declared.statement.Statement.{Statement}
+use Rattle.session_core.specs.declared.Options.{Options}
 use Rattle.session_core.specs.declared.SessionEnd.{SessionEnd}
 use Rattle.session_core.specs.declared.SessionFault.TheVariants.{Stopped}
 use Rattle.session_core.specs.Listings.{Lists}
@@ -38,24 +39,24 @@ Configured-more all before rest s statement c new p says none is =
     }
 
 -- nothing is listed
-lists_nothing : (before : List Statement) (first : Machine) → has_begun before ≡ false → IsFirst (configuration_of before) first
-    → Lists before (events_of before) []
-lists_nothing before first none started = record {
+lists_nothing : (o : Options) (before : List Statement) (first : Machine) → has_begun before ≡ false → IsFirst o (configuration_of before) first
+    → Lists o before (events_of before) []
+lists_nothing o before first none started = record {
   first = first;
   last = first;
   started = started;
   entries = [];
   drives = rw (no_events before none) refl;
-  run = configured_run before first first (events_of before) [] started (rw (no_events before none) refl);
+  run = configured_run o before first first (events_of before) [] started (rw (no_events before none) refl);
   text = refl;
 }
 
-pub Configured-stops : (all before rest : List Statement) (s : Statement) (c : Configuration) (f : Fault) → ((first : Machine) × IsFirst c first)
-    → Configured all before (s ∷ rest) c → fault_behind before s.says ≡ Some f → IsOutcome {T = SessionEnd} (session_behind [] all) (Err (Stopped f s.line)) []
-Configured-stops all before rest s c f begun p some =
+pub Configured-stops : (o : Options) (all before rest : List Statement) (s : Statement) (c : Configuration) (f : Fault) → ((first : Machine) × IsFirst o c first)
+    → Configured all before (s ∷ rest) c → fault_behind before s.says ≡ Some f → IsOutcome {T = SessionEnd} o (session_behind [] all) (Err (Stopped f s.line)) []
+Configured-stops o all before rest s c f begun p some =
     let is = p.session ∙ stops_at before rest s f some in
-    let started = subst (λ x. IsFirst x begun.0) p.configured begun.1 in
-    rw is (refl, lists_nothing before begun.0 p.not_begun started)
+    let started = subst (λ x. IsFirst o x begun.0) p.configured begun.1 in
+    rw is (refl, lists_nothing o before begun.0 p.not_begun started)
 
 -- one that is refused, or whose block has no END
 pub refused_config : (all before rest : List Statement) (s : Statement) (statement : ConfigStatement) (has_end : Bool) (c : Configuration) (fault : ConfigFault)

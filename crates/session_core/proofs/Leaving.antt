@@ -1,16 +1,14 @@
 -- The machine that events leave, one part behind another.
-use Rattle.std.proofs.Common.{◌≡◌, ℕ, List, [], ◌++◌, replicate, Option, Result, Ok, Err, refl}
+use Rattle.std.proofs.Common.{ℕ, List, [], ◌++◌, replicate, Option, Result, Ok, Err, refl}
 use Rattle.std.specs.Prelude.{OnErr}
 use Rattle.std.specs.Io.KnownBytes.{Appends}
-use Rattle.jcl_plan.specs.declared.entry.Entry.{Entry}
 use Rattle.input_core.specs.declared.event.Event.{Event}
-use Rattle.sched_core.specs.Systems.{Machine, Steps, world_of}
+use Rattle.sched_core.specs.Systems.{Machine}
 use Rattle.session_text.specs.declared.fault.Fault.{Fault}
 use Rattle.session_text.specs.declared.statement.Says.{Says}
 use Rattle.session_text.specs.declared.statement.Says.TheVariants.{Config, Events, Refused}
-use Rattle.session_core.specs.declared.SessionFault.{SessionFault}
 use Rattle.session_core.specs.declared.listing.Mark.{Mark}
-use Rattle.session_core.specs.Leaving.{IsLeft, ListsWhole, WritesWhole, further, reached_so}
+use Rattle.session_core.specs.Leaving.{IsLeft, ListsWhole, WritesWhole, reached_so}
 use Rattle.session_core.specs.Running.{AreApplied, StatementRuns}
 use Rattle.session_core.specs.Streams.{SinkState}
 use Rattle.session_core.proofs.Applied.{AreApplied-append, AreApplied-behind, AreApplied-none}

@@ -3,39 +3,40 @@ use Rattle.std.proofs.Common.{◌≡◌, ◌⊎◌, ℕ, ◌+◌, ◌<◌, ◌�
 use Rattle.std.proofs.lemmas.List.{append-nil, at_drop_more, drop_all, take-append-le}
 use Rattle.std.proofs.Math.Seq.{take-append-add}
 use Rattle.session_text.specs.declared.statement.Statement.{Statement}
+use Rattle.session_core.specs.declared.Options.{Options}
 use Rattle.session_core.specs.declared.listing.Mark.{Mark}
 use Rattle.session_core.specs.Listings.{StopsIn}
 use Rattle.session_core.specs.Marks.{AreMarks, IsListedLast}
 
 -- one more statement, which wrote the last part
-pub AreMarks-more : (stands : List Statement) (out : ℕ) (earlier : List ℕ) (marks : List Mark) (text part : List ℕ) (line start : ℕ)
+pub AreMarks-more : (o : Options) (stands : List Statement) (out : ℕ) (earlier : List ℕ) (marks : List Mark) (text part : List ℕ) (line start : ℕ)
     → out + start ≡ length (earlier ++ text)
-    → AreMarks stands out earlier marks text → IsListedLast stands line (earlier ++ text) ((earlier ++ text) ++ part)
-    → AreMarks stands out earlier (marks ++ record { line = line; start = start } ∷ []) (text ++ part)
-AreMarks-more stands out earlier [] text part line start place are last =
+    → AreMarks o stands out earlier marks text → IsListedLast o stands line (earlier ++ text) ((earlier ++ text) ++ part)
+    → AreMarks o stands out earlier (marks ++ record { line = line; start = start } ∷ []) (text ++ part)
+AreMarks-more o stands out earlier [] text part line start place are last =
     let none : earlier ++ text ≡ earlier = ap (λ x. earlier ++ x) are ∙ append-nil earlier in
     (part, [], ap (λ x. x ++ part) are ∙ sym (append-nil part), place ∙ ap length none, rw none at last, refl)
-AreMarks-more stands out earlier (mark ∷ marks) text part line start place are last =
+AreMarks-more o stands out earlier (mark ∷ marks) text part line start place are last =
     let same : (earlier ++ are.0) ++ are.1 ≡ earlier ++ text = append_assoc earlier are.0 are.1 ∙ ap (λ x. earlier ++ x) (sym are.2) in
-    let rest = AreMarks-more stands out (earlier ++ are.0) marks are.1 part line start (rw same place) are.5 (rw same last) in
+    let rest = AreMarks-more o stands out (earlier ++ are.0) marks are.1 part line start (rw same place) are.5 (rw same last) in
     (are.0, are.1 ++ part, ap (λ x. x ++ part) are.2 ∙ append_assoc are.0 are.1 part, are.3, are.4, rest)
 
 -- The marks so far, up to a byte's place: what they wrote, what the others wrote, and the last of them, which begins before the place.
-pub record Passed (stands : List Statement) (out : ℕ) (whole : List ℕ) (taken line : ℕ) (left : List Mark) : Type 0 where
+pub record Passed (o : Options) (stands : List Statement) (out : ℕ) (whole : List ℕ) (taken line : ℕ) (left : List Mark) : Type 0 where
   pub passed : List ℕ
   pub rest : List ℕ
   pub whole_so : whole ≡ passed ++ rest
-  pub marks : AreMarks stands out passed left rest
-  pub last : (length passed ≤ out + taken) ⊎ ((earlier : List ℕ) × (length earlier ≤ out + taken) × IsListedLast stands line earlier passed)
+  pub marks : AreMarks o stands out passed left rest
+  pub last : (length passed ≤ out + taken) ⊎ ((earlier : List ℕ) × (length earlier ≤ out + taken) × IsListedLast o stands line earlier passed)
 
-pub Passed-none : (stands : List Statement) (before text : List ℕ) (taken line : ℕ) (marks : List Mark) → AreMarks stands (length before) before marks text
-    → Passed stands (length before) (before ++ text) taken line marks
-Passed-none stands before text taken line marks are = record { passed = before; rest = text; whole_so = refl; marks = are; last = inl (omega arith) }
+pub Passed-none : (o : Options) (stands : List Statement) (before text : List ℕ) (taken line : ℕ) (marks : List Mark) → AreMarks o stands (length before) before marks text
+    → Passed o stands (length before) (before ++ text) taken line marks
+Passed-none o stands before text taken line marks are = record { passed = before; rest = text; whole_so = refl; marks = are; last = inl (omega arith) }
 
-pub Passed-more : (stands : List Statement) (out : ℕ) (whole : List ℕ) (taken line : ℕ) (mark : Mark) (left : List Mark)
-    → Passed stands out whole taken line (mark ∷ left) → mark.start ≤ taken
-    → Passed stands out whole taken mark.line left
-Passed-more stands out whole taken line mark left p begins = record {
+pub Passed-more : (o : Options) (stands : List Statement) (out : ℕ) (whole : List ℕ) (taken line : ℕ) (mark : Mark) (left : List Mark)
+    → Passed o stands out whole taken line (mark ∷ left) → mark.start ≤ taken
+    → Passed o stands out whole taken mark.line left
+Passed-more o stands out whole taken line mark left p begins = record {
   passed = p.passed ++ p.marks.0;
   rest = p.marks.1;
   whole_so = p.whole_so ∙ ap (λ x. p.passed ++ x) p.marks.2 ∙ sym (append_assoc p.passed p.marks.0 p.marks.1);
@@ -44,10 +45,10 @@ Passed-more stands out whole taken line mark left p begins = record {
 }
 
 -- the place is within what the last of them wrote
-stops : (stands : List Statement) (whole passed rest earlier : List ℕ) (place line : ℕ) → whole ≡ passed ++ rest → place < length passed
-    → length earlier ≤ place → IsListedLast stands line earlier passed
-    → StopsIn stands line (take place whole)
-stops stands whole passed rest earlier place line is within begins last =
+stops : (o : Options) (stands : List Statement) (whole passed rest earlier : List ℕ) (place line : ℕ) → whole ≡ passed ++ rest → place < length passed
+    → length earlier ≤ place → IsListedLast o stands line earlier passed
+    → StopsIn o stands line (take place whole)
+stops o stands whole passed rest earlier place line is within begins last =
     let long : length (take place whole) ≡ place = length-take-le place whole (rw is (omega (arith, length-append passed rest))) in
     let front : take place whole ≡ take place passed = rw is (take-append-le place passed rest (omega arith)) in
     record {
@@ -65,36 +66,36 @@ stops stands whole passed rest earlier place line is within begins last =
       not_whole = rw long within;
     }
 
-pub Passed-stops : (stands : List Statement) (out : ℕ) (whole : List ℕ) (taken line : ℕ) (left : List Mark)
-    → (p : Passed stands out whole taken line left) → out + taken < length p.passed
-    → StopsIn stands line (take (out + taken) whole)
-Passed-stops stands out whole taken line left p within =
+pub Passed-stops : (o : Options) (stands : List Statement) (out : ℕ) (whole : List ℕ) (taken line : ℕ) (left : List Mark)
+    → (p : Passed o stands out whole taken line left) → out + taken < length p.passed
+    → StopsIn o stands line (take (out + taken) whole)
+Passed-stops o stands out whole taken line left p within =
     ⊎_elim (λ short. absurd (omega arith))
-    (λ last. stops stands whole p.passed p.rest last.0 (out + taken) line p.whole_so within last.1 last.2) p.last
+    (λ last. stops o stands whole p.passed p.rest last.0 (out + taken) line p.whole_so within last.1 last.2) p.last
 
 -- it is before the next mark
-pub Passed-next : (stands : List Statement) (before text : List ℕ) (taken line : ℕ) (mark : Mark) (left : List Mark)
-    → Passed stands (length before) (before ++ text) taken line (mark ∷ left)
-    → taken < mark.start → StopsIn stands line (before ++ take taken text)
-Passed-next stands before text taken line mark left p next =
-    rw (take-append-add before text taken) at (Passed-stops stands (length before) (before ++ text) taken line (mark ∷ left) p (omega (arith, p.marks.3)))
+pub Passed-next : (o : Options) (stands : List Statement) (before text : List ℕ) (taken line : ℕ) (mark : Mark) (left : List Mark)
+    → Passed o stands (length before) (before ++ text) taken line (mark ∷ left)
+    → taken < mark.start → StopsIn o stands line (before ++ take taken text)
+Passed-next o stands before text taken line mark left p next =
+    rw (take-append-add before text taken) at (Passed-stops o stands (length before) (before ++ text) taken line (mark ∷ left) p (omega (arith, p.marks.3)))
 
 -- it is before the end
-pub Passed-all : (stands : List Statement) (before text : List ℕ) (taken line : ℕ) → Passed stands (length before) (before ++ text) taken line []
+pub Passed-all : (o : Options) (stands : List Statement) (before text : List ℕ) (taken line : ℕ) → Passed o stands (length before) (before ++ text) taken line []
     → taken < length text
-    → StopsIn stands line (before ++ take taken text)
-Passed-all stands before text taken line p within =
+    → StopsIn o stands line (before ++ take taken text)
+Passed-all o stands before text taken line p within =
     let all : length before + length text ≡ length p.passed = sym (length-append before text)
     ∙ ap length (p.whole_so ∙ ap (λ x. p.passed ++ x) p.marks ∙ append-nil p.passed) in
-    rw (take-append-add before text taken) at (Passed-stops stands (length before) (before ++ text) taken line [] p (omega arith))
+    rw (take-append-add before text taken) at (Passed-stops o stands (length before) (before ++ text) taken line [] p (omega arith))
 
 -- the next mark is the one at an index
-pub at_mark : (stands : List Statement) (out : ℕ) (whole : List ℕ) (taken line index : ℕ) (marks : List Mark) (d : Mark) → index < length marks
-    → Passed stands out whole taken line (drop index marks)
-    → Passed stands out whole taken line (get_or marks index d ∷ drop (index + 1) marks)
-at_mark stands out whole taken line index marks d lt p = rw (at_drop_more (λ xs. xs) marks index d lt) at p
+pub at_mark : (o : Options) (stands : List Statement) (out : ℕ) (whole : List ℕ) (taken line index : ℕ) (marks : List Mark) (d : Mark) → index < length marks
+    → Passed o stands out whole taken line (drop index marks)
+    → Passed o stands out whole taken line (get_or marks index d ∷ drop (index + 1) marks)
+at_mark o stands out whole taken line index marks d lt p = rw (at_drop_more (λ xs. xs) marks index d lt) at p
 
-pub behind_marks : (stands : List Statement) (out : ℕ) (whole : List ℕ) (taken line index : ℕ) (marks : List Mark) → length marks ≤ index
-    → Passed stands out whole taken line (drop index marks)
-    → Passed stands out whole taken line []
-behind_marks stands out whole taken line index marks le p = rw (drop_all index marks le) at p
+pub behind_marks : (o : Options) (stands : List Statement) (out : ℕ) (whole : List ℕ) (taken line index : ℕ) (marks : List Mark) → length marks ≤ index
+    → Passed o stands out whole taken line (drop index marks)
+    → Passed o stands out whole taken line []
+behind_marks o stands out whole taken line index marks le p = rw (drop_all index marks le) at p

@@ -11,6 +11,7 @@ use Rattle.session_text.specs.declared.fault.Fault.{Fault}
 use Rattle.session_text.specs.declared.statement.Says.{Says}
 use Rattle.session_text.specs.declared.statement.Says.TheVariants.{Config, Events, Refused}
 use Rattle.session_text.specs.declared.statement.Statement.{Statement}
+use Rattle.session_core.specs.declared.Options.{Options}
 use Rattle.session_core.specs.declared.SessionEnd.{SessionEnd}
 use Rattle.session_core.specs.declared.SessionFault.{SessionFault}
 use Rattle.session_core.specs.declared.SessionFault.TheVariants.{Stopped, WriteFailed, Memory}
@@ -40,66 +41,71 @@ HasBegun before rest = LastIsEvent before ⊎ (begins_with_event rest ≡ true)
 
 -- The statements before these ran, from a first machine to this one: of their lines the first are written out, and the others held. What is told of
 -- the next that is configuration is what was found before the first event.
-pub record Progress (all before rest : List Statement) (late : Option Fault) (now : Machine) (out : List ℕ) (marks : List Mark) (text : List ℕ) : Type 0 where
+pub record Progress (o : Options) (all before rest : List Statement) (late : Option Fault) (now : Machine) (out : List ℕ) (marks : List Mark) (text : List ℕ) : Type 0 where
   pub session : session_behind [] all ≡ session_behind before rest
   pub found : late ≡ late_in (configuration_of before) rest
   pub begun : HasBegun before rest
   pub first : Machine
-  pub started : IsFirst (configuration_of before) first
+  pub started : IsFirst o (configuration_of before) first
   pub applied : AreApplied first (events_of before) now [] (out ++ text)
-  pub marked : AreMarks (session_behind [] all).stands (length out) out marks text
+  pub marked : AreMarks o (session_behind [] all).stands (length out) out marks text
 
 -- what a session comes to, with the lines that are written out and those that are held
-pub record ComesTo (all : List Statement) (result : Result SessionEnd SessionFault) (out : List ℕ) (marks : List Mark) (text : List ℕ) : Type 0 where
-  pub outcome : IsOutcome (session_behind [] all) result (out ++ text)
-  pub marked : AreMarks (session_behind [] all).stands (length out) out marks text
+pub record ComesTo (o : Options) (all : List Statement) (result : Result SessionEnd SessionFault) (out : List ℕ) (marks : List Mark) (text : List ℕ) : Type 0 where
+  pub outcome : IsOutcome o (session_behind [] all) result (out ++ text)
+  pub marked : AreMarks o (session_behind [] all).stands (length out) out marks text
 
 -- more was written, behind what was written out
-pub written_behind : {T : Type 0} (s : Session) (a b c : SinkState) (result : Result T SessionFault) (out : List ℕ) → Appends a.contents b.contents out
-    → WritesOutcome b c out s result → WritesOutcome a c [] s result
-written_behind s a b c result out first more = record {
+pub written_behind : {T : Type 0} (o : Options) (s : Session) (a b c : SinkState) (result : Result T SessionFault) (out : List ℕ) → Appends a.contents b.contents out
+    → WritesOutcome o b c out s result → WritesOutcome o a c [] s result
+written_behind o s a b c result out first more = record {
   written = out ++ more.written;
   appended = appended_twice a.contents b.contents c.contents out more.written first more.appended;
   outcome = more.outcome;
 }
 
-Lists-applied : (before : List Statement) (events : List Event) (first last : Machine) (text : List ℕ) → IsFirst (configuration_of before) first
-    → AreApplied first events last [] text → Lists before events text
-Lists-applied before events first last text started a = record {
+-- the same with options that are the same
+pub with_options : {T : Type 0} (s : Session) (a c : SinkState) (result : Result T SessionFault) (out : List ℕ) (own o : Options) → own ≡ o
+    → WritesOutcome own a c out s result → WritesOutcome o a c out s result
+with_options s a c result out own o same w = subst (λ (x : Options). WritesOutcome x a c out s result) same w
+
+Lists-applied : (o : Options) (before : List Statement) (events : List Event) (first last : Machine) (text : List ℕ) → IsFirst o (configuration_of before) first
+    → AreApplied first events last [] text → Lists o before events text
+Lists-applied o before events first last text started a = record {
   first = first;
   last = last;
   started = started;
   entries = a.entries;
   drives = a.drives;
-  run = configured_run before first last events a.entries started a.drives;
+  run = configured_run o before first last events a.entries started a.drives;
   text = a.text_so;
 }
 
-pub Progress-start : (all : List Statement) (from : ℕ) (c : Configuration) (late : Option Fault) (first : Machine) (marks : List Mark) (text : List ℕ)
-    → IsConfiguredBy all from c → late ≡ late_in c (drop from all) → IsFirst c first → marks ≡ [] → text ≡ []
-    → Progress all (take from all) (drop from all) late first [] marks text
-Progress-start all from c late first marks text p found started no_marks no_text = record {
+pub Progress-start : (o : Options) (all : List Statement) (from : ℕ) (c : Configuration) (late : Option Fault) (first : Machine) (marks : List Mark) (text : List ℕ)
+    → IsConfiguredBy all from c → late ≡ late_in c (drop from all) → IsFirst o c first → marks ≡ [] → text ≡ []
+    → Progress o all (take from all) (drop from all) late first [] marks text
+Progress-start o all from c late first marks text p found started no_marks no_text = record {
   session = p.session;
   found = found ∙ ap (λ x. late_in x (drop from all)) p.configured;
   begun = inr p.next;
   first = first;
-  started = subst (λ x. IsFirst x first) p.configured started;
+  started = subst (λ x. IsFirst o x first) p.configured started;
   applied = rw (no_events (take from all) p.not_begun, no_text) (AreApplied-none first []);
   marked = rw no_marks no_text;
 }
 
-pub Progress-ends : (all before : List Statement) (late : Option Fault) (now : Machine) (out : List ℕ) (marks : List Mark) (text : List ℕ) (end : SessionEnd)
-    → Progress all before [] late now out marks text → ComesTo all (Ok end) out marks text
-Progress-ends all before late now out marks text end p = record {
-  outcome = rw p.session (refl, Lists-applied before (events_of before) p.first now (out ++ text) p.started p.applied);
+pub Progress-ends : (o : Options) (all before : List Statement) (late : Option Fault) (now : Machine) (out : List ℕ) (marks : List Mark) (text : List ℕ) (end : SessionEnd)
+    → Progress o all before [] late now out marks text → ComesTo o all (Ok end) out marks text
+Progress-ends o all before late now out marks text end p = record {
+  outcome = rw p.session (refl, Lists-applied o before (events_of before) p.first now (out ++ text) p.started p.applied);
   marked = p.marked;
 }
 
 -- what was held is written out
-pub Progress-written : (all before rest : List Statement) (late : Option Fault) (now : Machine) (out : List ℕ) (marks new_marks : List Mark)
-    (text new : List ℕ) → Progress all before rest late now out marks text
-    → new_marks ≡ [] → new ≡ [] → Progress all before rest late now (out ++ text) new_marks new
-Progress-written all before rest late now out marks new_marks text new p no_marks none = record {
+pub Progress-written : (o : Options) (all before rest : List Statement) (late : Option Fault) (now : Machine) (out : List ℕ) (marks new_marks : List Mark)
+    (text new : List ℕ) → Progress o all before rest late now out marks text
+    → new_marks ≡ [] → new ≡ [] → Progress o all before rest late now (out ++ text) new_marks new
+Progress-written o all before rest late now out marks new_marks text new p no_marks none = record {
   session = p.session;
   found = p.found;
   begun = p.begun;
@@ -144,17 +150,17 @@ late_some (Some own) has_end = refl
 late_some None true = refl
 late_some None false = refl
 
-module _ (all before rest : List Statement) (s : Statement) (late : Option Fault) (now : Machine) (out : List ℕ) (marks : List Mark) (text : List ℕ)
-    (p : Progress all before (s ∷ rest) late now out marks text) where
+module _ (o : Options) (all before rest : List Statement) (s : Statement) (late : Option Fault) (now : Machine) (out : List ℕ) (marks : List Mark) (text : List ℕ)
+    (p : Progress o all before (s ∷ rest) late now out marks text) where
   -- a fault of a statement
-  stops : (f : Fault) → fault_behind before s.says ≡ Some f → ComesTo all (Err (Stopped f s.line)) out marks text
+  stops : (f : Fault) → fault_behind before s.says ≡ Some f → ComesTo o all (Err (Stopped f s.line)) out marks text
   stops f some =
       let is = p.session ∙ stops_at before rest s f some in
-      record { outcome = rw is (refl, Lists-applied before (events_of before) p.first now (out ++ text) p.started p.applied); marked = p.marked }
+      record { outcome = rw is (refl, Lists-applied o before (events_of before) p.first now (out ++ text) p.started p.applied); marked = p.marked }
 
   -- the first times of an event
   listed : (e : Event) (times : ℕ) (new : List ℕ) → s.says ≡ Events e times → AreAppliedInPart now e times text new
-      → IsListedLast (session_behind [] all).stands s.line (out ++ text) (out ++ new)
+      → IsListedLast o (session_behind [] all).stands s.line (out ++ text) (out ++ new)
   listed e times new is a =
       let next = next_stands all before rest s p.session (ap (fault_behind before) is) in
       let some : take a.done (events_in s.says) ≡ replicate a.done e = ap (λ x. take a.done (events_in x)) is ∙ take-replicate a.done times e a.within in
@@ -167,27 +173,27 @@ module _ (all before rest : List Statement) (s : Statement) (late : Option Fault
         lists = record {
           done = a.done;
           in_statement = rw is (omega (arith, length-replicate times e, a.within));
-          lists = rw some (Lists-applied before (events_of before ++ replicate a.done e) p.first a.reached (out ++ new) p.started
+          lists = rw some (Lists-applied o before (events_of before ++ replicate a.done e) p.first a.reached (out ++ new) p.started
               (AreApplied-append p.first now a.reached (events_of before) (replicate a.done e) [] (out ++ text) (out ++ new) p.applied
               (AreApplied-behind now a.reached (replicate a.done e) out text new a.applied)));
         };
-        lists_earlier = Lists-applied before (events_of before) p.first now (out ++ text) p.started p.applied;
+        lists_earlier = Lists-applied o before (events_of before) p.first now (out ++ text) p.started p.applied;
       }
 
   marked_more : (e : Event) (times : ℕ) (new : List ℕ) (new_marks : List Mark) → s.says ≡ Events e times → AreAppliedInPart now e times text new
       → new_marks ≡ marks ++ mark_at s.line text ∷ []
-      → AreMarks (session_behind [] all).stands (length out) out new_marks new
+      → AreMarks o (session_behind [] all).stands (length out) out new_marks new
   marked_more e times new new_marks is a more =
       let stands = (session_behind [] all).stands in
       let part = text_of_all a.applied.entries in
       let whole : out ++ new ≡ (out ++ text) ++ part = ap (λ x. out ++ x) a.applied.text_so ∙ sym (append_assoc out text part) in
-      let last : IsListedLast stands s.line (out ++ text) ((out ++ text) ++ part) = rw whole at (listed e times new is a) in
-      rw (more, a.applied.text_so) (AreMarks-more stands (length out) out marks text part s.line (length text) (sym (length-append out text)) p.marked last)
+      let last : IsListedLast o stands s.line (out ++ text) ((out ++ text) ++ part) = rw whole at (listed e times new is a) in
+      rw (more, a.applied.text_so) (AreMarks-more o stands (length out) out marks text part s.line (length text) (sym (length-append out text)) p.marked last)
 
   -- all of its times
   Progress-more : (e : Event) (times : ℕ) (after : Machine) (new : List ℕ) (new_marks : List Mark) → s.says ≡ Events e times
       → new_marks ≡ marks ++ mark_at s.line text ∷ []
-      → AreApplied now (replicate times e) after text new → Progress all (before ++ s ∷ []) rest late after out new_marks new
+      → AreApplied now (replicate times e) after text new → Progress o all (before ++ s ∷ []) rest late after out new_marks new
   Progress-more e times after new new_marks is more a =
       let event : has_events s.says ≡ true = ap has_events is in
       let events : events_of (before ++ s ∷ []) ≡ events_of before ++ replicate times e = events_of-more before s
@@ -205,7 +211,7 @@ module _ (all before rest : List Statement) (s : Statement) (late : Option Fault
       }
 
   wants : (e : Event) (times : ℕ) (new : List ℕ) (new_marks : List Mark) → s.says ≡ Events e times → new_marks ≡ marks ++ mark_at s.line text ∷ []
-      → AreAppliedInPart now e times text new → ComesTo all (Err Memory) out new_marks new
+      → AreAppliedInPart now e times text new → ComesTo o all (Err Memory) out new_marks new
   wants e times new new_marks is more a =
       let last = listed e times new is a in
       record {
@@ -213,7 +219,7 @@ module _ (all before rest : List Statement) (s : Statement) (late : Option Fault
         marked = marked_more e times new new_marks is a more;
       }
 
-  wants_first : (e : Event) (times : ℕ) → s.says ≡ Events e times → ComesTo all (Err Memory) out marks text
+  wants_first : (e : Event) (times : ℕ) → s.says ≡ Events e times → ComesTo o all (Err Memory) out marks text
   wants_first e times is =
       let last = listed e times text is (record { done = 0; within = omega arith; reached = now; applied = AreApplied-none now text }) in
       record {
@@ -240,7 +246,7 @@ module _ (all before rest : List Statement) (s : Statement) (late : Option Fault
       ap is_some (found_here statement has_end is) ∙ late_some (config_fault (configuration_of before) statement) has_end
 
   stops_late : (statement : ConfigStatement) (has_end : Bool) (f : Fault) → s.says ≡ Config statement has_end → late ≡ Some f
-      → ComesTo all (Err (Stopped f s.line)) out marks text
+      → ComesTo o all (Err (Stopped f s.line)) out marks text
   stops_late statement has_end f is told =
       let l = has_begun_here (Config statement has_end) is refl in
       let some : fault_behind before s.says ≡ Some f
@@ -250,7 +256,7 @@ module _ (all before rest : List Statement) (s : Statement) (late : Option Fault
 
   fails_by : (says : Says) (fault : SessionFault) (after : Machine) (new_marks : List Mark) (new : List ℕ) → s.says ≡ says
       → StatementRuns {T = Unit {0}} late now s.line says marks text (Err fault) after new_marks new
-      → ComesTo all (Err fault) out new_marks new
+      → ComesTo o all (Err fault) out new_marks new
   fails_by (Events e times) Memory after new_marks new is h =
       ⊎_elim (λ a. wants e times new new_marks is a.0 a.1) (λ silent. rw (silent.marks_so, silent.text_so) (wants_first e times is)) h
   fails_by (Events e times) (Stopped f at) after new_marks new is h = absurd h
@@ -260,46 +266,46 @@ module _ (all before rest : List Statement) (s : Statement) (late : Option Fault
       rw (h.2, h.3.marks_so, h.3.text_so) (stops_late statement has_end h.0 is h.1)
 
   Progress-fails : (fault : SessionFault) (after : Machine) (new_marks : List Mark) (new : List ℕ)
-      → StatementRuns {T = Unit {0}} late now s.line s.says marks text (Err fault) after new_marks new → ComesTo all (Err fault) out new_marks new
+      → StatementRuns {T = Unit {0}} late now s.line s.says marks text (Err fault) after new_marks new → ComesTo o all (Err fault) out new_marks new
   Progress-fails fault after new_marks new h = fails_by s.says fault after new_marks new refl h
 
   runs_by : (says : Says) (after : Machine) (new_marks : List Mark) (new : List ℕ) → s.says ≡ says
       → StatementRuns {T = Unit {0}} late now s.line says marks text (Ok tt) after new_marks new
-      → Progress all (before ++ s ∷ []) rest late after out new_marks new
+      → Progress o all (before ++ s ∷ []) rest late after out new_marks new
   runs_by (Events e times) after new_marks new is h = Progress-more e times after new new_marks is h.0 h.1
   runs_by (Refused own) after new_marks new is h = absurd h
   runs_by (Config statement has_end) after new_marks new is h = absurd h
 
   Progress-runs : (after : Machine) (new_marks : List Mark) (new : List ℕ)
       → StatementRuns {T = Unit {0}} late now s.line s.says marks text (Ok tt) after new_marks new
-      → Progress all (before ++ s ∷ []) rest late after out new_marks new
+      → Progress o all (before ++ s ∷ []) rest late after out new_marks new
   Progress-runs after new_marks new h = runs_by s.says after new_marks new refl h
 
 -- the statement at an index of the rest behind the configuration
-module _ (all rest : List Statement) (from index : ℕ) (s : Statement) (back : rest ≡ drop from all) (within : index < length rest)
+module _ (o : Options) (all rest : List Statement) (from index : ℕ) (s : Statement) (back : rest ≡ drop from all) (within : index < length rest)
     (item : s ≡ get_or rest index s) where
   pub Progress-next : (late : Option Fault) (now after : Machine) (out : List ℕ) (marks new_marks : List Mark) (text new : List ℕ)
-      → Progress all (take (from + index) all) (drop (from + index) all) late now out marks text
+      → Progress o all (take (from + index) all) (drop (from + index) all) late now out marks text
       → StatementRuns {T = Unit {0}} late now s.line s.says marks text (Ok tt) after new_marks new
-      → Progress all (take (from + (index + 1)) all) (drop (from + (index + 1)) all) late after out new_marks new
+      → Progress o all (take (from + (index + 1)) all) (drop (from + (index + 1)) all) late after out new_marks new
   Progress-next late now after out marks new_marks text new p h =
       let at = rest_at all rest from index s back within item in
       let here = rw at.0 at p in
       rw at.1
-      (Progress-runs all (take (from + index) all) (drop (from + (index + 1)) all) s late now out marks text here after new_marks new h)
+      (Progress-runs o all (take (from + index) all) (drop (from + (index + 1)) all) s late now out marks text here after new_marks new h)
 
   pub Progress-found : (late : Option Fault) (now : Machine) (out : List ℕ) (marks : List Mark) (text : List ℕ)
-      (statement : ConfigStatement) (has_end : Bool) → Progress all (take (from + index) all) (drop (from + index) all) late now out marks text
+      (statement : ConfigStatement) (has_end : Bool) → Progress o all (take (from + index) all) (drop (from + index) all) late now out marks text
       → s.says ≡ Config statement has_end → is_some late ≡ true
   Progress-found late now out marks text statement has_end p is =
       let at = rest_at all rest from index s back within item in
       let here = rw at.0 at p in
-      found_some all (take (from + index) all) (drop (from + (index + 1)) all) s late now out marks text here statement has_end is
+      found_some o all (take (from + index) all) (drop (from + (index + 1)) all) s late now out marks text here statement has_end is
 
   pub Progress-last : (late : Option Fault) (now after : Machine) (out : List ℕ) (marks new_marks : List Mark) (text new : List ℕ)
-      (fault : SessionFault) → Progress all (take (from + index) all) (drop (from + index) all) late now out marks text
-      → StatementRuns {T = Unit {0}} late now s.line s.says marks text (Err fault) after new_marks new → ComesTo all (Err fault) out new_marks new
+      (fault : SessionFault) → Progress o all (take (from + index) all) (drop (from + index) all) late now out marks text
+      → StatementRuns {T = Unit {0}} late now s.line s.says marks text (Err fault) after new_marks new → ComesTo o all (Err fault) out new_marks new
   Progress-last late now after out marks new_marks text new fault p h =
       let at = rest_at all rest from index s back within item in
       let here = rw at.0 at p in
-      Progress-fails all (take (from + index) all) (drop (from + (index + 1)) all) s late now out marks text here fault after new_marks new h
+      Progress-fails o all (take (from + index) all) (drop (from + (index + 1)) all) s late now out marks text here fault after new_marks new h

@@ -1,14 +1,18 @@
 -- The machine of a configuration, before its first event, and the run that its steps are.
-use Rattle.std.proofs.Common.{Global, ◌≡◌, false, List, [], ◌∷◌, map, None, refl, ap, subst}
+use Rattle.std.proofs.Common.{Global, ◌≡◌, ℕ, Bool, List, [], ◌∷◌, map, None, refl, ap, subst, ◌∙◌}
 use Rattle.cb_meaning.specs.declared.layout.TheConstants.{LAYOUT_1}
-use Rattle.cb_queue.specs.RecordQueues.{empty_queue}
+use Rattle.cb_queue.specs.RecordQueues.{RecordQueue, empty_queue}
 use Rattle.config_core.specs.Configs.{Configuration, unit_names}
 use Rattle.config_core.specs.Configured.{IsConfigured}
-use Rattle.config_core.specs.Starts.{StartsOfConfigurations, idle, start_config}
+use Rattle.config_core.proofs.Starting.{nothing_on}
+use Rattle.config_core.specs.Starts.{StartsOfConfigurations, idle, start_config, start_of}
 use Rattle.input_core.specs.declared.event.Event.{Event}
 use Rattle.jcl_job.specs.Jobs.{job_of}
 use Rattle.jcl_plan.specs.declared.entry.Entry.{Entry}
 use Rattle.machine_meaning.specs.declared.config.ConfiguredInitiator.{ConfiguredInitiator}
+use Rattle.shared_core.proofs.Showing.{nothing_shown}
+use Rattle.shared_core.specs.Shown.{mounted_in}
+use Rattle.shared_core.specs.Tracks.{kept_shown}
 use Rattle.sched_core.specs.Machines.{shown_initiator}
 use Rattle.sched_core.specs.Starting.{IsForMachine, IsStarted}
 use Rattle.sched_core.specs.Systems.{Drives, Machine, denoting, meant_by, world_of}
@@ -17,12 +21,15 @@ use Rattle.sched_core.specs.declared.state.Initiator.{Initiator}
 use Rattle.sched_core.proofs.Driving.{drives_run}
 use Rattle.session_text.specs.declared.statement.Statement.{Statement}
 use Rattle.world_meaning.specs.Transitions.{Runs}
-use Rattle.world_meaning.specs.Worlds.{Config}
-use Rattle.session_core.specs.Sessions.{configuration_of, denoting_in, denoting_of, start_in, world_at_start}
-use Rattle.session_core.specs.declared.run.TheConstants.{MOST_VIEWS}
+use Rattle.world_meaning.specs.Worlds.{Config, World}
+use Rattle.session_core.specs.Running.{choice_of, options_in}
+use Rattle.session_core.specs.Sessions.{configuration_of, denoting_in, denoting_of, is_refusal, refuses_in, world_at_start}
+use Rattle.session_core.specs.declared.Options.{Options}
+use Rattle.session_core.specs.declared.RiskChoice.{RiskChoice}
+use Rattle.session_core.specs.declared.RiskChoice.TheVariants as risk
 
-abbrev pub IsFirst : Configuration → Machine → Type 0
-IsFirst c first = IsStarted c false MOST_VIEWS LAYOUT_1 first
+abbrev pub IsFirst : Options → Configuration → Machine → Type 0
+IsFirst o c first = IsStarted c (refuses_in o) o.views LAYOUT_1 first
 
 abbrev without_job : ConfiguredInitiator → Initiator
 without_job x = record { number = x.number; classes = x.classes; running = None }
@@ -35,9 +42,9 @@ idle_shown c (x ∷ xs) = ap (λ ys. idle x ∷ ys) (idle_shown c xs)
 allocator : Global
 allocator = record { memory = record { seal = tt } }
 
-abbrev begun : Configuration → Machine
-begun c = record {
-  config = start_config c false MOST_VIEWS LAYOUT_1;
+abbrev begun : Bool → ℕ → Configuration → Machine
+begun refuses views c = record {
+  config = start_config c refuses views LAYOUT_1;
   unit_names = unit_names c.units;
   library = c.library;
   parts = record {
@@ -55,25 +62,51 @@ begun c = record {
   events = 0;
 }
 
-pub machine_begun : StartsOfConfigurations → IsForMachine LAYOUT_1 → (c : Configuration) → IsConfigured c → (first : Machine) × IsFirst c first
-machine_begun law for_machine c k = (
-  begun c,
-  record {
-    is_start = law c false MOST_VIEWS FIRST_DAY LAYOUT_1 k for_machine.link;
-    world = ap (λ xs. record (start_in c) { initiators = xs }) (idle_shown (start_config c false MOST_VIEWS LAYOUT_1) c.initiators);
-    unit_names = refl;
-    library = refl;
-    volumes = refl;
-  },
-)
+-- on volumes as they are configured no tracks are kept
+nothing_kept : (c : Configuration) → IsConfigured c → (serial : List ℕ) → kept_shown c.volumes serial ≡ []
+nothing_kept c k serial = nothing_shown (mounted_in c.volumes serial) (nothing_on c.volumes k.kept serial)
 
-denotes : (c : Configuration) (first : Machine) → IsFirst c first → denoting first ≡ denoting_in c
-denotes c first started = λ i. job_of (started.unit_names i) (started.library i)
+begun_so : StartsOfConfigurations → IsForMachine LAYOUT_1 → (refuses : Bool) (views : ℕ) (c : Configuration) → IsConfigured c →
+    IsStarted c refuses views LAYOUT_1 (begun refuses views c)
+begun_so law for_machine refuses views c k = record {
+  is_start = law c refuses views FIRST_DAY LAYOUT_1 k for_machine.link;
+  world = λ i. record (start_of c refuses views LAYOUT_1 FIRST_DAY) {
+    shared = record (start_of c refuses views LAYOUT_1 FIRST_DAY).shared { kept = λ serial. nothing_kept c k serial i };
+    initiators = idle_shown (start_config c refuses views LAYOUT_1) c.initiators i;
+  };
+  unit_names = refl;
+  library = refl;
+  volumes = refl;
+}
+
+pub machine_begun : StartsOfConfigurations → IsForMachine LAYOUT_1 → (o : Options) (c : Configuration) → IsConfigured c → (first : Machine) × IsFirst o c first
+machine_begun law for_machine o c k = (begun (refuses_in o) o.views c, begun_so law for_machine (refuses_in o) o.views c k)
+
+-- the options that a machine was started with are those in what is fixed of it
+same_choice : (choice : RiskChoice) → choice_of (is_refusal choice) ≡ choice
+same_choice risk.Run = refl
+same_choice risk.Refuse = refl
+
+same_options : (o : Options) (c : Configuration) (first : Machine) → IsFirst o c first → options_in first.config ≡ o
+same_options o c first started =
+    ap (λ (w : World). options_in w.config) started.world ∙ ap (λ (choice : RiskChoice). record { risk = choice; views = o.views }) (same_choice o.risk)
+
+-- a machine that was started so, with an empty queue of the first layout
+pub first_of : (o : Options) (c : Configuration) (refuses : Bool) (views : ℕ) (q : RecordQueue) (first : Machine) → refuses ≡ refuses_in o → views ≡ o.views →
+    q ≡ empty_queue LAYOUT_1 → IsStarted c refuses views q.layout first → IsFirst o c first × (options_in first.config ≡ o)
+first_of o c refuses views q first chosen viewed empty started =
+    let by_choice : IsStarted c (refuses_in o) views q.layout first = subst (λ (b : Bool). IsStarted c b views q.layout first) chosen started in
+    let by_views : IsStarted c (refuses_in o) o.views q.layout first = subst (λ (n : ℕ). IsStarted c (refuses_in o) n q.layout first) viewed by_choice in
+    let so : IsFirst o c first = subst (λ (x : RecordQueue). IsStarted c (refuses_in o) o.views x.layout first) empty by_views in
+    (so, same_options o c first so)
+
+denotes : (o : Options) (c : Configuration) (first : Machine) → IsFirst o c first → denoting first ≡ denoting_in c
+denotes o c first started = λ i. job_of (started.unit_names i) (started.library i)
 
 -- steps of machine after machine are a run of what was configured
-pub configured_run : (config : List Statement) (first last : Machine) (events : List Event) (entries : List (List Entry)) →
-    IsFirst (configuration_of config) first → Drives first events entries last →
-    Runs (denoting_of config) (world_at_start config) (map meant_by events) entries (world_of last)
-configured_run config first last events entries started d =
-    subst (λ job. Runs job (world_at_start config) (map meant_by events) entries (world_of last)) (denotes (configuration_of config) first started)
+pub configured_run : (o : Options) (config : List Statement) (first last : Machine) (events : List Event) (entries : List (List Entry)) →
+    IsFirst o (configuration_of config) first → Drives first events entries last →
+    Runs (denoting_of config) (world_at_start o config) (map meant_by events) entries (world_of last)
+configured_run o config first last events entries started d =
+    subst (λ job. Runs job (world_at_start o config) (map meant_by events) entries (world_of last)) (denotes o (configuration_of config) first started)
     (subst (λ w. Runs (denoting first) w (map meant_by events) entries (world_of last)) started.world (drives_run first last events entries d))

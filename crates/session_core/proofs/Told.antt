@@ -4,6 +4,7 @@ use Rattle.session_text.specs.declared.fault.Fault.{Fault}
 use Rattle.session_text.specs.declared.fault.Fault.TheVariants as fault
 use Rattle.session_text.specs.declared.statement.Ending.{Ending}
 use Rattle.session_text.specs.declared.statement.Ending.TheVariants.{Whole, TooLong, ReadFailed}
+use Rattle.session_core.specs.declared.Options.{Options}
 use Rattle.session_core.specs.declared.SessionFault.{SessionFault}
 use Rattle.session_core.specs.declared.SessionFault.TheVariants.{Stopped, WriteFailed, Memory}
 use Rattle.session_core.specs.Failures.{AreTold}
@@ -67,9 +68,9 @@ module _ (old new : SourceState) (text : List ℕ) where
   read_fault_failed TooLong told line read is of = absurd (not_read TooLong text told line (λ e. cc) is of)
   read_fault_failed ReadFailed told line read is of = read.2
 
-  pub told_of : {T : Type 0} (ending : Ending) (written : List ℕ) (result : Result T SessionFault) → IsRead old new text ending
-      → IsOutcome (session_of ending text) result written → AreTold new.failed (is_write_fault result) result
-  told_of ending written (Ok end) read o = (whole_unfailed ending read o.0, refl)
-  told_of ending written (Err (Stopped told line)) read o = (read_fault_failed ending told line read o.0, not_written ending text told line o.0, refl)
-  told_of ending written (Err (WriteFailed line)) read o = refl
-  told_of ending written (Err Memory) read o = refl
+  pub told_of : {T : Type 0} (o : Options) (ending : Ending) (written : List ℕ) (result : Result T SessionFault) → IsRead old new text ending
+      → IsOutcome o (session_of ending text) result written → AreTold new.failed (is_write_fault result) result
+  told_of o ending written (Ok end) read out = (whole_unfailed ending read out.0, refl)
+  told_of o ending written (Err (Stopped told line)) read out = (read_fault_failed ending told line read out.0, not_written ending text told line out.0, refl)
+  told_of o ending written (Err (WriteFailed line)) read out = refl
+  told_of o ending written (Err Memory) read out = refl

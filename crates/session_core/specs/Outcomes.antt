@@ -3,6 +3,7 @@ use Rattle.std.specs.Prelude.{◌≡◌, ◌⊎◌, ℕ, Bool, true, false, List
 use Rattle.std.specs.Io.KnownBytes.{Appends}
 use Rattle.session_text.specs.declared.statement.Ending.{Ending}
 use Rattle.session_text.specs.declared.statement.Statement.{Statement}
+use Rattle.session_core.specs.declared.Options.{Options}
 use Rattle.session_core.specs.declared.SessionFault.{SessionFault}
 use Rattle.session_core.specs.declared.SessionFault.TheVariants.{Stopped, WriteFailed, Memory}
 use Rattle.session_core.specs.Failures.{AreTold}
@@ -11,30 +12,30 @@ use Rattle.session_core.specs.Sessions.{Session, events_of, session_of}
 use Rattle.session_core.specs.Streams.{IsRead, IsReadInPart, SinkState, SourceState}
 
 -- memory was wanting within a statement: the events before it are listed
-pub record WantsMemoryIn (stands : List Statement) (written : List ℕ) : Type 0 where
+pub record WantsMemoryIn (o : Options) (stands : List Statement) (written : List ℕ) : Type 0 where
   pub before : List Statement
   pub statement : Statement
   pub after : List Statement
   pub stands_so : stands ≡ before ++ statement ∷ after
-  pub lists : ListsUpTo before statement written
+  pub lists : ListsUpTo o before statement written
 
 -- memory was wanting before the first statement
 abbrev pub WritesNothing : List ℕ → Type 0
 WritesNothing written = written ≡ []
 
--- The answer, and what is written with it. All was read; or the first fault and its line; or the line of the statement
+-- The answer of a session with these options, and what is written with it. All was read; or the first fault and its line; or the line of the statement
 -- in whose lines the writing ended, where a line was still to be written; or memory was wanting.
-abbrev pub IsOutcome : {T : Type 0} → Session → Result T SessionFault → List ℕ → Type 0
-IsOutcome s (Ok end) written = (s.fault ≡ None) × Lists s.stands (events_of s.stands) written
-IsOutcome s (Err (Stopped fault line)) written = (s.fault ≡ Some (fault, line)) × Lists s.stands (events_of s.stands) written
-IsOutcome s (Err (WriteFailed line)) written = StopsIn s.stands line written
-IsOutcome s (Err Memory) written = WantsMemoryIn s.stands written ⊎ WritesNothing written
+abbrev pub IsOutcome : {T : Type 0} → Options → Session → Result T SessionFault → List ℕ → Type 0
+IsOutcome o s (Ok end) written = (s.fault ≡ None) × Lists o s.stands (events_of s.stands) written
+IsOutcome o s (Err (Stopped fault line)) written = (s.fault ≡ Some (fault, line)) × Lists o s.stands (events_of s.stands) written
+IsOutcome o s (Err (WriteFailed line)) written = StopsIn o s.stands line written
+IsOutcome o s (Err Memory) written = WantsMemoryIn o s.stands written ⊎ WritesNothing written
 
 -- what is written with the answer, behind what was written before
-pub record WritesOutcome {T : Type 0} (old new : SinkState) (before : List ℕ) (s : Session) (result : Result T SessionFault) : Type 0 where
+pub record WritesOutcome {T : Type 0} (o : Options) (old new : SinkState) (before : List ℕ) (s : Session) (result : Result T SessionFault) : Type 0 where
   pub written : List ℕ
   pub appended : Appends old.contents new.contents written
-  pub outcome : IsOutcome s result (before ++ written)
+  pub outcome : IsOutcome o s result (before ++ written)
 
 -- the answer is that the listing cannot be written further
 abbrev pub is_write_fault : {T : Type 0} → Result T SessionFault → Bool
@@ -43,12 +44,12 @@ is_write_fault (Err (Stopped fault line)) = false
 is_write_fault (Err (WriteFailed line)) = true
 is_write_fault (Err Memory) = false
 
--- a text was read, and what was written is the listing of its session
-pub record Ran {T : Type 0} (source source_after : SourceState) (sink sink_after : SinkState) (result : Result T SessionFault) : Type 0 where
+-- a text was read, and what was written is the listing of its session with these options
+pub record Ran {T : Type 0} (o : Options) (source source_after : SourceState) (sink sink_after : SinkState) (result : Result T SessionFault) : Type 0 where
   pub text : List ℕ
   pub ending : Ending
   pub read : IsRead source source_after text ending
-  pub writes : WritesOutcome sink sink_after [] (session_of ending text) result
+  pub writes : WritesOutcome o sink sink_after [] (session_of ending text) result
 
 -- memory was wanting while the text was read, before a call of either stream failed
 pub record Starved {T : Type 0} (source source_after : SourceState) (sink sink_after : SinkState) (result : Result T SessionFault) : Type 0 where
@@ -56,13 +57,13 @@ pub record Starved {T : Type 0} (source source_after : SourceState) (sink sink_a
   pub read : IsReadInPart source source_after
   pub writes : Appends sink.contents sink_after.contents []
 
-abbrev pub IsRun : {T : Type 0} → SourceState → SourceState → SinkState → SinkState → Result T SessionFault → Type 0
-IsRun source source_after sink sink_after result = Ran source source_after sink sink_after result ⊎ Starved source source_after sink sink_after result
+abbrev pub IsRun : {T : Type 0} → Options → SourceState → SourceState → SinkState → SinkState → Result T SessionFault → Type 0
+IsRun o source source_after sink sink_after result = Ran o source source_after sink sink_after result ⊎ Starved source source_after sink sink_after result
 
--- a session of a reader and a writer, of which so much is known before and behind it: their calls failed or did not, and that is told
-pub record IsSession {T : Type 0} (unread rest old new : Option (List ℕ)) (result : Result T SessionFault) : Type 0 where
+-- a session with these options, of a reader and a writer of which so much is known before and behind it: their calls failed or did not, and that is told
+pub record IsSession {T : Type 0} (o : Options) (unread rest old new : Option (List ℕ)) (result : Result T SessionFault) : Type 0 where
   pub read_failed : Bool
   pub write_failed : Bool
-  pub run : IsRun (record { unread = unread; failed = false }) (record { unread = rest; failed = read_failed })
+  pub run : IsRun o (record { unread = unread; failed = false }) (record { unread = rest; failed = read_failed })
       (record { contents = old; failed = false }) (record { contents = new; failed = write_failed }) result
   pub told : AreTold read_failed write_failed result

@@ -6,8 +6,9 @@ use Rattle.sched_core.specs.Systems.{meant_by, world_of}
 use Rattle.session_text.specs.declared.statement.Statement.{Statement}
 use Rattle.session_core.specs.Listings.{Lists}
 use Rattle.session_core.specs.Sessions.{denoting_of, world_at_start}
+use Rattle.session_core.specs.declared.Options.{Options}
 
--- whichever ASSURED line stands among the entries of a listing is kept, from there on
+-- with whichever options, each ASSURED line among the entries of a listing is kept, from there on
 abbrev pub PromisesOfSession : Type 0
-PromisesOfSession = (config : List Statement) (events : List Event) (listing : List ℕ) → (l : Lists config events listing) →
-    ArePromises (denoting_of config) (world_at_start config) (world_of l.last) (map meant_by events) l.entries
+PromisesOfSession = (o : Options) (config : List Statement) (events : List Event) (listing : List ℕ) → (l : Lists o config events listing) →
+    ArePromises (denoting_of config) (world_at_start o config) (world_of l.last) (map meant_by events) l.entries

@@ -1,5 +1,5 @@
 -- What events write, and what a statement behind the configuration does.
-use Rattle.std.specs.Prelude.{◌≡◌, ◌⊎◌, ℕ, ◌≤◌, List, [], ◌∷◌, ◌++◌, length, replicate, Option, Some, Result, Ok, Err}
+use Rattle.std.specs.Prelude.{◌≡◌, ◌⊎◌, ℕ, ◌≤◌, Bool, true, false, List, [], ◌∷◌, ◌++◌, length, replicate, Option, Some, Result, Ok, Err}
 use Rattle.std.specs.List.{flat_map}
 use Rattle.jcl_plan.specs.declared.entry.Entry.{Entry}
 use Rattle.jcl_plan.specs.Lines.{text_of}
@@ -8,10 +8,22 @@ use Rattle.sched_core.specs.Systems.{Drives, Machine, Steps, world_of}
 use Rattle.session_text.specs.declared.fault.Fault.{Fault}
 use Rattle.session_text.specs.declared.statement.Says.{Says}
 use Rattle.session_text.specs.declared.statement.Says.TheVariants as says
+use Rattle.world_meaning.specs.Worlds.{Config}
+use Rattle.session_core.specs.declared.Options.{Options}
+use Rattle.session_core.specs.declared.RiskChoice.{RiskChoice}
+use Rattle.session_core.specs.declared.RiskChoice.TheVariants as risk
 use Rattle.session_core.specs.declared.SessionFault.{SessionFault}
 use Rattle.session_core.specs.declared.SessionFault.TheVariants.{Stopped, WriteFailed, Memory}
 use Rattle.session_core.specs.declared.listing.Mark.{Mark}
 use Rattle.session_core.specs.Listings.{text_of_all}
+
+-- the options that a machine was started with, by what is fixed of it
+abbrev pub choice_of : Bool → RiskChoice
+choice_of false = risk.Run
+choice_of true = risk.Refuse
+
+abbrev pub options_in : Config → Options
+options_in c = record { risk = choice_of c.refuses; views = c.most_views }
 
 -- an event, which is a step from one machine to the next, and the text before and after it
 pub record IsApplied (old : Machine) (event : Event) (new : Machine) (text new_text : List ℕ) : Type 0 where

@@ -11,7 +11,9 @@ use Rattle.jcl_job.specs.Jobs.{job_of}
 use Rattle.sched_core.specs.declared.start.TheConstants.{FIRST_DAY}
 use Rattle.world_meaning.specs.Readings.{Denoting}
 use Rattle.world_meaning.specs.Worlds.{World}
-use Rattle.session_core.specs.declared.run.TheConstants.{MOST_VIEWS}
+use Rattle.session_core.specs.declared.Options.{Options}
+use Rattle.session_core.specs.declared.RiskChoice.{RiskChoice}
+use Rattle.session_core.specs.declared.RiskChoice.TheVariants as risk
 use Rattle.session_text.specs.declared.fault.Fault.{Fault}
 use Rattle.session_text.specs.declared.fault.Fault.TheVariants as fault
 use Rattle.session_text.specs.declared.statement.Ending.{Ending}
@@ -38,12 +40,20 @@ configured_by c (Refused f) = c
 abbrev pub configuration_of : List Statement → Configuration
 configuration_of statements = fold (λ c s. configured_by c s.says) nothing_configured statements
 
--- the machine that they configure, before its first event, and the job that a deck denotes in it; nothing analyses jobs yet
-abbrev pub start_in : Configuration → World
-start_in c = start_of c false MOST_VIEWS LAYOUT_1 FIRST_DAY
+-- whether a job at risk is refused
+abbrev pub is_refusal : RiskChoice → Bool
+is_refusal risk.Run = false
+is_refusal risk.Refuse = true
 
-abbrev pub world_at_start : List Statement → World
-world_at_start statements = start_in (configuration_of statements)
+abbrev pub refuses_in : Options → Bool
+refuses_in o = is_refusal o.risk
+
+-- the machine that they configure, before its first event, started with these options, and the job that a deck denotes in it
+abbrev pub start_in : Options → Configuration → World
+start_in o c = start_of c (refuses_in o) o.views LAYOUT_1 FIRST_DAY
+
+abbrev pub world_at_start : Options → List Statement → World
+world_at_start o statements = start_in o (configuration_of statements)
 
 abbrev pub denoting_in : Configuration → Denoting
 denoting_in c = job_of (unit_names c.units) c.library

@@ -4,6 +4,7 @@ ghost use Rattle.config_core.specs.Configs.{config_fault, nothing_configured};
 ghost use Rattle.session_core.specs.Configuring.{IsConfiguredBy, late_in};
 ghost use Rattle.session_core.specs.Outcomes.{IsOutcome, is_write_fault};
 ghost use Rattle.session_core.specs.Sessions.{session_behind, told, unless_late};
+ghost use Rattle.session_core.specs.declared.Options.{Options};
 ghost use Rattle.session_core.specs.declared.SessionEnd.{SessionEnd};
 
 use crate::SessionFault;
@@ -59,7 +60,7 @@ pub(crate) fn configure(
 ) -> Result<usize, SessionFault>
     requires { config.old ≡ nothing_configured }
     ensures ok { IfOk result (λ at. IsConfiguredBy statements.now at config.new) }
-    ensures err { IfErr result (λ fault. IsOutcome {T = SessionEnd} (session_behind [] statements.now) (Err fault) []) }
+    ensures err { IfErr result (λ fault. (o : Options) → IsOutcome {T = SessionEnd} o (session_behind [] statements.now) (Err fault) []) }
     ensures writes_none { is_write_fault result ≡ false }
 {
     configuration_has_a_machine();

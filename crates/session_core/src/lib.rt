@@ -12,7 +12,7 @@ ghost use Rattle.std.specs.Prelude.{◌≡◌, ℕ, List, false};
 ghost use Rattle.session_core.specs.Failures.{AreTold, TellsCut};
 ghost use Rattle.session_core.specs.FaultNumbers.{number_and_line};
 ghost use Rattle.session_core.specs.Outcomes.{IsRun, IsSession};
-ghost use Rattle.session_core.specs.Sessions.{session_of};
+ghost use Rattle.session_core.specs.Sessions.{refuses_in, session_of};
 ghost use Rattle.session_core.specs.Streams.{sink_state, source_state};
 ghost use Rattle.session_text.specs.declared.statement.Ending.TheVariants.{ReadFailed};
 
@@ -34,12 +34,24 @@ pub enum RiskChoice {
     Refuse,
 }
 
-/// How a session is run. Nothing asks for it yet: no job is analysed.
+/// How a session is run.
 #[derive(Clone, Copy, PartialEq, Eq)]
 pub struct Options {
     pub risk: RiskChoice,
     /// The most views of the verifier.
     pub views: u16,
+}
+
+impl Options {
+    /// A job at risk is refused.
+    pub(crate) fn refuses(&self) -> bool
+        ensures { result ≡ refuses_in self.now }
+    {
+        match self.risk {
+            RiskChoice::Run => false,
+            RiskChoice::Refuse => true,
+        }
+    }
 }
 
 /// All of the text was read and run.
@@ -72,7 +84,7 @@ impl SessionFault {
     }
 }
 
-/// Reads a session of a source, runs it, and writes its listing to a sink while it runs.
+/// Reads a session of a source, runs it with these options, and writes its listing to a sink while it runs.
 pub fn run_streams<R: Read, W: Write>(
     alloc: Global,
     source: &mut Source<'_, R>,
@@ -81,30 +93,29 @@ pub fn run_streams<R: Read, W: Write>(
 ) -> Result<SessionEnd, SessionFault>
     requires source_unfailed { source.old.failed ≡ false }
     requires sink_unfailed { sink.old.failed ≡ false }
-    ensures run { IsRun (source_state R.remaining source.old) (source_state R.remaining source.new)
+    ensures run { IsRun options (source_state R.remaining source.old) (source_state R.remaining source.new)
         (sink_state W.contents sink.old) (sink_state W.contents sink.new) result }
     ensures told { AreTold source.new.failed sink.new.failed result }
     ensures same_reader { source.new.reader.ghost_name ≡ source.old.reader.ghost_name }
     ensures same_writer { sink.new.writer.ghost_name ≡ sink.old.writer.ghost_name }
 {
-    let _ = options;
     let Ok(input) = read_text(alloc, source) else {
         return Err(SessionFault::Memory);
     };
     let Ok(statements) = statements(alloc, input.text.as_slice(), input.ending) else {
         return Err(SessionFault::Memory);
     };
-    run::run(alloc, statements.as_slice(), sink)
+    run::run(alloc, statements.as_slice(), options, sink)
 }
 
-/// Reads a session, runs it, and writes its listing while it runs. After a failed call the reader or the writer is not called again.
+/// Reads a session, runs it with these options, and writes its listing while it runs. After a failed call the reader or the writer is not called again.
 pub fn run_session<R: Read, W: Write>(
     alloc: Global,
     reader: &mut R,
     writer: &mut W,
     options: Options,
 ) -> Result<SessionEnd, SessionFault>
-    ensures { IsSession (R.remaining reader.old) (R.remaining reader.new) (W.contents writer.old) (W.contents writer.new) result }
+    ensures { IsSession options (R.remaining reader.old) (R.remaining reader.new) (W.contents writer.old) (W.contents writer.new) result }
 {
     let mut source = Source::new(reader);
     let mut sink = Sink::new(writer);

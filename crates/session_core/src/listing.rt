@@ -9,6 +9,7 @@ ghost use Rattle.session_core.specs.Marks.{AreMarks};
 ghost use Rattle.session_core.specs.Outcomes.{IsOutcome, WritesOutcome, is_write_fault};
 ghost use Rattle.session_core.specs.Sessions.{Session};
 ghost use Rattle.session_core.specs.Streams.{sink_state};
+ghost use Rattle.session_core.specs.declared.Options.{Options};
 ghost use Rattle.session_core.specs.declared.SessionEnd.{SessionEnd};
 
 use crate::stream::Sink;
@@ -65,9 +66,9 @@ impl Listing {
         ensures text { OnOk result (self.new.text.kept ≡ []) }
         ensures marks { OnOk result (self.new.marks.items ≡ []) }
         ensures fault { OnErr result (is_write_fault result ≡ true) }
-        ensures err { IfErr result (λ fault. (s : Session) (before : List ℕ) →
-            AreMarks s.stands (length before) before self.old.marks.items self.old.text.kept →
-            WritesOutcome {T = SessionEnd} (sink_state W.contents sink.old) (sink_state W.contents sink.new) before s (Err fault)) }
+        ensures err { IfErr result (λ fault. (o : Options) (s : Session) (before : List ℕ) →
+            AreMarks o s.stands (length before) before self.old.marks.items self.old.text.kept →
+            WritesOutcome {T = SessionEnd} o (sink_state W.contents sink.old) (sink_state W.contents sink.new) before s (Err fault)) }
         ensures failed { sink.new.failed ≡ is_write_fault result }
         ensures same_writer { sink.new.writer.ghost_name ≡ sink.old.writer.ghost_name }
     {
@@ -92,9 +93,9 @@ impl Listing {
     ) -> Result<SessionEnd, SessionFault>
         requires unfailed { sink.old.failed ≡ false }
         requires no_write_fault { is_write_fault outcome ≡ false }
-        ensures outcome { (s : Session) (before : List ℕ) → IsOutcome s outcome (before ++ self.old.text.kept) →
-            AreMarks s.stands (length before) before self.old.marks.items self.old.text.kept →
-            WritesOutcome (sink_state W.contents sink.old) (sink_state W.contents sink.new) before s result }
+        ensures outcome { (o : Options) (s : Session) (before : List ℕ) → IsOutcome o s outcome (before ++ self.old.text.kept) →
+            AreMarks o s.stands (length before) before self.old.marks.items self.old.text.kept →
+            WritesOutcome o (sink_state W.contents sink.old) (sink_state W.contents sink.new) before s result }
         ensures written { is_write_fault result ≡ false → Appends (W.contents sink.old.writer.now) (W.contents sink.new.writer.now) self.old.text.kept }
         ensures failed { sink.new.failed ≡ is_write_fault result }
         ensures same_writer { sink.new.writer.ghost_name ≡ sink.old.writer.ghost_name }
@@ -120,8 +121,8 @@ fn write_lines(entries: &[Entry], text: &mut Draft) -> Result<(), AllocError>
 
 /// The line of the statement whose lines have the byte behind these.
 fn line_at(marks: &[Mark], taken: usize) -> usize
-    ensures { (stands : List Statement) (before text : List ℕ) → AreMarks stands (length before) before marks.now text → taken < length text →
-        StopsIn stands result (before ++ take taken text) }
+    ensures { (o : Options) (stands : List Statement) (before text : List ℕ) → AreMarks o stands (length before) before marks.now text → taken < length text →
+        StopsIn o stands result (before ++ take taken text) }
 {
     let mut line = 0;
     for mark in marks {

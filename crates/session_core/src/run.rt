@@ -7,9 +7,8 @@ ghost use Rattle.config_core.specs.Configs.{Configuration};
 ghost use Rattle.session_core.specs.Configuring.{IsConfiguredBy, late_in};
 ghost use Rattle.session_core.specs.Leaving.{IsLeft, ListsWhole, WritesWhole};
 ghost use Rattle.session_core.specs.Outcomes.{WritesOutcome, is_write_fault};
-ghost use Rattle.session_core.specs.Running.{AreApplied, AreAppliedInPart, IsApplied, StatementRuns};
-ghost use Rattle.session_core.specs.Sessions.{session_behind};
-ghost use Rattle.session_core.specs.declared.run.TheConstants.{MOST_VIEWS};
+ghost use Rattle.session_core.specs.Running.{AreApplied, AreAppliedInPart, IsApplied, StatementRuns, options_in};
+ghost use Rattle.session_core.specs.Sessions.{refuses_in, session_behind};
 ghost use Rattle.session_core.specs.Streams.{sink_state};
 ghost use Rattle.session_text.specs.declared.statement.Says.TheVariants as says;
 ghost use Rattle.sched_core.specs.Starting.{IsForMachine, IsStarted};
@@ -18,7 +17,7 @@ ghost use Rattle.sched_core.specs.Systems.{IsSameFixed};
 use crate::configure::{configure, late_in};
 use crate::listing::{Listing, MOST_HELD, Mark};
 use crate::stream::Sink;
-use crate::{SessionEnd, SessionFault};
+use crate::{Options, SessionEnd, SessionFault};
 use cb_meaning::layout::LAYOUT_1;
 use cb_queue::list_store::ListStore;
 use config_core::config::Config;
@@ -31,9 +30,6 @@ use session_text::fault::Fault;
 use session_text::statement::{Says, Statement};
 use std::alloc::{AllocError, Global};
 use std::io::Write;
-
-/// The most views of a job. Nothing analyses jobs yet.
-pub const MOST_VIEWS: usize = 1_024;
 
 /// Applies an event and lists its lines, or lists nothing.
 fn run_event(
@@ -108,7 +104,7 @@ fn run_statement(
     }
 }
 
-/// Runs the statements from the first event on, and writes their lines.
+/// Runs the statements from the first event on, with the options that the machine was started with, and writes their lines.
 fn run_from<W: Write>(
     alloc: Global,
     statements: &[Statement<'_>],
@@ -118,9 +114,9 @@ fn run_from<W: Write>(
     sink: &mut Sink<'_, W>,
 ) -> Result<SessionEnd, SessionFault>
     requires configured { (c : Configuration) × IsConfiguredBy statements.now from c × (late ≡ late_in c (drop from statements.now))
-        × IsStarted c false MOST_VIEWS LAYOUT_1 system.old }
+        × IsStarted c (refuses_in (options_in system.old.config)) system.old.config.most_views LAYOUT_1 system.old }
     requires unfailed { sink.old.failed ≡ false }
-    ensures outcome { WritesOutcome (sink_state W.contents sink.old) (sink_state W.contents sink.new) [] (session_behind [] statements.now) result }
+    ensures outcome { WritesOutcome (options_in system.old.config) (sink_state W.contents sink.old) (sink_state W.contents sink.new) [] (session_behind [] statements.now) result }
     ensures left { is_write_fault result ≡ false → WritesWhole (sink_state W.contents sink.old) (sink_state W.contents sink.new) system.old system.new }
     ensures failed { sink.new.failed ≡ is_write_fault result }
     ensures same_writer { sink.new.writer.ghost_name ≡ sink.old.writer.ghost_name }
@@ -153,14 +149,15 @@ pub(crate) fn first_queue(alloc: Global) -> Result<ListStore, AllocError>
     Ok(queue)
 }
 
-/// Runs the statements up to the first fault, and writes their lines.
+/// Runs the statements up to the first fault with these options, and writes their lines.
 pub(crate) fn run<W: Write>(
     alloc: Global,
     statements: &[Statement<'_>],
+    options: Options,
     sink: &mut Sink<'_, W>,
 ) -> Result<SessionEnd, SessionFault>
     requires { sink.old.failed ≡ false }
-    ensures outcome { WritesOutcome (sink_state W.contents sink.old) (sink_state W.contents sink.new) [] (session_behind [] statements.now) result }
+    ensures outcome { WritesOutcome options (sink_state W.contents sink.old) (sink_state W.contents sink.new) [] (session_behind [] statements.now) result }
     ensures failed { sink.new.failed ≡ is_write_fault result }
     ensures same_writer { sink.new.writer.ghost_name ≡ sink.old.writer.ghost_name }
 {
@@ -177,7 +174,8 @@ pub(crate) fn run<W: Write>(
     let Ok(queue) = first_queue(alloc) else {
         return Err(SessionFault::Memory);
     };
-    let Ok(mut system) = System::new(alloc, store, queue, &fixed, false, MOST_VIEWS) else {
+    let views = usize::from(options.views);
+    let Ok(mut system) = System::new(alloc, store, queue, &fixed, options.refuses(), views) else {
         return Err(SessionFault::Memory);
     };
     let outcome = run_from(alloc, statements, from, late, &mut system, sink);

@@ -133,6 +133,6 @@ module _ (old new : SharedStore) (before after : Shared) (shown_old : IsShown ol
       (found_in AddsUp old.volumes serial m a e) (found_in AddsUp new.volumes serial n b f)
 
 pub conserved : TracksAreConserved
-conserved old new before after a b rooms shown_old shown_new serial =
+conserved old new a b rooms before after shown_old shown_new serial =
     by_volume old new before after shown_old shown_new serial (mounted_in old.volumes serial) (mounted_in new.volumes serial) refl refl
     (its_room new.volumes serial ∙ ap (λ r. room_in r serial) rooms ∙ sym (its_room old.volumes serial)) a b

@@ -2,21 +2,16 @@
 use Rattle.std.specs.Prelude.{◌≡◌, ℕ, List, [], map}
 use Rattle.jcl_meaning.specs.declared.state.Place.{Place}
 use Rattle.world_meaning.specs.Lenses.{put_back, seen}
-use Rattle.world_meaning.specs.Tracks.{Conserves, kept_unless_made}
-use Rattle.world_meaning.specs.Worlds.{Shared}
+use Rattle.world_meaning.specs.Tracks.{kept_unless_made}
 use Rattle.shared_core.specs.declared.store.SharedStore.{SharedStore}
 use Rattle.shared_core.specs.Rooms.{others_of, room_of, spent}
 use Rattle.shared_core.specs.Shown.{world_store_of}
-use Rattle.shared_core.specs.Tracks.{IsShown, NothingKept, VolumesAddUp, kept_shown}
+use Rattle.shared_core.specs.Tracks.{ConservesTracks, NothingKept, VolumesAddUp, kept_shown}
 
 -- where the sets that others alone see are as before, a job wrote what it sees
 abbrev pub SetsOfOthersStay : Type 0
 SetsOfOthersStay = (job : ℕ) (old new : SharedStore) → (others_of job new).set ≡ (others_of job old).set →
     world_store_of new ≡ put_back job (world_store_of old) (seen job (world_store_of new))
-
--- a job that makes sets keeps nothing where nothing was kept
-abbrev pub NothingKeptStays : Type 0
-NothingKeptStays = (job : ℕ) (places : List Place) (old new : SharedStore) → NothingKept old → others_of job new ≡ spent job places (others_of job old) → NothingKept new
 
 -- a job that makes sets uses up what was kept for them
 abbrev pub KeptIsSpent : Type 0
@@ -29,5 +24,4 @@ NothingIsShown = (s : SharedStore) → NothingKept s → (serial : List ℕ) →
 
 -- Between two stores whose volumes have as many tracks for sets each volume's tracks are conserved.
 abbrev pub TracksAreConserved : Type 0
-TracksAreConserved = (old new : SharedStore) (before after : Shared) → VolumesAddUp old → VolumesAddUp new →
-    map room_of new.volumes ≡ map room_of old.volumes → IsShown old before → IsShown new after → Conserves before after
+TracksAreConserved = (old new : SharedStore) → VolumesAddUp old → VolumesAddUp new → map room_of new.volumes ≡ map room_of old.volumes → ConservesTracks old new

@@ -6,6 +6,7 @@ use Rattle.vtoc_core.specs.declared.volume.Track.TheVariants.{Aside, Free, InSet
 use Rattle.vtoc_core.specs.Extents.{tracks_in}
 use Rattle.vtoc_core.specs.Volumes.{count_of, extents_of_all}
 use Rattle.extent_core.specs.declared.extent.Extent.{Extent}
+use Rattle.world_meaning.specs.Tracks.{Conserves}
 use Rattle.world_meaning.specs.Worlds.{Kept, Shared}
 use Rattle.mount_core.specs.declared.place.KeptPlace.{KeptPlace}
 use Rattle.mount_core.specs.Kept.{extents_kept}
@@ -49,3 +50,7 @@ pub record IsShown (s : SharedStore) (shared : Shared) : Type 0 where
   pub store : shared.store ≡ world_store_of s
   pub free : (serial : List ℕ) → shared.free serial ≡ free_on s.volumes serial
   pub kept : shared.kept ≡ kept_shown s.volumes
+
+-- Whatever else the machine has, between these two stores each volume's tracks are conserved.
+abbrev pub ConservesTracks : SharedStore → SharedStore → Type 0
+ConservesTracks old new = (before after : Shared) → IsShown old before → IsShown new after → Conserves before after

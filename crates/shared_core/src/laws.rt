@@ -3,7 +3,7 @@ ghost use Rattle.std.specs.Prelude.{◌≡◌, ℕ};
 ghost use Rattle.std.specs.FinMap as map;
 ghost use Rattle.std.specs.List.{All};
 ghost use Rattle.world_meaning.specs.Lenses.{put_back, seen};
-ghost use Rattle.shared_core.specs.Laws.{KeptIsSpent, NothingIsShown, NothingKeptStays, SetsOfOthersStay, TracksAreConserved};
+ghost use Rattle.shared_core.specs.Laws.{KeptIsSpent, NothingIsShown, SetsOfOthersStay, TracksAreConserved};
 ghost use Rattle.shared_core.specs.Rooms.{others_of};
 ghost use Rattle.shared_core.specs.Shown.{world_store_of};
 ghost use Rattle.shared_core.specs.Tracks.{NothingKept};
@@ -27,11 +27,6 @@ pub fn new_volumes_keep_nothing()
 /// Where no tracks are kept none are shown.
 pub fn nothing_is_shown()
     ensures { NothingIsShown }
-{}
-
-/// A job that makes sets keeps no tracks where none were kept.
-pub fn nothing_kept_stays()
-    ensures { NothingKeptStays }
 {}
 
 /// A job that makes sets uses up the tracks that were kept for them, and no others.

@@ -10,6 +10,6 @@ pub returns-clause-told : goal.returns-clause-told
 returns-clause-told g c =
     let input = c.in-Ok.input in
     let is : c.as_slice-2.result.now ≡ statements_of input.ending input.text.items = search rules in
-    let out : IsOutcome (session_of input.ending input.text.items) c.run.result c.run.ensures.outcome.written = rw is at c.run.ensures.outcome.outcome in
-    rw c.run.ensures.failed (told_of (source_state g.R.Read.remaining c.args.source.now) (source_state g.R.Read.remaining c.read_text.new.source) input.text.items
+    let out : IsOutcome c.args.options (session_of input.ending input.text.items) c.run.result c.run.ensures.outcome.written = rw is at c.run.ensures.outcome.outcome in
+    rw c.run.ensures.failed (told_of (source_state g.R.Read.remaining c.args.source.now) (source_state g.R.Read.remaining c.read_text.new.source) input.text.items c.args.options
     input.ending c.run.ensures.outcome.written c.run.result c.in-Ok.ensures.ok out)

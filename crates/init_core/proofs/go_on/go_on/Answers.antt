@@ -25,3 +25,10 @@ returns-in-Admitted-clause-ok g c =
     let p = c.args.parts.now in
     subst (λ (s : Stage). IfOk c.advance.result (Went queue_of (config_of c.args.profile.now (queue_of p.queue).layout) p
     (record { job = c.args.running.job; walk = c.args.running.walk; stage = s }) c.advance.new.parts)) (sym c.in-Admitted.is) c.advance.ensures.ok
+
+pub returns-in-Named-clause-ok : goal.returns-in-Named-clause-ok
+returns-in-Named-clause-ok g c =
+    let queue_of = g.Q.RecordStore.queue in
+    let p = c.args.parts.now in
+    subst (λ (s : Stage). IfOk c.admit_job.result (Went queue_of (config_of c.args.profile.now (queue_of p.queue).layout) p
+    (record { job = c.args.running.job; walk = c.args.running.walk; stage = s }) c.admit_job.new.parts)) (sym c.in-Named.is) c.admit_job.ensures.ok

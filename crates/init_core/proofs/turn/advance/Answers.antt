@@ -1,8 +1,11 @@
 use Rattle.std.proofs.Common.{ap, subst, sym}
-use Rattle.turn_core.specs.Turning.{acts}
+use Rattle.disp_core.specs.Grants.{made_of}
+use Rattle.turn_core.specs.Turning.{acts, made_in}
+use Rattle.turn_core.specs.declared.walk.Turned.{Turned}
 use Rattle.turn_core.specs.declared.walk.Turned.TheVariants as turned
 use Rattle.init_core.specs.Going.{Went}
 use Rattle.init_core.specs.Running.{config_of}
+use Rattle.init_core.specs.Turning.{IsWritten}
 use Rattle.init_core.specs.declared.running.Progress.TheVariants as progress
 use Rattle.init_core.specs.declared.running.Stage.TheVariants as stage
 use Rattle.init_core.proofs.Advancing.{acted_so, ended_by, ended_err, room, told_as, waits}
@@ -45,10 +48,12 @@ returns-in-Ok-Acts-clause-ok g c =
     (record p { store = st; units = c.enter_acted.new.units; cancels = c.enter_acted.new.cancels }))
     (λ i. progress.GoesOn (sym c.admitted-in-Ok-Acts.ensures i) (sym c.len-from.ensures i))
     (acted_so queue_of c.args.profile.now p c.args.job c.args.walk c.args.plan c.args.held c.args.admission c.requires.good c.requires.some c.requires.at
-    st after c.in-Ok-Acts.acted c.in-Ok-Acts.ensures.written
+    st after c.in-Ok-Acts.acted
+    (subst (λ (x : Turned). IsWritten c.args.job (made_of (made_in x)) p.store st) c.in-Ok-Acts.field-0-is c.in-Ok-Acts.ensures.written)
     (told_as queue_of c.args.profile.now p c.args.job c.args.walk c.args.plan c.args.held c.args.admission c.requires.good st after c.has-cancelled.result
     c.in-Ok-Acts.field-0 (turned.Acts c.in-Ok-Acts.acted) c.has-cancelled.ensures c.in-Ok-Acts.field-0-is c.in-Ok-Acts.ensures.ok)
-    c.acts_advance.ensures c.few_lines.ensures c.none_refused.ensures c.names_none.ensures c.enter_acted.new.units c.enter_acted.new.cancels c.enter_acted.ensures.units c.enter_acted.ensures.cancels)
+    c.acts_advance.ensures c.few_lines.ensures c.enter_acted.new.units c.enter_acted.new.cancels c.enter_acted.ensures.units c.enter_acted.ensures.cancels
+    c.granted_turns.ensures c.requires.provided)
 
 pub returns-in-Ok-Ends-clause-ok : goal.returns-in-Ok-Ends-clause-ok
 returns-in-Ok-Ends-clause-ok g c =

@@ -2,6 +2,5 @@ use Rattle.init_core.proofs.Turning.{written_by}
 use Rattle.init_core.proofs.turn.take_turn.Goals as goal
 
 pub returns-clause-written : goal.returns-clause-written
-returns-clause-written c = written_by c.args.job c.args.store.now c.turn-told.new.store c.args.walk.now c.turn-told.new.walk
-    c.sets_of_others_stay.ensures c.nothing_is_shown.ensures c.nothing_kept_stays.ensures c.tracks_are_conserved.ensures c.volumes_add_up.ensures c.volumes_add_up-2.ensures c.requires.kept
-    c.turn-told.result c.turn-told.ensures.rest c.turn-told.ensures.err
+returns-clause-written c = written_by c.args.job c.args.store.now c.turn-told.new.store c.sets_of_others_stay.ensures c.kept_is_spent.ensures
+    c.tracks_are_conserved.ensures c.volumes_add_up.ensures c.volumes_add_up-2.ensures c.turn-told.result c.turn-told.ensures.rest

@@ -5,14 +5,14 @@ use Rattle.machine_core.proofs.over.release_unnamed.Goals as goal
 
 pub returns-clause-back : goal.returns-clause-back
 returns-clause-back g c = record {
-  records = c.leave_queue.ensures.records;
-  names = ap (λ p. p.names) c.leave_queue.ensures.rest ∙ sym (none_given_free c.args.parts.now.names c.args.job c.requires.unnamed);
-  cancels = ap (λ p. p.cancels) c.leave_queue.ensures.rest;
-  store = ap (λ p. p.store) c.leave_queue.ensures.rest;
-  units = ap (λ p. p.units) c.leave_queue.ensures.rest;
-  spool = ap (λ p. p.spool) c.leave_queue.ensures.rest;
-  date = ap (λ p. p.date) c.leave_queue.ensures.rest;
+  records = c.leave.ensures.records;
+  names = ap (λ p. p.names) c.leave.ensures.rest ∙ sym (none_given_free c.args.parts.now.names c.args.job c.requires.unnamed);
+  cancels = ap (λ p. p.cancels) c.leave.ensures.rest;
+  store = c.leave.ensures.back;
+  units = ap (λ p. p.units) c.leave.ensures.rest;
+  spool = ap (λ p. p.spool) c.leave.ensures.rest;
+  date = ap (λ p. p.date) c.leave.ensures.rest;
 }
 
 pub returns-clause-released : goal.returns-clause-released
-returns-clause-released g c config layout = is_released g.Q.RecordStore.queue config c.args.job c.args.parts.now _ layout (returns-clause-back g c)
+returns-clause-released g c config layout = is_released g.Q.RecordStore.queue config c.args.job c.args.parts.now _ layout (returns-clause-back g c) c.leave.ensures.conserves

@@ -2,13 +2,19 @@ use Rattle.std.proofs.Common.{ap, refl}
 use Rattle.machine_core.specs.declared.parts.Parts.{Parts}
 use Rattle.sched_core.specs.Machines.{config_in}
 use Rattle.sched_core.specs.Systems.{parts_of}
+use Rattle.sched_core.proofs.Providing.{provided}
 use Rattle.sched_core.proofs.Turning.{fit, leads}
 use Rattle.sched_core.proofs.Unchanged.{queue_alone, same_fit, same_machine}
 use Rattle.sched_core.proofs.going.go_on_at.Goals as goal
 
 pub turn_at-requires-clause-runs : goal.turn_at-requires-clause-runs
 turn_at-requires-clause-runs g c =
-    (c.requires.runs.0, c.requires.runs.1, c.requires.kept.fit.ready c.args.place c.requires.runs.0 c.requires.runs.1)
+    let s = c.args.state.now in (
+      c.requires.runs.0,
+      c.requires.runs.1,
+      c.requires.kept.fit.ready c.args.place c.requires.runs.0 c.requires.runs.1,
+      provided g.Q.RecordStore.queue (config_in g.Q.RecordStore.queue c.args.profile.now s) s c.requires.kept c.args.place c.requires.runs.0 c.requires.runs.1,
+    )
 
 pub returns-in-Ok-clause-answer : goal.returns-in-Ok-clause-answer
 returns-in-Ok-clause-answer g c =

@@ -39,7 +39,7 @@ returns-in-Ok-clause-kept g c =
     let queue_of = g.Q.RecordStore.queue in
     let s = c.args.state.now in
     kept_done queue_of (config_in queue_of c.args.profile.now s) s c.requires.kept (job_of c.args.units.now c.args.library.now) (meant_by c.args.event.now)
-    c.if-state-ge-MOST_EVENTS.false c.soundness_is_kept.ensures c.happen.new.state c.in-Ok.ensures.fit c.in-Ok.lines c.in-Ok.ensures.answer
+    c.if-state-ge-MOST_EVENTS.false c.soundness_is_kept.ensures c.supplies_are_kept.ensures c.happen.new.state c.in-Ok.ensures.fit c.in-Ok.lines c.in-Ok.ensures.answer
 
 pub returns-in-Err-Refused-clause-answer : goal.returns-in-Err-Refused-clause-answer
 returns-in-Err-Refused-clause-answer g c =
@@ -74,7 +74,7 @@ returns-in-Err-Refused-clause-kept g c =
     let first = world_in queue_of config s in
     let after = world_in queue_of config c.happen.new.state in
     let answered = subst (λ f. Answers (Err f) (counted first) after (DoesSo s.parts.store job (counted first) e)) c.in-Err-Refused.field-0-is c.in-Err-Refused.ensures.answer in
-    kept_refused queue_of config s c.requires.kept job e c.if-state-ge-MOST_EVENTS.false c.soundness_is_kept.ensures c.happen.new.state
+    kept_refused queue_of config s c.requires.kept job e c.if-state-ge-MOST_EVENTS.false c.soundness_is_kept.ensures c.supplies_are_kept.ensures c.happen.new.state
     c.in-Err-Refused.ensures.fit c.in-Err-Refused.cause answered
 
 pub returns-in-Err-Memory-clause-refusal : goal.returns-in-Err-Memory-clause-refusal
@@ -99,7 +99,7 @@ returns-in-Err-Memory-clause-kept g c =
     let after = world_in queue_of config c.happen.new.state in
     let answered = subst (λ f. Answers (Err f) (counted first) after (DoesSo s.parts.store job (counted first) e)) c.in-Err-Memory.field-0-is c.in-Err-Memory.ensures.answer in
     let same : c.happen.new.state.events ≡ s.events + 1 = ap (λ (w : World). w.events) answered in
-    kept_before queue_of config s c.requires.kept job e c.if-state-ge-MOST_EVENTS.false c.soundness_is_kept.ensures c.happen.new.state
+    kept_before queue_of config s c.requires.kept job e c.if-state-ge-MOST_EVENTS.false c.soundness_is_kept.ensures c.supplies_are_kept.ensures c.happen.new.state
     c.in-Err-Memory.ensures.fit (c.happen.new.state.events - 1) (omega (arith, same)) answered
 
 pub returns-in-Err-Refused-clause-unless_refused : goal.returns-in-Err-Refused-clause-unless_refused

@@ -20,7 +20,7 @@ invariant_of-result g c =
           (c.started.ensures.initiators ∙ c.in_ok-initiators.ensures ∙ ap (map idle_seat) c.as_slice.ensures)
           c.started.ensures.backlog c.started.ensures.jobs c.started.ensures.events c.as_slice-2.ensures c.volumes.ensures refl c.requires.empty c.requires.layout
           c.requires.configured.0 c.requires.configured.2 c.requires.configured.1
-          c.configuration_is_start.ensures c.starts_sound.ensures c.layout_reads_what_it_holds.ensures;
+          c.configuration_is_start.ensures c.starts_sound.ensures c.starts_supplied.ensures c.layout_reads_what_it_holds.ensures;
       named = ap length c.names.ensures ∙ units_counted fixed.units ∙ sym (ap length c.volumes.ensures);
     }
 
@@ -39,7 +39,7 @@ returns g c = λ config configured apart.
       world = world_at g.Q.RecordStore.queue c.args.store c.args.queue fixed p c.started.result c.started.ensures.parts
           (c.started.ensures.initiators ∙ c.in_ok-initiators.ensures ∙ ap (map idle_seat) c.as_slice.ensures)
           c.started.ensures.backlog c.started.ensures.jobs c.started.ensures.events c.as_slice-2.ensures c.volumes.ensures refl c.requires.empty c.requires.layout
-          config apart;
+          config apart configured;
       unit_names = c.names.ensures ∙ ap unit_names apart.units;
       library = apart.library;
       volumes = ap (λ x. x.store.volumes) c.started.ensures.parts ∙ apart.volumes;
