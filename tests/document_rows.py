@@ -21,8 +21,8 @@ tests/document_rows.py makes this table.
 A row is named by its document and the heading over it, or by its file. In a session \\XY is the byte of these two
 digits of sixteen.
 """
-# A program that keeps the session which it is given.
-KEEPER = "#!/bin/sh\ncat >'{}'\n"
+# A program that keeps its options and the session which it is given.
+KEEPER = "#!/bin/sh\necho \"$@\" >'{0}.options'\ncat >'{0}'\n"
 
 
 def heading_over(text, example):
@@ -31,14 +31,14 @@ def heading_over(text, example):
 
 
 def session_of(text):
-    """The session that an example gives to the program, or None where it runs none."""
+    """The options and the session that an example gives to the program, or None where it runs none."""
     with tempfile.TemporaryDirectory() as folder:
         program, kept = os.path.join(folder, "mvt"), os.path.join(folder, "session")
         with open(program, "w", encoding="utf-8") as file:
             file.write(KEEPER.format(kept))
         os.chmod(program, 0o755)
         printed(text, program)
-        return text_of(kept) if os.path.exists(kept) else None
+        return (text_of(f"{kept}.options").strip(), text_of(kept)) if os.path.exists(kept) else None
 
 
 def line_in_table(line):
@@ -48,14 +48,15 @@ def line_in_table(line):
     return f"{line[:-1]}\\20" if line.endswith(" ") else line
 
 
-def row(name, session, printed_lines):
-    lines = "".join(f"{line_in_table(line)}\n" for line in session.splitlines())
+def row(name, options, session, printed_lines):
+    lines = "".join(f"!{option.strip()}\n" for option in options.split("--")[1:])
+    lines += "".join(f"{line_in_table(line)}\n" for line in session.splitlines())
     wanted = re.sub(r"^(session fault S\d at line \d+)$", r"status 1: \1", printed_lines, flags=re.M)
     return f"== {name}\n{lines}=>\n{wanted}"
 
 
 def shown_sessions():
-    """Where a session is shown, the session, and what it prints."""
+    """Where a session is shown, its options and the session, and what it prints."""
     for document in ["README.md", *sorted(glob.glob("docs/*.md"))]:
         for example, text, wanted in examples_of(document):
             session = session_of(text)
@@ -63,7 +64,7 @@ def shown_sessions():
                 yield f"{document}, {heading_over(text_of(document), example)}", session, wanted
     for path in sorted(glob.glob("examples/*.session")):
         names = [path.replace(".session", end) for end in (".listing", ".error")]
-        yield path, text_of(path), "".join(text_of(name) for name in names if os.path.exists(name))
+        yield path, ("", text_of(path)), "".join(text_of(name) for name in names if os.path.exists(name))
 
 
 def rows():
@@ -73,7 +74,7 @@ def rows():
             continue
         sessions.add(session)
         names[name] = names.get(name, 0) + 1
-        yield row(f"{name}, {names[name]}" if names[name] > 1 else name, session, wanted)
+        yield row(f"{name}, {names[name]}" if names[name] > 1 else name, *session, wanted)
 
 
 def main():

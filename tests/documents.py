@@ -1,8 +1,8 @@
 """Compares README.md, docs/ and bench/README.md with the program.
 
 An example is a block ```sh that is followed by a block ```text, which it has to print. A block ```sh without one is a
-definition for those behind it. Each number of a refusal has its row, what is typed in docs/REFUSALS.md is told as it
-says, and no line is longer than 120 columns.
+definition for those behind it. Each number of a refusal has its row, what is typed in docs/REFUSALS.md and each of its
+faults is told as it says, and no line is longer than 120 columns.
 Usage: python3 tests/documents.py [PROGRAM], by default ./mvt
 """
 
@@ -20,6 +20,7 @@ NUMBERED = {
     "NameFault": ("N", "docs/REFUSALS.md"),
     "StatementFault": ("P", "docs/REFUSALS.md"),
     "EventFault": ("A", "docs/REFUSALS.md"),
+    "QueueFault": ("Q", "docs/REFUSALS.md"),
     "Fault": ("S", "docs/SESSION.md"),
 }
 # What stands in a session before the deck of which a part was typed.
@@ -96,10 +97,22 @@ def typed_and_told_otherwise(program):
             yield f"docs/REFUSALS.md: `{typed}` is told otherwise\n{run.stdout}{run.stderr}"
 
 
+def faults_told_otherwise(program):
+    """The rows of the table of faults of docs/REFUSALS.md that do not hold, in the session that stands over it."""
+    section = text_of("docs/REFUSALS.md").split("## A job meets a fault")[1].split("\n## ")[0]
+    configuration = "".join(re.findall(r"^    (\./ .*\n)", section, re.M))
+    for fault, typed, told in re.findall(r"^\| (F\d+) \| (`.*`) \| `(.*)` \|$", section, re.M):
+        deck = ["//J JOB 1", "//S EXEC PGM=IEFBR14", *(f"//{dd}" for dd in re.findall(r"`(.+?)`", typed))]
+        session = "\n".join([configuration + "./ READ", *deck, "./ END", "./ TURN 1*3", ""])
+        run = subprocess.run([program], input=session, capture_output=True, text=True)
+        if not run.stdout.endswith(f"0001 {told}\n"):
+            yield f"docs/REFUSALS.md: {fault} is told otherwise\n{run.stdout}{run.stderr}"
+
+
 def main():
     os.chdir(os.path.join(os.path.dirname(os.path.abspath(__file__)), ".."))
     program = os.path.abspath(sys.argv[1] if len(sys.argv) > 1 else "mvt")
-    wrong = [*refusals_without_row(), *typed_and_told_otherwise(program)]
+    wrong = [*refusals_without_row(), *typed_and_told_otherwise(program), *faults_told_otherwise(program)]
     for document in ["README.md", *sorted(glob.glob("docs/*.md")), "bench/README.md"]:
         wrong += [f"{document}: {said}" for said in [*examples_that_differ(document, program), *long_lines(document)]]
         count = len([*examples_of(document)])

@@ -11,7 +11,7 @@ import sys
 
 PROGRAMS = ("volume_rows", "record_rows", "machine_rows", "store_rows", "session_rows", "path_rows")
 # The commands of a session's row that the program can be asked by its options, or that leave the listing as it is.
-PLAIN = ("risk ", "views ", "read ", "write ", "driven", "times ", "end")
+PLAIN = ("risk ", "views ", "explain", "read ", "write ", "driven", "times ", "end")
 
 
 def text_of(path):
@@ -64,7 +64,8 @@ def compare_sessions(program, path):
         commands = [line[1:] for line in lines if line.startswith("!")]
         if not all(command.startswith(PLAIN) for command in commands):
             continue
-        options = [word for it in commands if it.startswith(("risk ", "views ")) for word in ("--" + it.split()[0], it.split()[1])]
+        asked = [it.split() for it in commands if it.startswith(("risk ", "views ", "explain"))]
+        options = [word for name, *values in asked for word in ("--" + name, *values)]
         session = unescaped("\n".join(repeated(lines)) + "\n")
         run = subprocess.run([program, *options], input=session, capture_output=True, check=False)
         told = run.stdout.decode("latin-1")

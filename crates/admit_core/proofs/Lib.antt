@@ -1,6 +1,3 @@
-pub mod Entered
-pub mod Listed
-pub mod Listings
-pub mod Owned
-pub mod Selected
-pub mod Wanted
+mod Apart
+mod Answering
+mod Refused

@@ -1,12 +1,6 @@
-//! The records and the names of a job, from its reading to its end. (This profile)
+//! A job whose names are held is admitted, or waits for space. (This profile)
 #![tactic(auto)]
 
-pub mod backlog;
-pub mod cancels;
-pub mod laws;
-pub mod names;
-pub mod read;
-pub mod reading;
-pub mod records;
-pub mod selecting;
-pub mod wants;
+pub mod admission;
+pub mod admit;
+pub mod budget;

@@ -14,7 +14,7 @@ use Rattle.world_meaning.specs.Lenses.{put_back, seen}
 use Rattle.world_meaning.specs.Tracks.{kept_on, kept_unless_made, kept_without}
 use Rattle.world_meaning.specs.Turns.{Advanced, acts, advanced, answers_due, ends, granting, is_over, must_wait, state_in, waits}
 use Rattle.world_meaning.specs.Worlds.{Admission, Admitted, Config, Kept, Running, Shared}
-use Rattle.run_laws.proofs.Elements.{contains_first}
+use Rattle.law_core.proofs.Elements.{contains_first}
 use Rattle.case_laws.specs.Cases.{HasTracks, IsCovered}
 use Rattle.case_laws.specs.Gains.{Gains, MakesSet}
 use Rattle.case_laws.proofs.Fairness.{are_fair}

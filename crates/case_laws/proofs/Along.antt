@@ -6,9 +6,9 @@ use Rattle.world_meaning.specs.Readings.{Denoting}
 use Rattle.world_meaning.specs.Starts.{IsStart}
 use Rattle.world_meaning.specs.Transitions.{Runs}
 use Rattle.world_meaning.specs.Worlds.{World}
-use Rattle.run_laws.specs.Soundness.{IsSound}
-use Rattle.run_laws.proofs.Sound.{sound_along, sound_behind}
-use Rattle.run_laws.proofs.Starting.{starts_sound}
+use Rattle.law_core.specs.Soundness.{IsSound}
+use Rattle.law_core.proofs.Sound.{sound_along, sound_behind}
+use Rattle.law_core.proofs.Starting.{starts_sound}
 use Rattle.case_laws.specs.Cases.{CanBeWritten, HasCase, HasWholeQueue, IsSupplied}
 use Rattle.case_laws.proofs.Cases.{has_case}
 use Rattle.case_laws.proofs.Supplies.{starts_supplied, supplied_behind}

@@ -1,10 +1,12 @@
 -- A case for every event.
-use Rattle.std.proofs.Common.{◌≡◌, ◌≤◌, ◌<◌, ◌⊎◌, inl, inr, ℕ, false, List, [], ◌∷◌, Option, Some, None, All, refl}
+use Rattle.std.proofs.Common.{◌≡◌, ◌≤◌, ◌<◌, ◌⊎◌, inl, inr, ℕ, false, List, [], ◌∷◌, Option, Some, None, All, length, refl}
 use Rattle.std.proofs.lemmas.Bool.{cases_lt}
 use Rattle.jcl_plan.specs.declared.entry.Entry.TheVariants as entry
 use Rattle.jcl_plan.specs.declared.fault.Cause.TheVariants.{A}
 use Rattle.jcl_plan.specs.declared.fault.EventFault.TheVariants.{PastLimit}
 use Rattle.machine_meaning.specs.declared.machine.TheConstants.{MOST_EVENTS}
+use Rattle.jcl_plan.specs.declared.plan.JobPlan.{JobPlan}
+use Rattle.jcl_meaning.specs.WellFormed.{IsWellFormedPlan}
 use Rattle.world_meaning.specs.declared.event.Event.{Event}
 use Rattle.world_meaning.specs.declared.event.Event.TheVariants as event
 use Rattle.world_meaning.specs.Readings.{Denoting}
@@ -12,7 +14,8 @@ use Rattle.world_meaning.specs.Selections.{HasNone, IsSelected, Selects, nothing
 use Rattle.world_meaning.specs.Tracks.{kept_of}
 use Rattle.world_meaning.specs.Transitions.{Acts, Does, Happens, Turns, acts, past, shown, taken, unknown}
 use Rattle.world_meaning.specs.Worlds.{Admitted, HasNoInitiator, Initiator, IsAt, Named, Running, Selected, Stage, Waiting, Wanting, World, counted}
-use Rattle.run_laws.specs.Soundness.{IsSound, RunsAt}
+use Rattle.law_core.specs.Soundness.{IsSound, RunsAt, plan_read}
+use Rattle.law_core.proofs.Reading.{plan_formed}
 use Rattle.case_laws.specs.Cases.{CanBeWritten, CanGoOn, HasCase, HasWholeQueue, IsSupplied, is_assured_at}
 use Rattle.case_laws.proofs.Advancing.{advances}
 use Rattle.case_laws.proofs.Events.{Done, cancels, ends_device, reads, sets_date, writes, zaps}
@@ -26,11 +29,12 @@ module _ (w : World) (s : IsSound w) (supplied : IsSupplied w) (queue : HasWhole
   HasNothingKept job = (serial : List ℕ) → kept_of job w.shared.kept serial ≡ []
 
   goes_on : (r : Running) (stage : Stage) → CanGoOn w.config w.shared r.job stage → (is_assured_at stage ≡ false → HasNothingKept r.job) →
-      WentOn w.config w.shared r stage
-  goes_on r (Selected first) can none = reads_records w.config w.shared r first queue.fields queue.records
-  goes_on r (Wanting plan) can none = holds w.config w.shared r plan
-  goes_on r (Named plan) can none = admits w.config w.shared r plan (none refl)
-  goes_on r (Admitted plan a count own) can none = advances w.config w.shared r plan a count own s.programs can.0 can.1
+      ((plan : JobPlan) → plan_read stage ≡ Some plan → IsWellFormedPlan plan) → WentOn w.config w.shared r stage
+  goes_on r (Selected first) can none formed = reads_records w.config w.shared r first queue.fields queue.records
+  goes_on r (Wanting plan) can none formed = holds w.config w.shared r plan
+  goes_on r (Named plan) can none formed =
+      admits w.config w.shared r plan (formed plan refl) (s.groups r.job) (none refl)
+  goes_on r (Admitted plan a count own) can none formed = advances w.config w.shared r plan a count own s.programs can.0 can.1
 
   by_queue : (place : ℕ) (x : Initiator) → (All (HasNone w.waiting) x.classes) ⊎ ((v : Waiting) × IsSelected w.waiting x.classes v) →
       Done (Selects (counted w) place x)
@@ -41,7 +45,8 @@ module _ (w : World) (s : IsSound w) (supplied : IsSupplied w) (queue : HasWhole
   by_running place x None at e = by_queue place x (selected_or_none w.waiting x.classes)
   by_running place x (Some r) at e =
       let run : RunsAt w place r = record { it = x; at = at; running = e } in
-      let went : WentOn w.config w.shared r r.stage = goes_on r r.stage (supplied.running place r run) (none_before w s supplied.kept place r run) in
+      let went : WentOn w.config w.shared r r.stage = goes_on r r.stage (supplied.running place r run) (none_before w s supplied.kept place r run)
+      (λ plan e. let d = s.denoted place r plan run e in plan_formed w.config.layout.most_steps (length w.config.units) plan d.denoted.in_range) in
       (_, _, record { job_lines = went.0; shared = went.1; runs = went.2; goes = went.3; told = refl; leaves = refl })
 
   by_initiator : (number : ℕ) → HasNoInitiator w number ⊎ Found (λ x. x.number ≡ number) w.initiators → Done (Turns (counted w) number)

@@ -6,7 +6,7 @@ use Rattle.std.proofs.lemmas.Bool.{cases_eq}
 use Rattle.std.proofs.lemmas.List.Elements.{All-cons, All-nil}
 use Rattle.world_meaning.specs.Cancels.{RunsNot}
 use Rattle.world_meaning.specs.Worlds.{Initiator, Running, Waiting}
-use Rattle.run_laws.proofs.Elements.{contains_first, contains_later}
+use Rattle.law_core.proofs.Elements.{contains_first, contains_later}
 
 pub record Found {X : Type 0} (Yes : X → Type 0) (xs : List X) : Type 0 where
   pub place : ℕ

@@ -15,7 +15,7 @@ use Rattle.jcl_meaning.specs.States.{Fixed}
 use Rattle.jcl_meaning.specs.Stores.{Store}
 use Rattle.jcl_meaning.specs.WellFormed.{AreWellFormedPrograms}
 use Rattle.meaning_laws.proofs.Parts.{part_back}
-use Rattle.world_meaning.specs.Admissions.{Answered, MayFail, admitted, assured, fixed_at, no_space, refused, risk, risky, too_many, unchecked}
+use Rattle.world_meaning.specs.Admissions.{Answered, MayFail, admitted, assured, fixed_at, no_space, refused, risk, risky, too_many}
 use Rattle.world_meaning.specs.Holdings.{Holds, blocked, broken, held, read}
 use Rattle.world_meaning.specs.Lenses.{WorldStore, put_back, seen}
 use Rattle.world_meaning.specs.Tracks.{kept_unless_made}
@@ -121,7 +121,6 @@ module _ (c : Config) (old : Shared) (r : Running) (programs : AreWellFormedProg
   answered_goes_on plan fixed lines new runs (no_space serial there t n on) = subst (RunsOn c new) (sym on) tt
   answered_goes_on plan fixed lines new runs (risk fault step dd path meets m) = may_fail_goes_on plan fixed _ lines new runs m
   answered_goes_on plan fixed lines new runs (too_many step low high views m) = may_fail_goes_on plan fixed _ lines new runs m
-  answered_goes_on plan fixed lines new runs (unchecked b t n on) = unassured plan fixed lines new runs on
 
   pub goes_on : (stage : Stage) (lines : List JobLine) (new : Shared) (runs : Option Running) → r.stage ≡ stage → FitsAt c stage → CanGoOn c old r.job stage →
       GoesOn c old r stage lines new runs → RunsOn c new runs

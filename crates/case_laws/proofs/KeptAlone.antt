@@ -10,7 +10,7 @@ use Rattle.jcl_meaning.specs.declared.state.Own.{Own}
 use Rattle.jcl_meaning.specs.declared.state.Place.{Place}
 use Rattle.jcl_meaning.specs.States.{Fixed}
 use Rattle.world_meaning.specs.declared.event.Event.{Event}
-use Rattle.world_meaning.specs.Admissions.{Answered, MayFail, assured, fixed_at, no_space, refused, risk, risky, too_many, unchecked}
+use Rattle.world_meaning.specs.Admissions.{Answered, MayFail, assured, fixed_at, no_space, refused, risk, risky, too_many}
 use Rattle.world_meaning.specs.Cancels.{is_admitted}
 use Rattle.world_meaning.specs.Holdings.{Holds, blocked, broken, held, read}
 use Rattle.world_meaning.specs.Tracks.{is_kept_for, kept_of, kept_unless_made, kept_without}
@@ -19,9 +19,9 @@ use Rattle.world_meaning.specs.Turns.{Advances, acts, ends, waits}
 use Rattle.world_meaning.specs.Worlds.{Admission, Admitted, Config, Initiator, Kept, Named, Running, Selected, Shared, Stage, Wanting, World, with_running}
 use Rattle.world_laws.proofs.Beside.{set_elsewhere, set_here}
 use Rattle.world_laws.proofs.Effects.{Effect, ended_early, goes, picks, still, unqueued}
-use Rattle.run_laws.specs.Soundness.{IsSound, RunsAt}
-use Rattle.run_laws.proofs.Elements.{contains_first, contains_later, contains_filter}
-use Rattle.run_laws.proofs.Places.{one_running}
+use Rattle.law_core.specs.Soundness.{IsSound, RunsAt}
+use Rattle.law_core.proofs.Elements.{contains_first, contains_later, contains_filter}
+use Rattle.law_core.proofs.Places.{one_running}
 use Rattle.case_laws.specs.Cases.{HasAssured, is_assured_at}
 
 -- what is left by a test was there, and passed
@@ -108,7 +108,6 @@ module _ (c : Config) (old : Shared) (q : Running) (serial : List ℕ) (k : Kept
   in_answer plan fixed lines new runs e (no_space v there t n on) = by_new new _ runs n (unassured runs e)
   in_answer plan fixed lines new runs e (risk fault step dd path meets m) = in_failing plan fixed _ lines new runs e m
   in_answer plan fixed lines new runs e (too_many step low high views m) = in_failing plan fixed _ lines new runs e m
-  in_answer plan fixed lines new runs e (unchecked b t n on) = by_new new _ runs n (unassured runs e)
 
   in_turn : (plan : JobPlan) (a : Admission) (count : ℕ) (own : Own) (lines : List JobLine) (new : Shared) (runs : Option Running) →
       q.stage ≡ Admitted plan a count own → Advances c old q plan a count own lines new runs → Both new runs

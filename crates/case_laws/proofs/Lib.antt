@@ -4,7 +4,7 @@ mod Queues
 mod Spools
 mod Dates
 mod Placing
-mod Unnamed
+mod Unmade
 mod Sums
 mod Freed
 mod Finding

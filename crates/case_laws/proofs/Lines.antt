@@ -6,6 +6,7 @@ use Rattle.std.proofs.lemmas.Bool.{both_ways}
 use Rattle.std.proofs.lemmas.List.Elements.{All-contains, All-head, All-tail}
 use Rattle.jcl_plan.specs.declared.entry.Entry.{Entry}
 use Rattle.jcl_plan.specs.declared.entry.Entry.TheVariants as entry
+use Rattle.jcl_plan.specs.declared.entry.JobLine.{JobLine}
 use Rattle.jcl_plan.specs.declared.entry.JobLine.TheVariants as line
 use Rattle.jcl_plan.specs.declared.plan.JobPlan.{JobPlan}
 use Rattle.cb_meaning.specs.Needs.{records_needed}
@@ -18,12 +19,12 @@ use Rattle.world_meaning.specs.Devices.{EndsDevice, Writes, ended, idle, no_volu
 use Rattle.world_meaning.specs.Displays.{SetsDate, days_before, set as dated}
 use Rattle.world_meaning.specs.Readings.{Denoting, IsWritten, Reads, full, no_number, read, read_line, rejected}
 use Rattle.world_meaning.specs.Selections.{Selects, nothing, selected}
-use Rattle.world_meaning.specs.Transitions.{Acts, Does, Transition, Turns, acts, past, shown, taken, unknown}
-use Rattle.world_meaning.specs.Worlds.{Initiator, IsAt, Running, Waiting, World, counted, of_job}
+use Rattle.world_meaning.specs.Transitions.{Acts, Does, Transition, Turns, acts, past, shown, taken, unknown, GoesOn, explained_by, told_with}
+use Rattle.world_meaning.specs.Worlds.{Admitted, Config, Initiator, IsAt, Named, Running, Selected, Shared, Stage, Waiting, Wanting, World, counted, of_job}
 use Rattle.world_meaning.specs.Zaps.{ZapsRecord, not_owned, selected as zaps_selected, zapped}
 use Rattle.world_laws.proofs.Beside.{one_there}
-use Rattle.run_laws.specs.Soundness.{IsSound, RunsAt}
-use Rattle.run_laws.proofs.Places.{one_running}
+use Rattle.law_core.specs.Soundness.{IsSound, RunsAt}
+use Rattle.law_core.proofs.Places.{one_running}
 use Rattle.case_laws.specs.Lines.{HasNoChoice, LeavesNoneOpen}
 use Rattle.case_laws.proofs.Needed.{needed}
 use Rattle.case_laws.proofs.Queues.{not_both as not_both_selected, same_job}
@@ -73,6 +74,17 @@ all_at P [] k x all e = absurd cc
 all_at P (y ∷ ys) zero x all e = let same : y ≡ x = cc in subst P same (All-head P y ys all)
 all_at P (y ∷ ys) (suc k) x all e = all_at P ys k x (All-tail P y ys all) e
 
+-- nothing is explained but at an admission
+unexplained : (c : Config) (old : Shared) (r : Running) (stage : Stage) (lines : List JobLine) (new : Shared) (runs : Option Running) →
+    HasNoChoice c old r.job stage → (g : GoesOn c old r stage lines new runs) → explained_by c old r stage lines new runs g ≡ []
+unexplained c old r (Selected first) lines new runs closed g = refl
+unexplained c old r (Wanting plan) lines new runs closed g = refl
+unexplained c old r (Named plan) lines new runs closed g = absurd closed
+unexplained c old r (Admitted plan a count own) lines new runs closed g = refl
+
+plainly : (job : ℕ) (told : List Entry) (lines path : List JobLine) → told ≡ told_with job lines path → path ≡ [] → told ≡ of_job job lines
+plainly job told lines path is none = is ∙ ap (told_with job lines) none
+
 module _ (w : World) (s : IsSound w) where
   selects_same : (a b : World) (place : ℕ) (x : Initiator) (l m : List Entry) → Selects (counted w) place x l a → Selects (counted w) place x m b → l ≡ m
   selects_same a b place x l m (nothing none e n) (nothing none_too f o) = e ∙ sym f
@@ -85,8 +97,9 @@ module _ (w : World) (s : IsSound w) where
       ((r : Running) → o ≡ Some r → HasNoChoice w.config w.shared r.job r.stage) → Acts (counted w) place x o l a → Acts (counted w) place x o m b → l ≡ m
   acts_same a b place x None l m decided p q = selects_same a b place x l m p q
   acts_same a b place x (Some r) l m decided p q =
-      p.told ∙ ap (of_job r.job) (goes_same w.config w.shared r p.shared q.shared p.runs q.runs p.job_lines q.job_lines r.stage (decided r refl) p.goes q.goes)
-      ∙ sym q.told
+      plainly r.job l p.job_lines _ p.told (unexplained w.config w.shared r r.stage p.job_lines p.shared p.runs (decided r refl) p.goes)
+      ∙ ap (of_job r.job) (goes_same w.config w.shared r p.shared q.shared p.runs q.runs p.job_lines q.job_lines r.stage (decided r refl) p.goes q.goes)
+      ∙ sym (plainly r.job m q.job_lines _ q.told (unexplained w.config w.shared r r.stage q.job_lines q.shared q.runs (decided r refl) q.goes))
 
   turns_same : (a b : World) (number : ℕ) (l m : List Entry) → LeavesNoneOpen w (event.Turn number) → Turns (counted w) number l a →
       Turns (counted w) number m b → l ≡ m

@@ -11,7 +11,7 @@ use Rattle.jcl_plan.specs.declared.plan.VolumePlan.TheVariants as volume
 use Rattle.jcl_meaning.specs.declared.state.Place.{Place}
 use Rattle.world_meaning.specs.Placements.{ArePlaces, PlacedAmong, PlacedBy, PlacedDd, PlacedDds, PlacedIf, PlacedSteps, among, nowhere, places, unit_volumes}
 use Rattle.world_meaning.specs.Worlds.{Config}
-use Rattle.run_laws.proofs.Elements.{contains_first}
+use Rattle.law_core.proofs.Elements.{contains_first}
 
 -- some list
 abbrev SomeList : (List Place → Type 0) → Type 0

@@ -11,7 +11,7 @@ use Rattle.machine_meaning.specs.declared.machine.SpoolSet.{SpoolSet}
 use Rattle.machine_meaning.specs.Spools.{Takes, has_lines, left_of, sets_of}
 use Rattle.world_meaning.specs.declared.event.Event.{Event}
 use Rattle.world_meaning.specs.declared.event.Event.TheVariants as event
-use Rattle.world_meaning.specs.Admissions.{Answered, MayFail, assured, fixed_at, no_space, refused, risk, risky, too_many, unchecked}
+use Rattle.world_meaning.specs.Admissions.{Answered, MayFail, assured, fixed_at, no_space, refused, risk, risky, too_many}
 use Rattle.world_meaning.specs.Cancels.{CancelsJob, admitted as cancels_admitted, no_job, selected as cancels_selected, waiting as cancels_waiting}
 use Rattle.world_meaning.specs.Devices.{ended, idle, no_volume, nothing_written, wrote}
 use Rattle.world_meaning.specs.Displays.{set as dated}
@@ -80,7 +80,6 @@ module _ (c : Config) (old : Shared) (r : Running) (lines : List JobLine) (new :
   answered_spool plan fixed (no_space serial there t n on) = as_it_was old new _ n refl h
   answered_spool plan fixed (risk fault step dd path meets m) = may_fail_spool plan fixed _ m
   answered_spool plan fixed (too_many step low high views m) = may_fail_spool plan fixed _ m
-  answered_spool plan fixed (unchecked b t n on) = as_it_was old new _ n refl h
 
   goes_spool : (stage : Stage) → GoesOn c old r stage lines new runs → AllHave new.spool
   goes_spool (Selected first) (broken n free f t e conserved gone) = as_it_was old new _ e refl h

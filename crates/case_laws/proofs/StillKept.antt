@@ -10,7 +10,7 @@ use Rattle.cb_meaning.specs.Writable.{kind_at}
 use Rattle.world_meaning.specs.Admissions.{primary_asked}
 use Rattle.world_meaning.specs.Tracks.{is_kept_for, kept_unless_made}
 use Rattle.world_meaning.specs.Worlds.{Kept}
-use Rattle.run_laws.proofs.Elements.{contains_first, contains_later}
+use Rattle.law_core.proofs.Elements.{contains_first, contains_later}
 use Rattle.case_laws.specs.Cases.{HasTracks, is_asked}
 
 -- the DD and the job of tracks that are kept

@@ -23,8 +23,8 @@ use Rattle.world_laws.specs.KeptTracks.{StaysOn}
 use Rattle.world_laws.proofs.Beside.{one_there, parts_stay}
 use Rattle.world_laws.proofs.Effects.{Effect, changes, ended_early, goes, picks, still, unqueued}
 use Rattle.world_laws.proofs.TracksKept.{kept_stays}
-use Rattle.run_laws.specs.Soundness.{IsSound, RunsAt, named_plan}
-use Rattle.run_laws.proofs.Places.{WasAt, here, one_running, runs_cases, runs_same, there}
+use Rattle.law_core.specs.Soundness.{IsSound, RunsAt, named_plan}
+use Rattle.law_core.proofs.Places.{WasAt, here, one_running, runs_cases, runs_same, there}
 use Rattle.case_laws.specs.Cases.{CanGoOn, HasTracks, IsSupplied, MayMake}
 use Rattle.case_laws.proofs.Going.{RunsOn, goes_on}
 use Rattle.case_laws.proofs.KeptAlone.{kept_founded}

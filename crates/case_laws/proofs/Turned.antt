@@ -11,7 +11,7 @@ use Rattle.jcl_meaning.specs.Agendas.{Action, Ask, Dispose, Finish, Left, Over, 
 use Rattle.jcl_meaning.specs.RequestActs.{head_or}
 use Rattle.jcl_meaning.specs.States.{Answers, Fixed, State}
 use Rattle.world_meaning.specs.Turns.{Advanced, advance, unless_silent}
-use Rattle.run_laws.proofs.Elements.{contains_first, contains_later}
+use Rattle.law_core.proofs.Elements.{contains_first, contains_later}
 use Rattle.case_laws.specs.Cases.{AreFair, MayMake}
 use Rattle.case_laws.specs.Gains.{Gains, GainsNone, grows, none, one}
 use Rattle.case_laws.proofs.Gained.{chained, unchanged}

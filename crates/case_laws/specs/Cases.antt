@@ -23,7 +23,7 @@ use Rattle.world_meaning.specs.Starts.{IsStart}
 use Rattle.world_meaning.specs.Tracks.{is_kept_for}
 use Rattle.world_meaning.specs.Transitions.{Runs, Transition}
 use Rattle.world_meaning.specs.Worlds.{Admission, Admitted, Config, Kept, Named, Running, Selected, Shared, Stage, Wanting, World}
-use Rattle.run_laws.specs.Soundness.{IsSound, RunsAt}
+use Rattle.law_core.specs.Soundness.{IsSound, RunsAt}
 
 -- some lines, and a machine behind them
 pub record HasCase (job_of : Denoting) (w : World) (e : Event) : Type 0 where

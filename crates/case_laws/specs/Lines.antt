@@ -9,7 +9,7 @@ use Rattle.world_meaning.specs.Transitions.{Transition}
 use Rattle.world_meaning.specs.Turns.{Advanced, advanced}
 use Rattle.world_meaning.specs.Worlds.{Admitted, Config, Named, Running, Selected, Shared, Stage, Wanting, World}
 use Rattle.world_laws.specs.Beside.{IsTurnOf}
-use Rattle.run_laws.specs.Soundness.{IsSound, RunsAt}
+use Rattle.law_core.specs.Soundness.{IsSound, RunsAt}
 
 -- a set grows for a PUT
 abbrev pub is_growth : List JobLine → Bool

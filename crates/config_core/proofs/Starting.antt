@@ -115,13 +115,13 @@ numbers_idle [] = refl
 numbers_idle (x ∷ xs) = ap (λ ns. x.number ∷ ns) (numbers_idle xs)
 
 pub is_start : StartsOfConfigurations
-is_start c refuses views date l h own = record {
+is_start c refuses views explains date l h own = record {
   layout = own;
   serials = h.serials;
   programs = h.programs;
   store = store_is_good c l date h;
   unused = record { kept = λ serial. refl; holds = refl; operations = refl; cancels = refl; spool = refl };
-  records = records_are_free (start_config c refuses views l);
+  records = records_are_free (start_config c refuses views explains l);
   waiting = All-nil _;
   in_order = tt;
   numbered = All-nil _;

@@ -24,15 +24,17 @@ pub record IsTakenApart (c : Configuration) (store : SharedStore) (fixed : Fixed
   pub programs : fixed.programs ≡ c.programs
   pub initiators : fixed.initiators ≡ c.initiators
 
--- what a configuration fixes, with whether jobs that may fail are refused, the limit of views, and the layout of the queue's records
-abbrev pub start_config : Configuration → Bool → ℕ → Layout → Config
-start_config c refuses views l = record {
+-- what a configuration fixes, with whether jobs that may fail are refused, the limit of views, whether a risk's path is shown, and the layout of the
+-- queue's records
+abbrev pub start_config : Configuration → Bool → ℕ → Bool → Layout → Config
+start_config c refuses views explains l = record {
   volumes = serials_of c.volumes;
   units = unit_volumes c.units;
   programs = c.programs;
   layout = l;
   refuses = refuses;
   most_views = views;
+  explains = explains;
 }
 
 -- its sets, catalog and free tracks; all records are free, and nothing is kept, held, under way, cancelled or spooled
@@ -53,9 +55,9 @@ abbrev pub idle : ConfiguredInitiator → Initiator
 idle x = record { number = x.number; classes = x.classes; running = None }
 
 -- the machine before its first event
-abbrev pub start_of : Configuration → Bool → ℕ → Layout → ℕ → World
-start_of c refuses views l date = record {
-  config = start_config c refuses views l;
+abbrev pub start_of : Configuration → Bool → ℕ → Bool → Layout → ℕ → World
+start_of c refuses views explains l date = record {
+  config = start_config c refuses views explains l;
   shared = start_shared c l date;
   initiators = map idle c.initiators;
   waiting = [];
@@ -65,5 +67,5 @@ start_of c refuses views l date = record {
 
 -- the start of a configuration is one of the machine's
 abbrev pub StartsOfConfigurations : Type 0
-StartsOfConfigurations = (c : Configuration) (refuses : Bool) (views date : ℕ) (l : Layout) → IsConfigured c → IsQueueLayout l →
-    IsStart (start_of c refuses views l date)
+StartsOfConfigurations = (c : Configuration) (refuses : Bool) (views : ℕ) (explains : Bool) (date : ℕ) (l : Layout) → IsConfigured c → IsQueueLayout l →
+    IsStart (start_of c refuses views explains l date)

@@ -24,7 +24,7 @@ use Rattle.world_meaning.specs.Admissions.{primary_asked}
 use Rattle.world_meaning.specs.Turns.{Advanced, advance, answers_due, outcomes_due, unless_silent}
 use Rattle.disp_core.specs.Grants.{granted_by, granted_on, primary_granted}
 use Rattle.turn_core.specs.Performing.{primary_by}
-use Rattle.run_laws.proofs.Elements.{contains_first}
+use Rattle.law_core.proofs.Elements.{contains_first}
 use Rattle.case_laws.specs.Cases.{AreFair, MayMake, with_answers}
 use Rattle.case_laws.proofs.Fairness.{are_fair}
 use Rattle.case_laws.proofs.Known.{IsKnown}

@@ -15,10 +15,11 @@ use Rattle.jcl_plan.specs.declared.outcome.Outcome.{Outcome}
 use Rattle.jcl_plan.specs.declared.plan.JobPlan.{JobPlan}
 use Rattle.jcl_meaning.specs.Solo.{fixed_in, fixed_with, nothing_own}
 use Rattle.jcl_meaning.specs.States.{Fixed}
+use Rattle.jcl_meaning.specs.Stores.{Store}
 use Rattle.path_meaning.specs.Verdicts.{IsEarliest, IsFirstWithMore, IsFree}
 use Rattle.cb_queue.specs.RecordQueues.{RecordQueue}
 use Rattle.world_meaning.specs.Admissions as answer
-use Rattle.world_meaning.specs.Admissions.{Admits, Answered as WorldAnswered, MayFail, admitted, fixed_at, tracks_asked}
+use Rattle.world_meaning.specs.Admissions.{Admits, Answered as WorldAnswered, MayFail, admitted, explained, fixed_at, tracks_asked}
 use Rattle.world_meaning.specs.Holdings.{released}
 use Rattle.world_meaning.specs.Lenses.{seen}
 use Rattle.world_meaning.specs.Records.{Reopened}
@@ -33,10 +34,10 @@ use Rattle.turn_core.specs.Standing.{Stands, count_at}
 use Rattle.turn_core.specs.declared.todo.Todo.TheVariants as todo
 use Rattle.turn_core.specs.declared.walk.Walk.{Walk}
 use Rattle.place_core.specs.Keepings.{KeepsAll}
-use Rattle.admit_core.proofs.Wanted.{releasing_leaves, releasing_leaves_none}
-use Rattle.admission_core.specs.Admitted.{IsAnswered, IsTold, Leaves, assured, assured_with, checked_with, fixed_by_room, fixed_for, no_space, risk, too_many}
-use Rattle.admission_core.specs.declared.admission.Admission.{Admission}
-use Rattle.admission_core.specs.declared.admission.Answer.{Answer}
+use Rattle.job_core.proofs.Wanted.{releasing_leaves, releasing_leaves_none}
+use Rattle.admit_core.specs.Admitted.{IsAnswered, IsTold, Leaves, assured, assured_with, checked_with, fixed_by_room, fixed_for, no_space, risk, too_many}
+use Rattle.admit_core.specs.declared.admission.Admission.{Admission}
+use Rattle.admit_core.specs.declared.admission.Answer.{Answer}
 use Rattle.machine_core.specs.declared.parts.Parts.{Parts}
 use Rattle.machine_core.specs.Released.{GivesBack, IsReleased}
 use Rattle.machine_core.specs.Shown.{shown}
@@ -46,6 +47,7 @@ use Rattle.init_core.specs.declared.running.Progress.{Progress}
 use Rattle.init_core.specs.declared.running.Progress.TheVariants.{Answered, Over}
 use Rattle.init_core.specs.declared.running.Running.{Running}
 use Rattle.init_core.specs.declared.running.Stage.TheVariants as stage
+use Rattle.init_core.specs.declared.running.Told.{Told}
 use Rattle.init_core.specs.Choosing.{IsAdmittedByVolumes, lines_answered, with_refusal}
 use Rattle.init_core.specs.Going.{Went}
 use Rattle.init_core.specs.Naming.{begun}
@@ -77,6 +79,17 @@ by_command_line : (refuses b : Bool) (told kind : JobLine) → ((x : Bool) → l
     with_refusal b told ≡ lines_answered refuses told
 by_command_line refuses b told kind may is e =
     (λ i. with_refusal (sym e i) (is i)) ∙ sym (may refuses) ∙ ap (lines_answered refuses) (sym is)
+
+-- it is explained alike, refused or not
+refused_alike : (fixed : Fixed) (plan : JobPlan) (store : Store) (b : Bool) (fault : Fault) (step dd : ℕ) (path : List Outcome) →
+    explained b fixed plan store (line.Risk fault step dd path ∷ []) ≡ explained b fixed plan store (line.Risk fault step dd path ∷ line.Refused ∷ [])
+refused_alike fixed plan store true fault step dd path = refl
+refused_alike fixed plan store false fault step dd path = refl
+
+many_alike : (fixed : Fixed) (plan : JobPlan) (store : Store) (b : Bool) (step : ℕ) →
+    explained b fixed plan store (line.TooMany step ∷ []) ≡ explained b fixed plan store (line.TooMany step ∷ line.Refused ∷ [])
+many_alike fixed plan store true step = refl
+many_alike fixed plan store false step = refl
 
 abbrev IsFirst : JobPlan → Config → Type 0
 IsFirst plan c = Stands plan c.programs (todo.Start 0) × (count_at plan c.programs (todo.Start 0) ≡ 0)
@@ -117,15 +130,28 @@ module _ {Q : Type 0} (queue_of : Q → RecordQueue) (profile : Profile) (p : Pa
     -- what is open in it is as the volumes decide it
     abbrev chosen_to : List JobLine → Shared → Option world.Running → Type 0
     chosen_to ls s runs = (x : Admits c (shown queue_of p) (shown_running c its) plan ls s runs) × IsAdmittedByVolumes c p.store p.date job plan x.places ls
+        × (told.path ≡ explained c.explains (fixed_at c (shown queue_of p) job plan x.places) plan (seen job (world_store_of p.store)) ls)
 
-    chosen : (ls : List JobLine) (s : Shared) (runs : Option world.Running) → Answers ls s runs → ls ≡ lines_answered c.refuses told.line → chosen_to ls s runs
-    chosen ls s runs answers e = (
+    -- a risk is explained by its path
+    abbrev explains_here : List JobLine → List JobLine
+    explains_here ls = explained c.explains here plan (seen job (world_store_of p.store)) ls
+
+    path_here : told.path ≡ explains_here (told.line ∷ [])
+    path_here = a.path ∙ (λ i. explained c.explains (fixed_here i) plan (seen job (world_store_of p.store)) (told.line ∷ []))
+
+    chosen : (ls : List JobLine) (s : Shared) (runs : Option world.Running) → Answers ls s runs → ls ≡ lines_answered c.refuses told.line →
+        told.path ≡ explains_here ls → chosen_to ls s runs
+    chosen ls s runs answers e explains = (
       record { places = a.its.places; placed = a.configured c (sym g.volumes) refl; answers = answers },
       record { by_room = a.placed_so; answer = told.line; told = a.told; answered = e },
+      explains,
     )
 
+    abbrev pub it_told : Told
+    it_told = record { line = told.line; path = told.path }
+
     abbrev pub came : Option Admission → Progress
-    came given = Answered (record { job = job; walk = walk_answered (with_lines walk lines) given; stage = stage_answered plan held given }) told.line
+    came given = Answered (record { job = job; walk = walk_answered (with_lines walk lines) given; stage = stage_answered plan held given }) it_told
 
     abbrev pub GoesOn : Option Admission → Type 0
     GoesOn given = Went queue_of c p its new (came given)
@@ -149,12 +175,13 @@ module _ {Q : Type 0} (queue_of : Q → RecordQueue) (profile : Profile) (p : Pa
           GoesOn (Some given)
       at_work answers e =
           let x : chosen_to (told.line ∷ []) s (Some (shown_running c then)) =
-          subst (chosen_to (told.line ∷ []) s) begins (chosen (told.line ∷ []) s (admitted (shown_running c its) (told.line ∷ []) plan here b) answers e) in
+          subst (chosen_to (told.line ∷ []) s) begins (chosen (told.line ∷ []) s (admitted (shown_running c its) (told.line ∷ []) plan here b) answers e path_here) in
           record {
             middle = s;
             goes = x.0;
             reopened = reopened;
             chosen = x.1;
+            explained = x.2;
             few = one_told (told.line ∷ []) told.line (length walk.course.own.dds) refl;
             once = tt;
             good = good;
@@ -209,12 +236,13 @@ module _ {Q : Type 0} (queue_of : Q → RecordQueue) (profile : Profile) (p : Pa
         let x : chosen_to (told.line ∷ []) (shown queue_of p) (Some (record { job = job; listing = lines; stage = world.Named plan })) =
         subst (chosen_to (told.line ∷ []) (shown queue_of p)) (λ i. Some (record { job = job; listing = sym is i; stage = world.Named plan }))
         (chosen (told.line ∷ []) (shown queue_of p) runs (answer.no_space serial there (ap (λ l. l ∷ []) e) refl refl)
-        (ap (λ l. l ∷ []) e ∙ ap (lines_answered c.refuses) (sym e))) in
+        (ap (λ l. l ∷ []) e ∙ ap (lines_answered c.refuses) (sym e)) path_here) in
         record {
           middle = shown queue_of p;
           goes = x.0;
           reopened = same_shown same;
           chosen = x.1;
+          explained = x.2;
           few = one_told (told.line ∷ []) told.line (length walk.course.own.dds) refl;
           once = tt;
           good = same_good same;
@@ -230,6 +258,7 @@ module _ {Q : Type 0} (queue_of : Q → RecordQueue) (profile : Profile) (p : Pa
     abbrev Warns : JobLine → Type 0
     Warns kind = (told.line ≡ kind) × ((x : Bool) → lines_answered x kind ≡ with_refusal x kind)
         × ((ls : List JobLine) (s : Shared) (runs : Option world.Running) → MayFailSo ls s runs → Answers ls s runs)
+        × (explains_here (kind ∷ []) ≡ explains_here (kind ∷ line.Refused ∷ []))
 
     checked : (kind : JobLine) → Warns kind → store ≡ p.store → c.refuses ≡ false → IsFirst plan c → GoesOn (Some (checked_with a.its))
     checked kind w same e first =
@@ -239,18 +268,20 @@ module _ {Q : Type 0} (queue_of : Q → RecordQueue) (profile : Profile) (p : Pa
 
     -- or not at all
     module _ (end : Parts Q) (back : GivesBack queue_of job p end) (r : IsReleased queue_of c job p end) where
-      turned_away : (kind : JobLine) → Warns kind → c.refuses ≡ true → Went queue_of c p its end (Over (Some told.line) line.Refused)
+      turned_away : (kind : JobLine) → Warns kind → c.refuses ≡ true → Went queue_of c p its end (Over (Some it_told) line.Refused)
       turned_away kind w e =
           let ls : List JobLine = told.line ∷ line.Refused ∷ [] in
           let s : Shared = released c (shown queue_of p) job (shown queue_of end).free in
           let x : chosen_to ls s None =
           chosen ls s None (w.2 ls s None (answer.refused (shown queue_of end).free e refl refl r.conserves refl))
-          (by_command_line c.refuses true told.line kind w.1 w.0 e) in
+          (by_command_line c.refuses true told.line kind w.1 w.0 e)
+          (path_here ∙ (λ i. explains_here (w.0 i ∷ [])) ∙ w.3 ∙ (λ i. explains_here (sym w.0 i ∷ line.Refused ∷ []))) in
           record {
             middle = s;
             goes = x.0;
             reopened = r.reopened;
             chosen = x.1;
+            explained = x.2;
             few = two_told told.line (length walk.course.own.dds);
             once = tt;
             good = good_again queue_of c job p end back g;
@@ -269,6 +300,7 @@ module _ {Q : Type 0} (queue_of : Q → RecordQueue) (profile : Profile) (p : Pa
       λ ls s runs may. answer.risk fault step dd path
           (subst (λ x. IsEarliest x plan (seen job (world_store_of p.store)) c.most_views fault step dd path) fixed_here earliest).meets
           (subst (λ l. MayFail c (shown queue_of p) (shown_running c its) plan here l ls s runs) e may),
+      refused_alike here plan (seen job (world_store_of p.store)) c.explains fault step dd path,
     )
 
     warns_many : (step : ℕ) → IsFirstWithMore by_room plan (seen job (world_store_of p.store)) c.most_views step → told.line ≡ line.TooMany step → Warns (line.TooMany step)
@@ -278,6 +310,7 @@ module _ {Q : Type 0} (queue_of : Q → RecordQueue) (profile : Profile) (p : Pa
           e,
           (λ x. refl),
           λ ls s runs may. answer.too_many step m.from_one m.to_last m.more (subst (λ l. MayFail c (shown queue_of p) (shown_running c its) plan here l ls s runs) e may),
+          many_alike here plan (seen job (world_store_of p.store)) c.explains step,
         )
 
     abbrev IsToldSo : Type 0
@@ -314,7 +347,7 @@ module _ {Q : Type 0} (queue_of : Q → RecordQueue) (profile : Profile) (p : Pa
 
     module _ (end : Parts Q) (back : GivesBack queue_of job new end) (r : IsReleased queue_of c job new end) where
       turned_by : (o : Option Admission) (t : IsToldSo) → LeavesSo t o → is_turned_away profile.refuses o ≡ true →
-          GivesBack queue_of job p end → IsReleased queue_of c job p end → Went queue_of c p its end (Over (Some told.line) line.Refused)
+          GivesBack queue_of job p end → IsReleased queue_of c job p end → Went queue_of c p its end (Over (Some it_told) line.Refused)
       turned_by o (assured made free room e) l gone b s = absurd (never_away profile.refuses (ap (is_turned_away profile.refuses) (sym l.0) ∙ gone))
       turned_by o (no_space made serial free room there e) l gone b s = absurd (clash (ap (is_turned_away profile.refuses) (sym l.0) ∙ gone))
       turned_by o (risk fault step dd path earliest e) l gone b s =
@@ -323,7 +356,7 @@ module _ {Q : Type 0} (queue_of : Q → RecordQueue) (profile : Profile) (p : Pa
       turned_by o (too_many step more e) l gone b s =
           turned_away end b s (line.TooMany step) (warns_many step more e) (away profile.refuses (ap (is_turned_away profile.refuses) (sym l.0) ∙ gone))
 
-      pub is_over : is_turned_away profile.refuses told.admission ≡ true → Went queue_of c p its end (Over (Some told.line) line.Refused)
+      pub is_over : is_turned_away profile.refuses told.admission ≡ true → Went queue_of c p its end (Over (Some it_told) line.Refused)
       is_over gone =
           let same : store ≡ p.store = unchanged told.admission a.told a.leaves gone in
           turned_by told.admission a.told a.leaves gone

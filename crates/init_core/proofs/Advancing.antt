@@ -35,8 +35,8 @@ use Rattle.turn_core.specs.declared.walk.Turned.{Turned}
 use Rattle.turn_core.specs.declared.walk.Walk.{Walk}
 use Rattle.disp_core.specs.Grants.{made_of}
 use Rattle.grant_laws.specs.Granted.{GrantedTurns, GrantsAll, with_primaries}
-use Rattle.admission_core.specs.declared.admission.Admission.{Admission}
-use Rattle.admit_core.proofs.Wanted.{releasing_leaves, releasing_leaves_none}
+use Rattle.admit_core.specs.declared.admission.Admission.{Admission}
+use Rattle.job_core.proofs.Wanted.{releasing_leaves, releasing_leaves_none}
 use Rattle.machine_core.specs.declared.parts.Parts.{Parts}
 use Rattle.machine_core.specs.Shown.{shown}
 use Rattle.init_core.specs.declared.running.Profile.{Profile}
@@ -150,6 +150,7 @@ module _ {Q : Type 0} (queue_of : Q → RecordQueue) (profile : Profile) (p : Pa
           goes = goes.0;
           reopened = unopened c.layout (shown queue_of p);
           chosen = goes.1;
+          explained = refl;
           few = none_told (drop from walk.course.lines) (length walk.course.own.dds)
               (lines_behind walk.course.lines walk.course.lines [] (sym (nothing_behind walk.course.lines)));
           once = tt;
@@ -195,6 +196,7 @@ module _ {Q : Type 0} (queue_of : Q → RecordQueue) (profile : Profile) (p : Pa
                 })
                 (unopened c.layout told_shared);
             chosen = goes.1;
+            explained = refl;
             few = one_more
                 (subst (λ (ls : List JobLine). length ls ≤ suc (length walk.course.own.dds))
                 (sym (lines_behind walk.course.lines after.course.lines t.acts.its_turn.done.lines t.acts.lines))
@@ -241,6 +243,7 @@ module _ {Q : Type 0} (queue_of : Q → RecordQueue) (profile : Profile) (p : Pa
             goes = here.0;
             reopened = subst (λ s. Reopened c.layout s (shown queue_of new)) released_there (e.released c refl).reopened;
             chosen = subst (IsChosenByVolumes c p.store p.date) (sym here.1) tt;
+            explained = refl;
             few = one_told (line.End ∷ []) line.End (length walk.course.own.dds) refl;
             once = tt;
             good = good_again queue_of c job mid new e.back back_good;

@@ -13,7 +13,7 @@ use Rattle.world_meaning.specs.Holdings.{Holds, blocked, broken, held as holding
 use Rattle.world_meaning.specs.Worlds as world
 use Rattle.world_meaning.specs.Worlds.{Config, Shared}
 use Rattle.turn_core.specs.declared.walk.Walk.{Walk}
-use Rattle.admit_core.proofs.Wanted.{releasing_leaves, releasing_leaves_none}
+use Rattle.job_core.proofs.Wanted.{releasing_leaves, releasing_leaves_none}
 use Rattle.machine_core.specs.declared.parts.Parts.{Parts}
 use Rattle.machine_core.specs.Released.{GivesBack, IsReleased}
 use Rattle.machine_core.specs.Shown.{shown}
@@ -55,6 +55,7 @@ module _ {Q : Type 0} (queue_of : Q → RecordQueue) (profile : Profile) (old ne
     goes = broken n (shown queue_of new).free fault refl refl r.conserves refl;
     reopened = r.reopened;
     chosen = tt;
+    explained = refl;
     few = one_told (line.Broken n ∷ []) (line.Broken n) (length walk.course.own.dds) refl;
     once = tt;
     good = good_again queue_of c job old new b g;
@@ -74,6 +75,7 @@ module _ {Q : Type 0} (queue_of : Q → RecordQueue) (profile : Profile) (old ne
         (holds_for (shown queue_of old) w.middle job walk.course.lines (world.Wanting plan) (world.Selected first) plan _ _ w.goes);
     reopened = w.reopened;
     chosen = tt;
+    explained = w.explained;
     few = w.few;
     once = tt;
     good = w.good;

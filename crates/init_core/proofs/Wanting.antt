@@ -15,7 +15,7 @@ use Rattle.world_meaning.specs.Worlds as world
 use Rattle.world_meaning.specs.Worlds.{Config, Shared, going_on}
 use Rattle.world_meaning.proofs.Following.{unopened}
 use Rattle.turn_core.specs.declared.walk.Walk.{Walk}
-use Rattle.admit_core.proofs.Wanted.{holding_leaves}
+use Rattle.job_core.proofs.Wanted.{holding_leaves}
 use Rattle.machine_core.specs.declared.parts.Parts.{Parts}
 use Rattle.machine_core.specs.Shown.{shown}
 use Rattle.machine_core.proofs.Unnamed.{none_given_free}
@@ -104,6 +104,7 @@ module _ {Q : Type 0} (queue_of : Q → RecordQueue) (c : Config) (p : Parts Q) 
         (same_listing _ w.told (world.Named plan));
     reopened = unopened c.layout (shown queue_of new);
     chosen = tt;
+    explained = refl;
     few = one_told told _ (length walk.course.own.dds) (lines_behind walk.course.lines lines _ w.told);
     once = tt;
     good = still_good queue_of c p names g;
@@ -122,6 +123,7 @@ module _ {Q : Type 0} (queue_of : Q → RecordQueue) (c : Config) (p : Parts Q) 
         (same_listing _ w.told (world.Wanting plan));
     reopened = unopened c.layout (shown queue_of new);
     chosen = tt;
+    explained = refl;
     few = one_told told _ (length walk.course.own.dds) (lines_behind walk.course.lines lines _ w.told);
     once = tt;
     good = still_good queue_of c p names g;

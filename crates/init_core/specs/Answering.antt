@@ -2,15 +2,15 @@
 use Rattle.std.specs.Prelude.{◌≡◌, ℕ, Bool, false, not, ◌&&◌, Option, Some, None}
 use Rattle.jcl_plan.specs.declared.plan.JobPlan.{JobPlan}
 use Rattle.turn_core.specs.declared.walk.Walk.{Walk}
-use Rattle.admission_core.specs.declared.admission.Admission.{Admission}
-use Rattle.admission_core.specs.declared.admit.Terms.{Terms}
+use Rattle.admit_core.specs.declared.admission.Admission.{Admission}
+use Rattle.admit_core.specs.declared.admit.Terms.{Terms}
 use Rattle.init_core.specs.declared.running.Profile.{Profile}
 use Rattle.init_core.specs.declared.running.Stage.{Stage}
 use Rattle.init_core.specs.declared.running.Stage.TheVariants.{Admitted, Named}
 use Rattle.init_core.specs.Naming.{begun}
 
 abbrev pub terms_of : Profile → Terms
-terms_of p = record { units = p.units; programs = p.programs; most_views = p.most_views }
+terms_of p = record { units = p.units; programs = p.programs; most_views = p.most_views; explains = p.explains }
 
 -- a job that is admitted with checks is not run where such jobs are refused
 abbrev pub is_turned_away : Bool → Option Admission → Bool

@@ -16,7 +16,7 @@ use Rattle.init_core.specs.declared.running.Running.{Running}
 use Rattle.init_core.specs.declared.running.Stage.{Stage}
 use Rattle.init_core.specs.declared.running.Stage.TheVariants.{Named}
 use Rattle.init_core.specs.Choosing.{IsChosenByVolumes}
-use Rattle.init_core.specs.Running.{IsGood, IsReady, lines_told, runs_after, shown_running}
+use Rattle.init_core.specs.Running.{IsGood, IsReady, lines_told, path_told, runs_after, shown_running}
 
 -- the job that goes on is at its place, and one that is over holds no name
 pub record IsOn (c : Config) (holds : List Hold) (job : ℕ) (r : Running) : Type 0 where
@@ -37,8 +37,8 @@ pub record LeavesRest {Q : Type 0} (queue_of : Q → RecordQueue) (job : ℕ) (o
   pub waiting : (queue_of new.queue).waiting ≡ (queue_of old.queue).waiting
   pub others : (other : ℕ) → other ≢ job → HoldsNone old.names other → HoldsNone new.names other
 
--- A case of the table, but for what is open in records; what the case leaves open is as the volumes decide it; the lines are few; and what the next
--- event goes by holds again.
+-- A case of the table, but for what is open in records; what the case leaves open is as the volumes decide it; a risk is explained as the case says; the
+-- lines are few; and what the next event goes by holds again.
 pub record Went {Q : Type 0} (queue_of : Q → RecordQueue) (c : Config) (old : Parts Q) (r : Running) (new : Parts Q) (came : Progress) : Type 0 where
   pub middle : Shared
   pub goes : world.GoesOn c (shown queue_of old) (shown_running c r) (shown_running c r).stage (lines_told came) middle
@@ -46,6 +46,8 @@ pub record Went {Q : Type 0} (queue_of : Q → RecordQueue) (c : Config) (old : 
   pub reopened : Reopened c.layout middle (shown queue_of new)
   pub chosen : IsChosenByVolumes c old.store old.date (choice_of_going c (shown queue_of old) (shown_running c r) (shown_running c r).stage (lines_told came) middle
       (option_map (shown_running c) (runs_after came)) goes)
+  pub explained : path_told came ≡ world.explained_by c (shown queue_of old) (shown_running c r) (shown_running c r).stage (lines_told came) middle
+      (option_map (shown_running c) (runs_after came)) goes
   pub few : length (lines_told came) ≤ suc (suc (length r.walk.course.own.dds))
   pub once : IsToldOnce r.stage came
   pub good : IsGood queue_of c new

@@ -13,7 +13,7 @@ use Rattle.shared_core.specs.Shown.{world_store_of}
 use Rattle.place_core.specs.Placings.{NothingKeptFor}
 use Rattle.turn_core.specs.Standing.{count_at, undone}
 use Rattle.turn_core.specs.declared.walk.Walk.{Walk}
-use Rattle.admission_core.specs.declared.admission.Admission.{Admission}
+use Rattle.admit_core.specs.declared.admission.Admission.{Admission}
 use Rattle.machine_core.specs.Shown.{shown}
 use Rattle.machine_core.specs.declared.parts.Parts.{Parts}
 use Rattle.init_core.specs.Running.{shown_admission}

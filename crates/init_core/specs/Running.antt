@@ -16,8 +16,8 @@ use Rattle.world_meaning.specs.Worlds.{Config}
 use Rattle.turn_core.specs.Standing.{Stands, count_at}
 use Rattle.turn_core.specs.declared.walk.Walk.{Walk}
 use Rattle.place_core.specs.Placings.{serials_of}
-use Rattle.admission_core.specs.Admitted.{fixed_for}
-use Rattle.admission_core.specs.declared.admission.Admission.{Admission}
+use Rattle.admit_core.specs.Admitted.{fixed_for}
+use Rattle.admit_core.specs.declared.admission.Admission.{Admission}
 use Rattle.machine_core.specs.declared.parts.Parts.{Parts}
 use Rattle.init_core.specs.declared.running.Profile.{Profile}
 use Rattle.init_core.specs.declared.running.Progress.{Progress}
@@ -25,6 +25,7 @@ use Rattle.init_core.specs.declared.running.Progress.TheVariants.{Answered, Goes
 use Rattle.init_core.specs.declared.running.Running.{Running}
 use Rattle.init_core.specs.declared.running.Stage.{Stage}
 use Rattle.init_core.specs.declared.running.Stage.TheVariants.{Admitted, Named, Selected, Wanting}
+use Rattle.init_core.specs.declared.running.Told.{Told}
 
 -- the configuration, with the layout of the queue's records
 abbrev pub config_of : Profile → Layout → Config
@@ -35,6 +36,7 @@ config_of p layout = record {
   layout = layout;
   refuses = p.refuses;
   most_views = p.most_views;
+  explains = p.explains;
 }
 
 abbrev pub shown_admission : Config → JobPlan → Admission → world.Admission
@@ -52,17 +54,27 @@ shown_running c r = record { job = r.job; listing = r.walk.course.lines; stage =
 -- what a turn left the job with, and the lines that it wrote
 abbrev pub runs_after : Progress → Option Running
 runs_after (GoesOn r from) = Some r
-runs_after (Answered r line) = Some r
+runs_after (Answered r told) = Some r
 runs_after (Over before last) = None
 
-abbrev pub told_before : Option JobLine → List JobLine
+abbrev pub told_before : Option Told → List JobLine
 told_before None = []
-told_before (Some line) = line ∷ []
+told_before (Some told) = told.line ∷ []
 
 abbrev pub lines_told : Progress → List JobLine
 lines_told (GoesOn r from) = drop from r.walk.course.lines
-lines_told (Answered r line) = line ∷ []
+lines_told (Answered r told) = told.line ∷ []
 lines_told (Over before last) = told_before before ++ last ∷ []
+
+-- and those that explain the first of them
+abbrev pub path_before : Option Told → List JobLine
+path_before None = []
+path_before (Some told) = told.path
+
+abbrev pub path_told : Progress → List JobLine
+path_told (GoesOn r from) = []
+path_told (Answered r told) = told.path
+path_told (Over before last) = path_before before
 
 -- the set that a DD took, if it took one, is on a configured volume
 abbrev pub IsTakenOn : List (List ℕ) → Option TakenSet → Type 0

@@ -13,8 +13,8 @@ use Rattle.shared_core.specs.Shown.{world_store_of}
 use Rattle.shared_core.specs.Tracks.{ConservesTracks, kept_shown}
 use Rattle.shared_core.specs.declared.store.SharedStore.{SharedStore}
 use Rattle.place_core.specs.Placings.{serials_of}
-use Rattle.admission_core.specs.Admitted.{fixed_for}
-use Rattle.admission_core.specs.declared.admission.Admission.{Admission}
+use Rattle.admit_core.specs.Admitted.{fixed_for}
+use Rattle.admit_core.specs.declared.admission.Admission.{Admission}
 use Rattle.turn_core.specs.Performing.{StoreAnswers}
 use Rattle.turn_core.specs.Turning.{Around}
 use Rattle.machine_core.specs.declared.parts.Parts.{Parts}

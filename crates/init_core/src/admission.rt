@@ -11,9 +11,9 @@ ghost use Rattle.init_core.specs.Providing.{IsProvided};
 ghost use Rattle.init_core.specs.Running.{IsGood, config_of};
 ghost use Rattle.init_core.specs.declared.running.Stage.TheVariants as stage;
 
-use crate::running::{Profile, Progress, Running, Stage};
-use admission_core::admission::{Admission, Answer};
-use admission_core::admit::{Terms, admit};
+use crate::running::{Profile, Progress, Running, Stage, Told};
+use admit_core::admission::{Admission, Answer};
+use admit_core::admit::{Terms, admit};
 use cb_queue::store::RecordStore;
 use disp_core::course::Course;
 use enq_core::table::Held;
@@ -31,6 +31,7 @@ fn terms<'a>(profile: &Profile<'a>) -> Terms<'a>
         units: profile.units,
         programs: profile.programs,
         most_views: profile.most_views,
+        explains: profile.explains,
     }
 }
 
@@ -115,17 +116,24 @@ pub(crate) fn admit_job<Q: RecordStore>(
         date,
         &mut walk.course.lines,
     ) {
-        Ok(Answer { line, admission }) => {
+        Ok(
+            Answer {
+                line,
+                path,
+                admission,
+            },
+        ) => {
+            let told = Told { line, path };
             if is_turned_away(profile.refuses, &admission) {
                 release(parts, job, held);
                 Ok(Progress::Over {
-                    before: Some(line),
+                    before: Some(told),
                     last: JobLine::Refused,
                 })
             } else {
                 Ok(Progress::Answered {
                     job: behind_answer(alloc, job, walk, plan, held, admission),
-                    line,
+                    told,
                 })
             }
         }

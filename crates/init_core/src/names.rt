@@ -9,11 +9,11 @@ ghost use Rattle.init_core.specs.Running.{IsGood};
 ghost use Rattle.init_core.specs.declared.running.Stage.TheVariants as stage;
 
 use crate::running::{Progress, Running, Stage};
-use admit_core::laws::wants_are_in_order;
 use cb_queue::store::RecordStore;
 use enq_core::table::{EnqTable, Held, HoldFault, Want};
 use jcl_plan::entry::JobLine;
 use jcl_plan::plan::JobPlan;
+use job_core::laws::wants_are_in_order;
 use machine_core::parts::Parts;
 use plain::listed::Listed;
 use std::alloc::AllocError;

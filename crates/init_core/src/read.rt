@@ -9,12 +9,12 @@ ghost use Rattle.init_core.specs.declared.running.Stage.TheVariants as stage;
 
 use crate::names::want;
 use crate::running::{Profile, Progress, Running, Stage};
-use admit_core::read::{Read, read_job};
-use admit_core::wants::wants_of;
 use cb_queue::store::RecordStore;
 use enq_core::table::Want;
 use jcl_plan::entry::JobLine;
 use jcl_plan::plan::JobPlan;
+use job_core::read::{Read, read_job};
+use job_core::wants::wants_of;
 use machine_core::over::release_unnamed;
 use machine_core::parts::Parts;
 use plain::listed::Listed;

@@ -1,7 +1,7 @@
 //! A job at an initiator, and what is fixed for all jobs.
 ghost use Rattle.std.specs.Prelude.{◌≡◌, drop};
 
-use admission_core::admission::Admission;
+use admit_core::admission::Admission;
 use enq_core::table::{Held, Want};
 use jcl_plan::entry::JobLine;
 use jcl_plan::plan::JobPlan;
@@ -55,8 +55,8 @@ impl Running {
     }
 }
 
-/// What is fixed for all jobs: the serials of the volumes, the volumes of each unit name, the programs, whether jobs that may fail are refused, and the
-/// limit of views.
+/// What is fixed for all jobs: the serials of the volumes, the volumes of each unit name, the programs, whether jobs that may fail are refused, the
+/// limit of views, and whether a risk's path is shown.
 #[derive(Clone, Copy)]
 pub struct Profile<'c> {
     pub volumes: &'c [Serial],
@@ -64,23 +64,22 @@ pub struct Profile<'c> {
     pub programs: &'c ProgramLibrary,
     pub refuses: bool,
     pub most_views: usize,
+    pub explains: bool,
+}
+
+/// What a job was answered: its line, and the lines of the path that this tells, where they are asked for.
+#[derive(Drop)]
+pub struct Told {
+    pub line: JobLine,
+    pub path: Listed<JobLine>,
 }
 
 /// What a job's turn came to.
 pub enum Progress {
     /// The job goes on. It wrote the lines of its listing from this place on.
-    GoesOn {
-        job: Running,
-        from: usize,
-    },
-    /// The job was answered, with this line, and goes on.
-    Answered {
-        job: Running,
-        line: JobLine,
-    },
-    /// It is over, and these were its last lines: one, or two where it was answered so.
-    Over {
-        before: Option<JobLine>,
-        last: JobLine,
-    },
+    GoesOn { job: Running, from: usize },
+    /// The job was answered so, and goes on.
+    Answered { job: Running, told: Told },
+    /// It is over, with this last line, and what it was answered before in the same turn.
+    Over { before: Option<Told>, last: JobLine },
 }

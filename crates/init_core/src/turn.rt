@@ -7,7 +7,7 @@ ghost use Rattle.world_meaning.specs.Lenses.{seen};
 ghost use Rattle.shared_core.specs.Shown.{world_store_of};
 ghost use Rattle.disp_core.specs.Courses.{fixed_by};
 ghost use Rattle.disp_core.specs.Grants.{made_of};
-ghost use Rattle.admission_core.specs.Admitted.{fixed_for};
+ghost use Rattle.admit_core.specs.Admitted.{fixed_for};
 ghost use Rattle.turn_core.specs.Standing.{Stands, TellsJob};
 ghost use Rattle.turn_core.specs.Turning.{acts, made_in, operations_by};
 ghost use Rattle.init_core.specs.Going.{Went};
@@ -18,14 +18,14 @@ ghost use Rattle.init_core.specs.declared.running.Progress.TheVariants as progre
 ghost use Rattle.init_core.specs.declared.running.Stage.TheVariants as stage;
 
 use crate::running::{Profile, Progress, Running, Stage};
-use admission_core::admission::Admission;
-use admit_core::cancels::Cancels;
+use admit_core::admission::Admission;
 use cb_queue::store::RecordStore;
 use disp_core::course::Given;
 use enq_core::table::Held;
 use grant_laws::granted_turns;
 use jcl_plan::entry::JobLine;
 use jcl_plan::plan::JobPlan;
+use job_core::cancels::Cancels;
 use machine_core::over::release;
 use machine_core::parts::Parts;
 use prog_core::units::{Units, operations_are_apart};

@@ -25,7 +25,6 @@ line_text (line.WaitSpace serial) = codes "WAIT SPACE " ++ serial
 line_text (line.Assured tracks actions) = codes "ASSURED " ++ decimal tracks ++ codes " TRACKS " ++ decimal actions ++ codes " ACTIONS"
 line_text (line.Risk fault step dd path) = codes "RISK " ++ fault_text fault ++ codes " STEP " ++ decimal step ++ codes " DD " ++ decimal dd ++ codes " PATH " ++ path_text path
 line_text (line.TooMany step) = codes "TOOMANY STEP " ++ decimal step
-line_text line.Unchecked = codes "UNCHECKED"
 line_text line.Refused = codes "REFUSED"
 line_text line.Cancelled = codes "CANCELLED"
 line_text (line.Step step name procedure_step fate) = codes "STEP " ++ decimal step ++ codes " " ++ step_shown name procedure_step ++ codes " " ++ fate_text fate
@@ -53,6 +52,7 @@ written_text job (written.Record text) = behind_blank (trimmed text)
 
 abbrev pub entry_text : Entry → List ℕ
 entry_text (entry.Job job l) = job_line_text job l
+entry_text (entry.Path job l) = codes "-- PATH " ++ job_line_text job l
 entry_text (entry.Cancel job) = codes "-- CANCEL " ++ digits 4 job
 entry_text (entry.Writer class job w) = codes "-- WRITER " ++ class ∷ [] ++ codes " " ++ digits 4 job ++ written_text job w
 entry_text (entry.Refused cause) = codes "-- REFUSED " ++ cause_text cause

@@ -45,8 +45,6 @@ pub enum JobLine {
     },
     /// More views than the limit after this step.
     TooMany(usize),
-    /// It runs without an analysis.
-    Unchecked,
     /// Risky or too many, and such jobs are not run.
     Refused,
     /// Cancelled before admission.
@@ -123,6 +121,8 @@ pub enum Written {
 pub enum Entry {
     /// A job's line, by the job's number.
     Job(u16, JobLine),
+    /// A line of the path that the RISK line before it tells, by the job's number: the job would write it on the way to its fault.
+    Path(u16, JobLine),
     /// A cancel was taken.
     Cancel(u16),
     /// A writer of this class wrote a line of a job.

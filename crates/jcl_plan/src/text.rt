@@ -498,7 +498,6 @@ impl JobLine {
                 path,
             } => push_risk(out, *fault, *step, *dd, path.as_slice()),
             JobLine::TooMany(step) => push_text_and_number(out, b"TOOMANY STEP ", *step as u64),
-            JobLine::Unchecked => push(out, b"UNCHECKED"),
             JobLine::Refused => push(out, b"REFUSED"),
             JobLine::Cancelled => push(out, b"CANCELLED"),
             JobLine::Step {
@@ -623,6 +622,14 @@ fn push_date(out: &mut Draft, year: u16, day: u16) -> Result<(), AllocError>
     push_digits(out, 3, day)
 }
 
+fn push_explained(out: &mut Draft, job: u16, line: &JobLine) -> Result<(), AllocError>
+    ensures kept { out.new.kept ≡ out.old.kept }
+    ensures ok { OnOk result (out.new.begun ≡ out.old.begun ++ entry_text (entry.Path job line.now)) }
+{
+    push(out, b"-- PATH ")?;
+    push_job_line(out, job, line)
+}
+
 fn push_cancel(out: &mut Draft, job: u16) -> Result<(), AllocError>
     ensures kept { out.new.kept ≡ out.old.kept }
     ensures ok { OnOk result (out.new.begun ≡ out.old.begun ++ entry_text (entry.Cancel job)) }
@@ -645,6 +652,7 @@ fn push_entry(out: &mut Draft, entry: &Entry) -> Result<(), AllocError>
 {
     match entry {
         Entry::Job(job, line) => push_job_line(out, *job, line),
+        Entry::Path(job, line) => push_explained(out, *job, line),
         Entry::Cancel(job) => push_cancel(out, *job),
         Entry::Writer {
             class,

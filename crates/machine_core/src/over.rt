@@ -3,15 +3,15 @@ ghost use Rattle.std.specs.Prelude.{◌≡◌, ◌≢◌};
 ghost use Rattle.enq_core.specs.Holds.{HoldsNone};
 ghost use Rattle.world_meaning.specs.Holdings.{cancels_without};
 ghost use Rattle.world_meaning.specs.Worlds.{Config};
-ghost use Rattle.admit_core.specs.Releases.{Releases};
+ghost use Rattle.job_core.specs.Releases.{Releases};
 ghost use Rattle.place_core.specs.Keepings.{GivesBackAll};
 ghost use Rattle.shared_core.specs.Tracks.{ConservesTracks};
 ghost use Rattle.machine_core.specs.Released.{GivesBack, IsReleased};
 
 use crate::parts::Parts;
-use admit_core::records::release_records;
 use cb_queue::store::RecordStore;
 use enq_core::table::Held;
+use job_core::records::release_records;
 use place_core::keep::give_all_back_for;
 use shared_core::laws::tracks_are_conserved;
 use shared_core::store::SharedStore;

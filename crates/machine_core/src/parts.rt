@@ -1,8 +1,8 @@
 //! What all jobs change.
-use admit_core::cancels::Cancels;
 use cb_queue::store::RecordStore;
 use enq_core::table::EnqTable;
 use jcl_plan::day::Day;
+use job_core::cancels::Cancels;
 use prog_core::units::Units;
 use shared_core::store::SharedStore;
 use spool_core::spool::Spool;

@@ -31,10 +31,13 @@ examples whole first second = record {
   refuses = (refl, refl);
   views = (refl, refl);
   both = (refl, refl);
+  explains = (refl, refl);
   help = refl;
   version = refl;
   no_view = refl;
   too_many = refl;
   other_risk = refl;
   twice = refl;
+  explain_with_value = refl;
+  explain_twice = refl;
 }

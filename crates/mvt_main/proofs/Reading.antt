@@ -3,7 +3,8 @@ use Rattle.std.proofs.Common.{◌≡◌, ◌∙◌, ℕ, Bool, true, false, List
 use Rattle.std.specs.Prelude.{Result, Ok, Err, IsErrAnd, option_map, option_and_then, slice_get, find}
 use Rattle.std.specs.Str.{bytes_eq}
 use Rattle.std.specs.Borrow.{Bor}
-use Rattle.clap.specs.Words.{App, Row, Text, Kinds, HasKind, IsAmong, is_simple, is_simple_and_free, fault_of, first_of, first_value, found_of, kind_of, rows_of}
+use Rattle.clap.specs.Words.{App, Row, Text, Kinds, HasKind, IsAmong, is_simple, is_simple_and_free, fault_of, first_of, first_value, found_of}
+use Rattle.clap.specs.Words.{kind_of, rows_of}
 use Rattle.clap.specs.Kinds.{or_else}
 use Rattle.clap.specs.Facts.{Entry}
 use Rattle.clap.proofs.OnLiterals.{clap_on_literals}
@@ -14,7 +15,7 @@ use Rattle.clap.specs.declared.error.kind.ErrorKind.TheVariants as kind
 use Rattle.clap.specs.declared.parser.matches.ArgMatches.{ArgMatches}
 use Rattle.session_core.specs.declared.Options.{Options}
 use Rattle.session_core.specs.declared.RiskChoice.{RiskChoice}
-use Rattle.mvt_main.specs.CommandLines.{IsProgram, IsRead, options_in, options_of, program_with, risk_in, views_in}
+use Rattle.mvt_main.specs.CommandLines.{IsProgram, IsRead, explains_in, options_in, options_of, program_with, risk_in, views_in}
 
 first_text : (xs : List (Bor Text)) → slice_get (map (λ s. s.now) xs) 0 ≡ option_map (λ s. s.now) (slice_get xs 0)
 first_text [] = refl
@@ -81,12 +82,22 @@ module _ (m : ArgMatches) (rows : List Row) (rows_so : rows_of (found_of m) ≡ 
   value_in : (id : Text) → first_value (found_of m) id ≡ first_of id rows
   value_in id = value_of_row m id ∙ ap (first_of id) rows_so
 
-  pub options_read : (choice : RiskChoice) (views : ℕ) → choice ≡ risk_in (first_value (found_of m) (codes "risk"))
-      → Some views ≡ views_in (first_value (found_of m) (codes "views")) → options_in rows ≡ Some (record { risk = choice; views = views })
-  options_read choice views chosen viewed =
-      ap (option_map (λ n. record { risk = risk_in (first_of (codes "risk") rows); views = n })) (sym (viewed ∙ ap views_in (value_in (codes "views"))))
-      ∙ ap (λ c. Some (record { risk = c; views = views })) (sym (chosen ∙ ap risk_in (value_in (codes "risk"))))
+  -- the options of the rows, with so many views
+  abbrev with_views : ℕ → Options
+  with_views n = record {
+    risk = risk_in (first_of (codes "risk") rows);
+    views = n;
+    explains = explains_in (first_of (codes "explain") rows);
+  }
+
+  pub options_read : (choice : RiskChoice) (views : ℕ) (explains : Bool) → choice ≡ risk_in (first_value (found_of m) (codes "risk"))
+      → Some views ≡ views_in (first_value (found_of m) (codes "views")) → explains ≡ explains_in (first_value (found_of m) (codes "explain"))
+      → options_in rows ≡ Some (record { risk = choice; views = views; explains = explains })
+  options_read choice views explains chosen viewed explained =
+      ap (option_map with_views) (sym (viewed ∙ ap views_in (value_in (codes "views"))))
+      ∙ ap (λ c. Some (record { risk = c; views = views; explains = explains_in (first_of (codes "explain") rows) }))
+      (sym (chosen ∙ ap risk_in (value_in (codes "risk"))))
+      ∙ ap (λ x. Some (record { risk = choice; views = views; explains = x })) (sym (explained ∙ ap explains_in (value_in (codes "explain"))))
 
   pub views_unread : None ≡ views_in (first_value (found_of m) (codes "views")) → options_in rows ≡ None
-  views_unread viewed =
-      ap (option_map (λ n. record { risk = risk_in (first_of (codes "risk") rows); views = n })) (sym (viewed ∙ ap views_in (value_in (codes "views"))))
+  views_unread viewed = ap (option_map with_views) (sym (viewed ∙ ap views_in (value_in (codes "views"))))

@@ -1,9 +1,10 @@
 -- What the words of a command line ask for.
-use Rattle.std.specs.Prelude.{◌≡◌, ℕ, List, [], ◌∷◌, codes, is_some, if◌then◌else◌, map, Option, Some, None, IfOk, Result}
+use Rattle.std.specs.Prelude.{◌≡◌, ℕ, Bool, false, List, [], ◌∷◌, codes, is_some, if◌then◌else◌, map, Option, Some, None, IfOk, Result}
 use Rattle.std.specs.Prelude.{option_map}
 use Rattle.std.specs.Borrow.{Bor}
 use Rattle.clap.specs.Words.{App, FailsBy, Kinds, Row, Rule, Text, fault_of, first_of, matches_of, new_app, new_rule, with_rule}
 use Rattle.clap.specs.Kinds.{or_else}
+use Rattle.clap.specs.declared.builder.action.ArgAction.TheVariants as action
 use Rattle.clap.specs.declared.builder.value_parser.ValueParser.TheVariants as parser
 use Rattle.clap.specs.declared.error.Error.{Error}
 use Rattle.clap.specs.declared.error.kind.ErrorKind.{ErrorKind}
@@ -21,7 +22,7 @@ Choices = Bor (List (Bor Text))
 abbrev pub AreChoices : Choices → Type 0
 AreChoices choices = map (λ word. word.now) choices.now ≡ codes "run" ∷ codes "refuse" ∷ []
 
--- the options of the program: each takes one value, and has one where it is not used
+-- the options of the program that take one value, and have one where they are not used
 abbrev pub risk_option : Choices → Rule
 risk_option choices = record (new_rule (codes "risk")) {
   long = Some (codes "risk");
@@ -37,8 +38,15 @@ views_option = record (new_rule (codes "views")) {
   defaults = codes "1024" ∷ [];
 }
 
+-- the option that takes no value: a flag
+abbrev pub explain_option : Rule
+explain_option = record (new_rule (codes "explain")) {
+  long = Some (codes "explain");
+  action = Some action.SetTrue;
+}
+
 abbrev pub program_with : Choices → App
-program_with choices = with_rule (with_rule (new_app (codes "mvt")) (risk_option choices)) views_option
+program_with choices = with_rule (with_rule (with_rule (new_app (codes "mvt")) (risk_option choices)) views_option) explain_option
 
 -- a command line is the program's
 pub record IsProgram (app : App) : Type 0 where
@@ -56,9 +64,18 @@ abbrev pub views_in : Option Text → Option ℕ
 views_in None = Some 1024
 views_in (Some text) = number_within 1 1024 text
 
+-- the path to the fault of each risk is shown where the flag is used: its value is "true" then, and else "false"
+abbrev pub explains_in : Option Text → Bool
+explains_in None = false
+explains_in (Some text) = bytes_eq text (codes "true")
+
 -- the options that were found, where the views are such a number
 abbrev pub options_in : List Row → Option Options
-options_in rows = option_map (λ n. record { risk = risk_in (first_of (codes "risk") rows); views = n }) (views_in (first_of (codes "views") rows))
+options_in rows = option_map (λ n. record {
+  risk = risk_in (first_of (codes "risk") rows);
+  views = n;
+  explains = explains_in (first_of (codes "explain") rows);
+}) (views_in (first_of (codes "views") rows))
 
 -- the options that the words of a command line ask for, the program's own name first
 abbrev pub options_of : App → List Text → Option Options

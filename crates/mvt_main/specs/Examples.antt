@@ -1,5 +1,5 @@
 -- Command lines, and what they ask for.
-use Rattle.std.specs.Prelude.{◌≡◌, List, [], ◌∷◌, codes, Some}
+use Rattle.std.specs.Prelude.{◌≡◌, false, true, List, [], ◌∷◌, codes, Some}
 use Rattle.clap.specs.Words.{App, Text}
 use Rattle.clap.specs.declared.error.kind.ErrorKind.{ErrorKind}
 use Rattle.clap.specs.declared.error.kind.ErrorKind.TheVariants as kind
@@ -16,13 +16,16 @@ abbrev pub IsRefused : App → List Text → ErrorKind → Type 0
 IsRefused program words kind = kinds_of program (codes "mvt" ∷ words) ≡ kind ∷ []
 
 pub record AreExamples (program : App) : Type 0 where
-  pub nothing : AsksFor program [] (record { risk = risk.Run; views = 1024 })
-  pub refuses : AsksFor program (codes "--risk" ∷ codes "refuse" ∷ []) (record { risk = risk.Refuse; views = 1024 })
-  pub views : AsksFor program (codes "--views" ∷ codes "17" ∷ []) (record { risk = risk.Run; views = 17 })
-  pub both : AsksFor program (codes "--views=1" ∷ codes "--risk=run" ∷ []) (record { risk = risk.Run; views = 1 })
+  pub nothing : AsksFor program [] (record { risk = risk.Run; views = 1024; explains = false })
+  pub refuses : AsksFor program (codes "--risk" ∷ codes "refuse" ∷ []) (record { risk = risk.Refuse; views = 1024; explains = false })
+  pub views : AsksFor program (codes "--views" ∷ codes "17" ∷ []) (record { risk = risk.Run; views = 17; explains = false })
+  pub both : AsksFor program (codes "--views=1" ∷ codes "--risk=run" ∷ []) (record { risk = risk.Run; views = 1; explains = false })
+  pub explains : AsksFor program (codes "--explain" ∷ []) (record { risk = risk.Run; views = 1024; explains = true })
   pub help : IsRefused program (codes "--help" ∷ []) kind.DisplayHelp
   pub version : IsRefused program (codes "--version" ∷ []) kind.UnknownArgument
   pub no_view : IsRefused program (codes "--views" ∷ codes "0" ∷ []) kind.ValueValidation
   pub too_many : IsRefused program (codes "--views" ∷ codes "1025" ∷ []) kind.ValueValidation
   pub other_risk : IsRefused program (codes "--risk" ∷ codes "stop" ∷ []) kind.InvalidValue
   pub twice : IsRefused program (codes "--risk=run" ∷ codes "--risk=run" ∷ []) kind.ArgumentConflict
+  pub explain_with_value : IsRefused program (codes "--explain=yes" ∷ []) kind.TooManyValues
+  pub explain_twice : IsRefused program (codes "--explain" ∷ codes "--explain" ∷ []) kind.ArgumentConflict

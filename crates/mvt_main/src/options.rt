@@ -1,11 +1,11 @@
 //! The command line.
 ghost use Rattle.std.specs.Prelude.{◌≡◌, IfOk, codes, false, map};
 ghost use Rattle.clap.specs.Words.{app_of, first_value, found_of};
-ghost use Rattle.mvt_main.specs.CommandLines.{IsProgram, IsRead, misuse_status, risk_in, views_in};
+ghost use Rattle.mvt_main.specs.CommandLines.{IsProgram, IsRead, explains_in, misuse_status, risk_in, views_in};
 
 use crate::report::{MISUSE, WANT_OF_MEMORY};
 use clap::error::ErrorKind;
-use clap::{Arg, ArgMatches, Command, Error};
+use clap::{Arg, ArgAction, ArgMatches, Command, Error};
 use jname_core::decimal::number_within;
 use session_core::{Options, RiskChoice};
 use std::alloc::{AllocError, Global};
@@ -31,11 +31,16 @@ fn command<'a>(alloc: Global) -> Result<Command<'a>, AllocError>
         .value_name("N")
         .default_value("1024")
         .help("The most views of the verifier, 1 to 1024");
+    let explain = Arg::new(alloc, "explain")
+        .long("explain")
+        .action(ArgAction::SetTrue)
+        .help("Show the path to the fault of each risk");
     let command = Command::new(alloc, "mvt")
         .about("Reads a session on standard input and writes its listing on standard output")
         .override_usage("mvt [OPTIONS] <SESSION")
         .arg(risk)?
-        .arg(views)?;
+        .arg(views)?
+        .arg(explain)?;
     Ok(command)
 }
 
@@ -55,6 +60,16 @@ fn views_of(matches: &ArgMatches) -> Option<u16>
     match matches.get_str("views") {
         None => Some(MOST_VIEWS),
         Some(text) => number_within(1, MOST_VIEWS, text.as_bytes()),
+    }
+}
+
+/// Whether the path to the fault of each risk is shown. A flag that is used has the value `true`.
+fn explains_of(matches: &ArgMatches) -> bool
+    ensures { result ≡ explains_in (first_value (found_of matches.now) (codes "explain")) }
+{
+    match matches.get_str("explain") {
+        None => false,
+        Some(text) => text == "true",
     }
 }
 
@@ -79,6 +94,7 @@ pub(crate) fn read_options<'a, S: AsStr>(alloc: Global, words: &'a [S]) -> Resul
         Some(views) => Ok(Options {
             risk: risk_of(&matches),
             views,
+            explains: explains_of(&matches),
         }),
         None => {
             let message =

@@ -71,7 +71,31 @@ fn options_are_read(rt: HostRuntime) -> Result<(), Fail> {
         let wanted = Options {
             risk: *risk,
             views: *views,
+            explains: false,
         };
+        match read_options(rt.alloc(), *words) {
+            Ok(options) => assert!(rt; options == wanted),
+            Err(_) => assert!(rt; false),
+        }
+    }
+    Ok(())
+}
+
+/// Command lines that ask for the paths of risks.
+const EXPLAINING: &[&[&str]] = &[
+    &["mvt", "--explain"],
+    &["mvt", "--explain", "--risk", "run"],
+    &["mvt", "--views=1024", "--explain"],
+];
+
+#[test]
+fn explain_is_read(rt: HostRuntime) -> Result<(), Fail> {
+    let wanted = Options {
+        risk: RiskChoice::Run,
+        views: 1024,
+        explains: true,
+    };
+    for words in EXPLAINING {
         match read_options(rt.alloc(), *words) {
             Ok(options) => assert!(rt; options == wanted),
             Err(_) => assert!(rt; false),
@@ -95,7 +119,13 @@ const NOT_TAKEN: &[(&[&str], ErrorKind)] = &[
     (&["mvt", "--views"], ErrorKind::InvalidValue),
     (&["mvt", "--risk", "stop"], ErrorKind::InvalidValue),
     (&["mvt", "--risk"], ErrorKind::InvalidValue),
-    (&["mvt", "--explain"], ErrorKind::UnknownArgument),
+    (&["mvt", "--explain=yes"], ErrorKind::TooManyValues),
+    (&["mvt", "--explain", "yes"], ErrorKind::UnknownArgument),
+    (
+        &["mvt", "--explain", "--explain"],
+        ErrorKind::ArgumentConflict,
+    ),
+    (&["mvt", "--verbose"], ErrorKind::UnknownArgument),
     (&["mvt", "session"], ErrorKind::UnknownArgument),
     (
         &["mvt", "--risk=run", "--risk=run"],

@@ -1,3 +1,4 @@
+pub mod Explained
 mod Certified
 mod Locating
 mod Marked

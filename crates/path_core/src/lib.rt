@@ -3,6 +3,7 @@
 
 pub mod analyse;
 pub mod check;
+pub mod explain;
 mod fates;
 mod marks;
 pub mod start;

@@ -7,7 +7,7 @@ use Rattle.proc_library.specs.declared.library.LibraryProcedure.{LibraryProcedur
 use Rattle.jcl_job.specs.Jobs.{job_of}
 use Rattle.jcl_meaning.specs.WellFormed.{IsWellFormedPlan}
 use Rattle.plan_laws.proofs.SoundDecks.{job_is_writable}
-use Rattle.run_laws.proofs.Reading.{plan_formed}
+use Rattle.law_core.proofs.Reading.{plan_formed}
 
 pub each_is_formed : (units : List (List ℕ)) (library : List LibraryProcedure) (lines : List (List ℕ)) (result : Result JobPlan ReadError) →
     Gives result (job_of units library lines) → IfOk result IsWellFormedPlan

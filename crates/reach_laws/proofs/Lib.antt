@@ -1,4 +1,6 @@
 pub mod Before
+pub mod Deciding
+pub mod Ends
 pub mod Fates
 pub mod Faults
 pub mod Fewness

@@ -30,7 +30,7 @@ steps_alike : (step : ℕ) (o : Outcome) (later : List StepPlan) → AllByRecurs
 steps_alike step o [] = tt
 steps_alike step o (s ∷ later) = (meets_alike step o s.tests.items, steps_alike step o later)
 
-one_class : (step : ℕ) (job_tests : List Test) (later : List StepPlan) (o p : Outcome) → o ≡ p → IsOneClass step job_tests later o p
+pub one_class : (step : ℕ) (job_tests : List Test) (later : List StepPlan) (o p : Outcome) → o ≡ p → IsOneClass step job_tests later o p
 one_class step job_tests later o p e =
     subst (IsOneClass step job_tests later o) e (record { abend = refl; job = meets_alike step o job_tests; steps = steps_alike step o later })
 
@@ -50,7 +50,8 @@ joined_same plan date k count a b x y first second = record {
 -- One step more does the same, by what a step sees.
 step_sees : PartSees → StandsBefore → (fixed : Fixed) (plan : JobPlan) (store : Store) (k : ℕ) (os ps : List Outcome) → k < length plan.steps →
     fixed.job_tests ≡ plan.tests.items → Fits (names_of plan) fixed.meanings (path_agenda plan) nothing_own →
-    next_outcome (drop k os) ≡ next_outcome (drop k ps) → is_clean (ran_to fixed plan store (suc k) os) ≡ true →
+    IsOneClass (k + 1) plan.tests.items (drop (k + 1) plan.steps) (next_outcome (drop k os)) (next_outcome (drop k ps)) →
+    is_clean (ran_to fixed plan store (suc k) os) ≡ true →
     (is_clean (ran_to fixed plan store k os) ≡ true → DidTheSame plan fixed.date k (ran_to fixed plan store k os) (ran_to fixed plan store k ps)) →
     DidTheSame plan fixed.date (suc k) (ran_to fixed plan store (suc k) os) (ran_to fixed plan store (suc k) ps)
 step_sees sees stands fixed plan store k os ps h tests fits same clean before =
@@ -80,15 +81,23 @@ step_sees sees stands fixed plan store k os ps h tests fits same clean before =
         subst (λ n. DidTheSame plan fixed.date n (part_ran fixed plan store k os) (part_ran fixed plan store k ps)) (add-one k)
         (sees plan fixed k ahead.0 (ran_to fixed plan store k os).state (ran_to fixed plan store k ps).state (drop k os) (drop k ps) tests earlier.view
         (stands fixed plan store k os (omega arith) clean_before) (stands fixed plan store k ps (omega arith) clean_too)
-        (λ runs. one_class (k + 1) plan.tests.items (drop (k + 1) plan.steps) (next_outcome (drop k os)) (next_outcome (drop k ps)) same)
-        ahead.1)
+        (λ runs. same) ahead.1)
+
+-- along outcomes that nothing later tells apart
+pub path_sees_alike : PartSees → StandsBefore → (fixed : Fixed) (plan : JobPlan) (store : Store) (k : ℕ) (os ps : List Outcome) → k ≤ length plan.steps →
+    fixed.job_tests ≡ plan.tests.items → Fits (names_of plan) fixed.meanings (path_agenda plan) nothing_own →
+    ((n : ℕ) → n < k → IsOneClass (n + 1) plan.tests.items (drop (n + 1) plan.steps) (next_outcome (drop n os)) (next_outcome (drop n ps))) →
+    is_clean (ran_to fixed plan store k os) ≡ true → DidTheSame plan fixed.date k (ran_to fixed plan store k os) (ran_to fixed plan store k ps)
+unfolding run
+path_sees_alike sees stands fixed plan store zero os ps h tests fits same clean = record { fates = refl; faults = refl; made = refl; view = refl }
+path_sees_alike sees stands fixed plan store (suc k) os ps h tests fits same clean =
+    step_sees sees stands fixed plan store k os ps (omega arith) tests fits (same k (omega arith)) clean
+    (path_sees_alike sees stands fixed plan store k os ps (omega arith) tests fits (λ n below. same n (omega arith)))
 
 pub path_sees : PartSees → StandsBefore → (fixed : Fixed) (plan : JobPlan) (store : Store) (k : ℕ) (os ps : List Outcome) → k ≤ length plan.steps →
     fixed.job_tests ≡ plan.tests.items → Fits (names_of plan) fixed.meanings (path_agenda plan) nothing_own →
     ((n : ℕ) → n < k → next_outcome (drop n os) ≡ next_outcome (drop n ps)) → is_clean (ran_to fixed plan store k os) ≡ true →
     DidTheSame plan fixed.date k (ran_to fixed plan store k os) (ran_to fixed plan store k ps)
-unfolding run
-path_sees sees stands fixed plan store zero os ps h tests fits same clean = record { fates = refl; faults = refl; made = refl; view = refl }
-path_sees sees stands fixed plan store (suc k) os ps h tests fits same clean =
-    step_sees sees stands fixed plan store k os ps (omega arith) tests fits (same k (omega arith)) clean
-    (path_sees sees stands fixed plan store k os ps (omega arith) tests fits (λ n below. same n (omega arith)))
+path_sees sees stands fixed plan store k os ps h tests fits same clean =
+    path_sees_alike sees stands fixed plan store k os ps h tests fits
+    (λ n below. one_class (n + 1) plan.tests.items (drop (n + 1) plan.steps) (next_outcome (drop n os)) (next_outcome (drop n ps)) (same n below)) clean

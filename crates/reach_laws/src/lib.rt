@@ -2,6 +2,7 @@
 //! that does nothing, and its contract is the law.
 #![tactic(auto)]
 
+ghost use Rattle.reach_laws.specs.Deciding.{SafeOrMeets};
 ghost use Rattle.reach_laws.specs.OneAnswer.{IsOneAnswer};
 ghost use Rattle.reach_laws.specs.Paths.{AgendaHas, AreFew, FitsBefore, MadeByStep, MadeIsConfigured, MetWithin, NoneMadeAtEnd, PathBegins, PathEnds, PathGoesOn, PathSees, StandsBefore, TellsFates};
 
@@ -73,4 +74,9 @@ pub fn none_made_at_end()
 /// What is told of a job before it runs is the only answer.
 pub fn is_one_answer()
     ensures { IsOneAnswer }
+{}
+
+/// A job meets no fault, however its steps end, or on some path it meets one.
+pub fn safe_or_meets()
+    ensures { SafeOrMeets }
 {}

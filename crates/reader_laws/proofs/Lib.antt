@@ -26,3 +26,4 @@ mod Statements
 mod Stores
 mod TextLines
 mod Values
+mod Zaps

@@ -5,6 +5,7 @@ use Rattle.std.specs.Fmt.{digits}
 use Rattle.std.proofs.lemmas.List.Elements.{All-cons, All-nil}
 use Rattle.input_core.specs.declared.statement.ConfigStatement.TheVariants as config
 use Rattle.jcl_meaning.specs.declared.program.Request.TheVariants.{Get, Put, End}
+use Rattle.hex.specs.Hex.{encode_with}
 use Rattle.input_core.specs.declared.event.Event.TheVariants as event
 use Rattle.session_text.specs.declared.statement.Says.{Says}
 use Rattle.session_text.specs.declared.statement.Says.TheVariants as says
@@ -94,11 +95,17 @@ device_end = in_form (says.Events (event.DeviceEnd (codes "VOL001")) 1)
 abbrev cancel : Spelled
 cancel = in_form (says.Events (event.Cancel 12) 1)
 
+abbrev zap : Spelled
+zap = in_form (says.Events (event.Zap 4 8 (0 ∷ 7 ∷ [])) 1)
+
+abbrev zap_last : Spelled
+zap_last = wide (says.Events (event.Zap 4096 175 (171 ∷ [])) 1)
+
 abbrev display : Spelled
 display = in_form (says.Events event.Display 1)
 
 abbrev stores : List Spelled
-stores = used ∷ group ∷ set ∷ program ∷ device_end ∷ cancel ∷ display ∷ []
+stores = used ∷ group ∷ set ∷ program ∷ device_end ∷ cancel ∷ zap ∷ zap_last ∷ display ∷ []
 
 abbrev set_block : List ℕ → List ℕ
 set_block more = line (codes "./ SET PAY.TAX VOL001 1 CAT") (line text (line (codes "./ END") more))
@@ -109,8 +116,9 @@ program_block more =
 
 stores_spelled : text_of stores ≡
     line (codes "./ VOLUME VOL002 20 USED 0,10-12") (line (codes "./  GROUP  PAY.MASTER  03  SCRATCH  " ++ (13 ∷ []))
-    (set_block (program_block (line (codes "./ DEV VOL001") (line (codes "./ CANCEL 12") (line (codes "./ DISPLAY") []))))))
-unfolding digits
+    (set_block (program_block (line (codes "./ DEV VOL001") (line (codes "./ CANCEL 12") (line (codes "./ ZAP 4,8,0007")
+    (line (codes "./  ZAP  04096,0175,AB  " ++ (13 ∷ [])) (line (codes "./ DISPLAY") []))))))))
+unfolding digits encode_with
 stores_spelled = refl
 
 group_is_said : Sayable group
@@ -144,10 +152,12 @@ set_is_said = (
 
 they_are_said : All Sayable stores
 they_are_said =
-    All-cons Sayable used (group ∷ set ∷ program ∷ device_end ∷ cancel ∷ display ∷ []) (refl, omega arith, refl)
-    (All-cons Sayable group (set ∷ program ∷ device_end ∷ cancel ∷ display ∷ []) group_is_said
-    (All-cons Sayable set (program ∷ device_end ∷ cancel ∷ display ∷ []) set_is_said
-    (All-cons Sayable program (device_end ∷ cancel ∷ display ∷ []) (refl, refl, refl)
-    (All-cons Sayable device_end (cancel ∷ display ∷ []) (refl, refl)
-    (All-cons Sayable cancel (display ∷ []) (omega arith, omega arith, refl)
-    (All-cons Sayable display [] refl (All-nil Sayable)))))))
+    All-cons Sayable used (group ∷ set ∷ program ∷ device_end ∷ cancel ∷ zap ∷ zap_last ∷ display ∷ []) (refl, omega arith, refl)
+    (All-cons Sayable group (set ∷ program ∷ device_end ∷ cancel ∷ zap ∷ zap_last ∷ display ∷ []) group_is_said
+    (All-cons Sayable set (program ∷ device_end ∷ cancel ∷ zap ∷ zap_last ∷ display ∷ []) set_is_said
+    (All-cons Sayable program (device_end ∷ cancel ∷ zap ∷ zap_last ∷ display ∷ []) (refl, refl, refl)
+    (All-cons Sayable device_end (cancel ∷ zap ∷ zap_last ∷ display ∷ []) (refl, refl)
+    (All-cons Sayable cancel (zap ∷ zap_last ∷ display ∷ []) (omega arith, omega arith, refl)
+    (All-cons Sayable zap (zap_last ∷ display ∷ []) (omega arith, omega arith, omega arith, omega arith, refl, refl, refl)
+    (All-cons Sayable zap_last (display ∷ []) (omega arith, omega arith, omega arith, omega arith, refl, refl, refl)
+    (All-cons Sayable display [] refl (All-nil Sayable)))))))))

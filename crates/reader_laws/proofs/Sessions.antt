@@ -27,7 +27,7 @@ use Rattle.session_text.specs.Records.{filled}
 use Rattle.session_text.specs.Statements.{bad, behind_end, block_to, by_line, cancel_with, configures, device_end_with, group_with, initiator_with, is_end, is_end_by, program_with, says_of, set_with, statement_at, statements_from, statements_of, turns_with, unit_with, volume_with, writes_with}
 use Rattle.reader_laws.specs.Spelled.{component_characters, name_characters}
 use Rattle.reader_laws.specs.SpelledForms.{Form, is_card, is_of_line, line_with, number}
-use Rattle.reader_laws.specs.SpelledSessions.{IsConfigStatement, IsSaid, Spelled, block_of, config_block, config_fields, fields_of, lines_of, numbered, text_of, times, to_end}
+use Rattle.reader_laws.specs.SpelledSessions.{IsConfigStatement, IsSaid, Spelled, block_of, config_block, config_fields, fields_of, lines_of, numbered, text_of, times, to_end, zap_parts}
 use Rattle.reader_laws.specs.SpelledStores.{flag_field, request_line, used_fields}
 use Rattle.reader_laws.proofs.Fields.{is_false, position_is, spaced_are}
 use Rattle.reader_laws.proofs.Names.{name_is}
@@ -35,6 +35,7 @@ use Rattle.reader_laws.proofs.Decimals.{within_is}
 use Rattle.reader_laws.proofs.Said.{class_good, class_is, class_no_star, is_good_field, line_of_line, line_says, listed_is, name_good, no_bad_serial, number_good, number_no_star, serials_good, times_are, times_good, unit_is, word_good}
 use Rattle.reader_laws.proofs.Stores.{filled_records, flag_good, flag_is, kept_records, lines_are_cards, name_read, requests_are, serial_read, set_name_good, set_name_read, used_good, used_is}
 use Rattle.reader_laws.proofs.TextLines.{lines_are}
+use Rattle.reader_laws.proofs.Zaps.{zap_good, zap_read}
 
 three : (a b c : Bool) → a ≡ true → b ≡ true → c ≡ true → (a && (b && (c && true))) ≡ true
 three a b c h k l = λ i. h i && (k i && (l i && true))
@@ -84,6 +85,10 @@ fields_good form (says.Events (event.Write class) n) h =
 fields_good form (says.Events (event.DeviceEnd serial) n) h = two true (is_good_field serial) refl (word_good 6 component_characters serial refl h.0)
 fields_good form (says.Events (event.Cancel job) n) h =
     let k : job ≤ 9999 = h.1 in two true (is_good_field (number form job)) refl (number_good form job (omega arith))
+fields_good form (says.Events (event.Zap n offset bytes) m) h =
+    let most : n ≤ 4096 = h.1 in
+    let last : offset ≤ 175 = h.3 in
+    two true (is_good_field (join_with_byte 44 (zap_parts form n offset bytes))) refl (zap_good form n offset bytes (omega arith) (omega arith))
 fields_good form (says.Events event.Display n) h = refl
 fields_good form (says.Refused fault) h = absurd h
 
@@ -104,6 +109,7 @@ line_of (says.Events (event.Turn i) n) = LineSays.One (says.Events (event.Turn i
 line_of (says.Events (event.Write class) n) = LineSays.One (says.Events (event.Write class) n)
 line_of (says.Events (event.DeviceEnd serial) n) = LineSays.One (says.Events (event.DeviceEnd serial) n)
 line_of (says.Events (event.Cancel job) n) = LineSays.One (says.Events (event.Cancel job) n)
+line_of (says.Events (event.Zap n offset bytes) m) = LineSays.One (says.Events (event.Zap n offset bytes) m)
 line_of (says.Events event.Display n) = LineSays.One (says.Events event.Display n)
 line_of (says.Refused fault) = LineSays.One (says.Refused fault)
 
@@ -172,6 +178,10 @@ said form (says.Events (event.Cancel job) n) h =
     line_says form (codes "CANCEL") (number form job ∷ []) (fields_good form (says.Events (event.Cancel job) n) h)
     ∙ ap (λ (m : Option ℕ). LineSays.One (cancel_with m)) (within_is form.zeros 1 9999 job (omega arith) low high)
     ∙ λ i. LineSays.One (says.Events (event.Cancel job) (sym h.2 i))
+said form (says.Events (event.Zap n offset bytes) m) h =
+    line_says form (codes "ZAP") (join_with_byte 44 (zap_parts form n offset bytes) ∷ []) (fields_good form (says.Events (event.Zap n offset bytes) m) h)
+    ∙ ap (λ (s : Says). LineSays.One s) (zap_read form n offset bytes h.0 h.1 h.2 h.3 h.4 h.5)
+    ∙ λ i. LineSays.One (says.Events (event.Zap n offset bytes) (sym h.6 i))
 said form (says.Events event.Display n) h = line_says form (codes "DISPLAY") [] refl ∙ λ i. LineSays.One (says.Events event.Display (sym h i))
 said form (says.Refused fault) h = absurd h
 
@@ -284,6 +294,8 @@ statement_is n form (says.Events (event.DeviceEnd serial) m) rest h =
     let s : Says = says.Events (event.DeviceEnd serial) m in one_line n (line_with form (fields_of form s)) s rest (said form s h)
 statement_is n form (says.Events (event.Cancel job) m) rest h =
     let s : Says = says.Events (event.Cancel job) m in one_line n (line_with form (fields_of form s)) s rest (said form s h)
+statement_is n form (says.Events (event.Zap k offset bytes) m) rest h =
+    let s : Says = says.Events (event.Zap k offset bytes) m in one_line n (line_with form (fields_of form s)) s rest (said form s h)
 statement_is n form (says.Events event.Display m) rest h =
     let s : Says = says.Events event.Display m in one_line n (line_with form (fields_of form s)) s rest (said form s h)
 statement_is n form (says.Refused fault) rest h = absurd h
@@ -312,6 +324,7 @@ block_is form (says.Events (event.Turn i) n) h = refl
 block_is form (says.Events (event.Write class) n) h = refl
 block_is form (says.Events (event.DeviceEnd serial) n) h = refl
 block_is form (says.Events (event.Cancel job) n) h = refl
+block_is form (says.Events (event.Zap n offset bytes) m) h = refl
 block_is form (says.Events event.Display n) h = refl
 block_is form (says.Refused fault) h = absurd h
 

@@ -5,8 +5,8 @@ use Rattle.std.specs.Str.{bytes_eq}
 use Rattle.reader_laws.specs.Spelled.{component_characters, is_among, number_with_zeros}
 use Rattle.reader_laws.specs.WrittenCards.{blanks}
 
--- what a writer may choose: the blanks before a field, one or more; those at the line's end; zeros before a number; that `*1` is left out; that a
--- range of one track is written as that track; and that carriage returns stand before line feeds
+-- what a writer may choose: the blanks before a field, one or more; those at the line's end; zeros before a number; that `*1` is left out, that a
+-- range of one track is written as that track, and that hexadecimal digits are in lower case; and that carriage returns stand before line feeds
 pub record Form : Type 0 where
   pub more_blanks : ℕ
   pub blanks_behind : ℕ

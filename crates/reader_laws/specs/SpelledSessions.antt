@@ -1,12 +1,16 @@
 -- How a session is spelled. (This profile)
-use Rattle.std.specs.Prelude.{◌≡◌, ◌≤◌, ◌+◌, ℕ, ◌==◌, Bool, true, false, ◌&&◌, List, [], ◌∷◌, ◌++◌, map, length, codes, if◌then◌else◌}
+use Rattle.std.specs.Prelude.{◌≡◌, ◌≤◌, ◌+◌, ◌-◌, ℕ, ◌==◌, nat_lt, Bool, true, false, ◌&&◌, List, [], ◌∷◌, ◌++◌, map, length, codes, if◌then◌else◌}
 use Rattle.std.specs.List.{flat_map, join_with_byte, list_all}
+use Rattle.hex.specs.Hex.{encode_lower, encode_upper}
+use Rattle.cb_meaning.specs.declared.layout.TheConstants.{LAYOUT_1, RECORD_BYTES}
+use Rattle.input_core.specs.declared.event.TheConstants.{FIRST_OPEN}
 use Rattle.input_core.specs.declared.event.Event.TheVariants as event
 use Rattle.input_core.specs.declared.statement.ConfigStatement.{ConfigStatement}
 use Rattle.input_core.specs.declared.statement.ConfigStatement.TheVariants as config
 use Rattle.session_text.specs.declared.statement.Says.{Says}
 use Rattle.session_text.specs.declared.statement.Says.TheVariants as says
 use Rattle.session_text.specs.declared.statement.Statement.{Statement}
+use Rattle.session_text.specs.Statements.{stays_within}
 use Rattle.reader_laws.specs.Spelled.{is_among, is_name, name_characters}
 use Rattle.reader_laws.specs.SpelledForms.{Form, is_card, is_serial, is_word, line_with, number}
 use Rattle.reader_laws.specs.SpelledStores.{IsSetName, flag_field, is_ended, is_extent, is_record, is_request, request_line, used_fields}
@@ -14,6 +18,14 @@ use Rattle.reader_laws.specs.SpelledStores.{IsSetName, flag_field, is_ended, is_
 -- `x*n`, or `x` for `x*1`
 abbrev pub times : Form → List ℕ → ℕ → List ℕ
 times form text n = if form.short && n == 1 then text else text ++ (codes "*" ++ number form n)
+
+-- bytes by two hexadecimal digits each
+abbrev pub hex_digits : Form → List ℕ → List ℕ
+hex_digits form bytes = if form.short then encode_lower bytes else encode_upper bytes
+
+-- `record,offset,hex`
+abbrev pub zap_parts : Form → ℕ → ℕ → List ℕ → List (List ℕ)
+zap_parts form n offset bytes = number form n ∷ number form offset ∷ hex_digits form bytes ∷ []
 
 -- the fields of a statement's line, behind the first
 abbrev pub config_fields : Form → ConfigStatement → List (List ℕ)
@@ -32,6 +44,7 @@ fields_of form (says.Events (event.Turn i) n) = codes "TURN" ∷ times form (num
 fields_of form (says.Events (event.Write class) n) = codes "WRITE" ∷ times form (class ∷ []) n ∷ []
 fields_of form (says.Events (event.DeviceEnd serial) n) = codes "DEV" ∷ serial ∷ []
 fields_of form (says.Events (event.Cancel job) n) = codes "CANCEL" ∷ number form job ∷ []
+fields_of form (says.Events (event.Zap n offset bytes) m) = codes "ZAP" ∷ join_with_byte 44 (zap_parts form n offset bytes) ∷ []
 fields_of form (says.Events event.Display n) = codes "DISPLAY" ∷ []
 fields_of form (says.Refused fault) = []
 
@@ -55,6 +68,7 @@ block_of form (says.Events (event.Turn i) n) = []
 block_of form (says.Events (event.Write class) n) = []
 block_of form (says.Events (event.DeviceEnd serial) n) = []
 block_of form (says.Events (event.Cancel job) n) = []
+block_of form (says.Events (event.Zap n offset bytes) m) = []
 block_of form (says.Events event.Display n) = []
 block_of form (says.Refused fault) = []
 
@@ -87,6 +101,9 @@ abbrev pub is_nonempty : List (List ℕ) → Bool
 is_nonempty [] = false
 is_nonempty (x ∷ xs) = true
 
+abbrev pub is_byte : ℕ → Bool
+is_byte b = nat_lt b 256
+
 -- what can be spelled
 abbrev pub IsConfigStatement : ConfigStatement → Type 0
 IsConfigStatement (config.Volume serial tracks used) = (is_serial serial ≡ true) × (tracks ≤ 65535) × (list_all is_extent used ≡ true)
@@ -108,5 +125,8 @@ IsSaid (says.Events (event.Turn i) n) = (1 ≤ i) × (i ≤ 15) × (1 ≤ n) × 
 IsSaid (says.Events (event.Write class) n) = (is_among class_characters class ≡ true) × (1 ≤ n) × (n ≤ 9999)
 IsSaid (says.Events (event.DeviceEnd serial) n) = (is_serial serial ≡ true) × (n ≡ 1)
 IsSaid (says.Events (event.Cancel job) n) = (1 ≤ job) × (job ≤ 9999) × (n ≡ 1)
+IsSaid (says.Events (event.Zap n offset bytes) m) =
+    (1 ≤ n) × (n ≤ LAYOUT_1.most_records) × (FIRST_OPEN ≤ offset) × (offset ≤ RECORD_BYTES - 1) × (list_all is_byte bytes ≡ true)
+    × (stays_within offset (length bytes) ≡ true) × (m ≡ 1)
 IsSaid (says.Events event.Display n) = n ≡ 1
 IsSaid (says.Refused fault) = ⊥

@@ -3,12 +3,12 @@ ghost use Rattle.std.specs.Prelude.{◌≡◌, true};
 ghost use Rattle.enq_core.specs.Holds.{HoldsNone};
 
 use crate::deck::next_job;
-use admit_core::backlog::{Backlog, Listing};
-use admit_core::cancels::Cancels;
-use admit_core::names::{Named, hold_names};
 use enq_core::table::{Blocked, EnqTable};
 use jcl_plan::entry::JobLine;
 use jcl_plan::plan::JobPlan;
+use job_core::backlog::{Backlog, Listing};
+use job_core::cancels::Cancels;
+use job_core::names::{Named, hold_names};
 use plain::listed::Listed;
 use row_table::desk::Line;
 use row_table::told::Told;

@@ -1,6 +1,6 @@
 //! Jobs that wait, and which of them is selected.
-use admit_core::selecting::select;
 use cb_queue::store::RecordStore;
+use job_core::selecting::select;
 use queue_core::queue::Queued;
 use row_table::desk::Line;
 use row_table::told::Told;

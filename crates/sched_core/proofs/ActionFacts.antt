@@ -12,7 +12,7 @@ use Rattle.world_meaning.specs.declared.event.Event.TheVariants as event
 use Rattle.world_meaning.specs.Choices.{AtAction, AtAdmission, Choice, Closed, choice_of, choice_of_acting, choice_of_advance, choice_of_event, choice_of_going, choice_of_turn}
 use Rattle.world_meaning.specs.Lenses.{seen}
 use Rattle.world_meaning.specs.Readings.{Denoting}
-use Rattle.world_meaning.specs.Transitions.{Acts, Does, GoesOn, Transition, Turns, acts, past, taken, unknown}
+use Rattle.world_meaning.specs.Transitions.{Acts, Does, GoesOn, Transition, Turns, acts, past, taken, unknown, explained_by, told_with}
 use Rattle.world_meaning.specs.Turns as turn
 use Rattle.world_meaning.specs.Turns.{Advanced, Advances, advance, advanced, answers_due, granting, has_cancel, state_in}
 use Rattle.world_meaning.specs.Worlds.{Admission, Admitted, Config, Initiator, Named, Running, Selected, Shared, Stage, Wanting, World, counted, of_job}
@@ -82,19 +82,20 @@ at_advance c old r plan a count own lines new runs (turn.acts x growth primary f
     (refl, told, is_done c old r.job plan a count own growth primary x e)
 at_advance c old r plan a count own lines new runs (turn.ends x growth primary free e granted further last told left conserved off) = tt
 
-at_going : (c : Config) (old : Shared) (r : Running) (stage : Stage) (lines : List JobLine) (new : Shared) (runs : Option Running)
-    (g : GoesOn c old r stage lines new runs) → FactsOf (choice_of_going c old r stage lines new runs g) r.job lines
-at_going c old r (Selected first) lines new runs g = tt
-at_going c old r (Wanting plan) lines new runs g = tt
-at_going c old r (Named plan) lines new runs g = tt
-at_going c old r (Admitted plan a count own) lines new runs g = at_advance c old r plan a count own lines new runs g
+-- at an action no path is shown
+at_goes : (c : Config) (old : Shared) (r : Running) (told : List JobLine) (lines : List Entry) (new : Shared) (runs : Option Running) (stage : Stage)
+    (g : GoesOn c old r stage told new runs) → lines ≡ told_with r.job told (explained_by c old r stage told new runs g) →
+    ToldOf (choice_of_going c old r stage told new runs g) lines
+at_goes c old r told lines new runs (Selected first) g e = tt
+at_goes c old r told lines new runs (Wanting plan) g e = tt
+at_goes c old r told lines new runs (Named plan) g e = tt
+at_goes c old r told lines new runs (Admitted plan a count own) g e =
+    lifted (choice_of_advance g) r.job told lines (at_advance c old r plan a count own told new runs g) e
 
 at_acting : (old : World) (place : ℕ) (x : Initiator) (running : Option Running) (lines : List Entry) (new : World)
     (g : Acts old place x running lines new) → ToldOf (choice_of_acting old place x running lines new g) lines
 at_acting old place x None lines new g = tt
-at_acting old place x (Some r) lines new g =
-    lifted (choice_of_going old.config old.shared r r.stage g.job_lines g.shared g.runs g.goes) r.job g.job_lines lines
-    (at_going old.config old.shared r r.stage g.job_lines g.shared g.runs g.goes) g.told
+at_acting old place x (Some r) lines new g = at_goes old.config old.shared r g.job_lines lines g.shared g.runs r.stage g.goes g.told
 
 at_turn : (old : World) (number : ℕ) (lines : List Entry) (new : World) (g : Turns old number lines new) → ToldOf (choice_of_turn g) lines
 at_turn old number lines new (unknown none told same) = tt

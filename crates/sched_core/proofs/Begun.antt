@@ -19,7 +19,7 @@ use Rattle.machine_meaning.specs.declared.config.ConfiguredInitiator.{Configured
 use Rattle.machine_meaning.specs.declared.config.ConfiguredUnit.{ConfiguredUnit}
 use Rattle.prog_core.specs.declared.units.Operation.{Operation}
 use Rattle.case_laws.specs.Cases.{IsSupplied, StartsSupplied}
-use Rattle.run_laws.specs.Soundness.{IsSound, StartsSound}
+use Rattle.law_core.specs.Soundness.{IsSound, StartsSound}
 use Rattle.shared_core.specs.declared.store.SharedStore.{SharedStore}
 use Rattle.enq_core.specs.Holds.{HoldsNone}
 use Rattle.place_core.specs.Placings.{serials_of}
@@ -29,9 +29,9 @@ use Rattle.shared_core.proofs.Showing.{nothing_shown}
 use Rattle.world_meaning.specs.Starts.{IsStart}
 use Rattle.world_meaning.specs.Worlds as world
 use Rattle.world_meaning.specs.Worlds.{World}
-use Rattle.admit_core.specs.Layouts.{ReadsWhatItHolds}
-use Rattle.admit_core.specs.Listed.{waiting_in}
-use Rattle.admit_core.specs.declared.backlog.Listing.{Listing}
+use Rattle.job_core.specs.Layouts.{ReadsWhatItHolds}
+use Rattle.job_core.specs.Listed.{waiting_in}
+use Rattle.job_core.specs.declared.backlog.Listing.{Listing}
 use Rattle.machine_core.specs.Shown.{shown}
 use Rattle.machine_core.specs.declared.parts.Parts.{Parts}
 use Rattle.init_core.specs.declared.running.Profile.{Profile}
@@ -80,6 +80,7 @@ module _ {Q : Type 0} (queue_of : Q → RecordQueue) (store : SharedStore) (q : 
       layout = l;
       refuses = p.refuses;
       most_views = p.most_views;
+      explains = p.explains;
     }
     config_at = λ i. record {
       volumes = (volumes ∙ t.serials) i;
@@ -88,6 +89,7 @@ module _ {Q : Type 0} (queue_of : Q → RecordQueue) (store : SharedStore) (q : 
       layout = layout_at i;
       refuses = p.refuses;
       most_views = p.most_views;
+      explains = p.explains;
     }
 
     no_tracks : IsConfigured c → (serial : List ℕ) → kept_shown store.volumes serial ≡ []
@@ -112,7 +114,7 @@ module _ {Q : Type 0} (queue_of : Q → RecordQueue) (store : SharedStore) (q : 
         ∙ idle_shown (config_in queue_of p s) fixed.initiators
         ∙ ap (map idle) t.initiators
 
-    pub world_at : IsConfigured c → world_in queue_of (config_in queue_of p s) s ≡ start_of c p.refuses p.most_views l FIRST_DAY
+    pub world_at : IsConfigured c → world_in queue_of (config_in queue_of p s) s ≡ start_of c p.refuses p.most_views p.explains l FIRST_DAY
     world_at k = λ i. record {
       config = config_at i;
       shared = shared_at k i;
@@ -123,8 +125,8 @@ module _ {Q : Type 0} (queue_of : Q → RecordQueue) (store : SharedStore) (q : 
     }
 
     module _ (k : IsConfigured c) (law : StartsOfConfigurations) (sound : StartsSound) (supplied : StartsSupplied) (reads : ReadsWhatItHolds) where
-      pub is_start : IsStart (start_of c p.refuses p.most_views l FIRST_DAY)
-      is_start = law c p.refuses p.most_views FIRST_DAY l k for_machine.link
+      pub is_start : IsStart (start_of c p.refuses p.most_views p.explains l FIRST_DAY)
+      is_start = law c p.refuses p.most_views p.explains FIRST_DAY l k for_machine.link
 
       same_serials : serials_of s.parts.store.volumes ≡ p.volumes.now
       same_serials = ap (λ (x : Parts Q). serials_of x.store.volumes) parts ∙ ap serials_of t.volumes ∙ sym t.serials ∙ sym volumes
@@ -159,8 +161,8 @@ module _ {Q : Type 0} (queue_of : Q → RecordQueue) (store : SharedStore) (q : 
 
       pub begins_kept : IsKept queue_of (config_in queue_of p s) s
       begins_kept = record {
-        sound = subst IsSound (sym (world_at k)) (sound (start_of c p.refuses p.most_views l FIRST_DAY) is_start);
-        supplied = subst IsSupplied (sym (world_at k)) (supplied (start_of c p.refuses p.most_views l FIRST_DAY) is_start);
+        sound = subst IsSound (sym (world_at k)) (sound (start_of c p.refuses p.most_views p.explains l FIRST_DAY) is_start);
+        supplied = subst IsSupplied (sym (world_at k)) (supplied (start_of c p.refuses p.most_views p.explains l FIRST_DAY) is_start);
         fit = begins_fit;
       }
 

@@ -5,7 +5,7 @@ use Rattle.std.proofs.lemmas.Bool.{or_parts}
 use Rattle.std.proofs.lemmas.List.Elements.{All-cons, All-nil}
 use Rattle.jcl_plan.specs.declared.entry.JobLine.{JobLine}
 use Rattle.jcl_plan.specs.declared.entry.JobLine.TheVariants as line
-use Rattle.run_laws.proofs.PlainLines.{is_risk}
+use Rattle.law_core.proofs.PlainLines.{is_risk}
 use Rattle.sched_core.specs.Copies.{unless_risk}
 
 copied_line : (l : JobLine) → is_risk l ≡ false → unless_risk l ≡ Some l
@@ -19,7 +19,6 @@ copied_line (line.WaitSpace serial) h = refl
 copied_line (line.Assured tracks actions) h = refl
 copied_line (line.Risk f step dd path) h = absurd cc
 copied_line (line.TooMany step) h = refl
-copied_line line.Unchecked h = refl
 copied_line line.Refused h = refl
 copied_line line.Cancelled h = refl
 copied_line (line.Step step name procedure_step fate) h = refl

@@ -2,7 +2,7 @@
 use Rattle.std.proofs.Common.{◌≤◌, ℕ}
 use Rattle.cb_queue.specs.RecordQueues.{RecordQueue}
 use Rattle.machine_meaning.specs.declared.machine.TheConstants.{MOST_EVENTS}
-use Rattle.run_laws.specs.Soundness.{IsSound, RunsAt}
+use Rattle.law_core.specs.Soundness.{IsSound, RunsAt}
 use Rattle.world_meaning.specs.Worlds.{Config, Running, World}
 use Rattle.case_laws.specs.Cases.{HasAssured, IsSupplied}
 use Rattle.sched_core.specs.Fits.{IsFit, IsKept}

@@ -7,7 +7,7 @@ use Rattle.jcl_plan.specs.declared.entry.Entry.{Entry}
 use Rattle.input_core.specs.declared.event.Event.{Event}
 use Rattle.world_meaning.specs.Transitions.{Runs}
 use Rattle.sched_core.specs.Systems.{Drives, IsDriven, IsSameFixed, Machine, Steps, denoting, meant_by, world_of}
-use Rattle.run_laws.specs.Promises.{ArePromises, PromisesAreKept}
+use Rattle.law_core.specs.Promises.{ArePromises, PromisesAreKept}
 use Rattle.world_meaning.specs.Starts.{IsStart}
 
 -- what is fixed stays

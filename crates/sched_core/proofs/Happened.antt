@@ -13,14 +13,14 @@ use Rattle.jcl_plan.specs.declared.fault.Cause.TheVariants.{A}
 use Rattle.jcl_plan.specs.declared.fault.EventFault.TheVariants.{NoSuchInitiator, PastLimit}
 use Rattle.machine_meaning.specs.declared.machine.TheConstants.{MOST_EVENTS}
 use Rattle.case_laws.specs.Cases.{IsSupplied, SuppliesAreKept}
-use Rattle.run_laws.specs.Soundness.{IsSound, SoundnessIsKept}
+use Rattle.law_core.specs.Soundness.{IsSound, SoundnessIsKept}
 use Rattle.world_meaning.specs.declared.event.Event as meant
 use Rattle.world_meaning.specs.Readings.{Denoting}
 use Rattle.world_meaning.specs.Selections.{Selects}
 use Rattle.world_meaning.specs.Selections as selecting
 use Rattle.world_meaning.specs.Devices.{Writes, nothing_written, wrote}
 use Rattle.world_meaning.specs.Displays.{queue_line, volume_line}
-use Rattle.world_meaning.specs.Transitions.{Acts, Does, Shows, Transition, Turns, acts, past, shown, taken, unknown}
+use Rattle.world_meaning.specs.Transitions.{Acts, Does, Shows, Transition, Turns, acts, past, shown, taken, unknown, told_with}
 use Rattle.world_meaning.specs.Worlds as world
 use Rattle.world_meaning.specs.Worlds.{Config, HasNoInitiator, IsAt, World, counted, of_job}
 use Rattle.world_meaning.proofs.Following.{unopened}
@@ -41,14 +41,16 @@ use Rattle.plain.specs.Lists.{Differ}
 use Rattle.shared_core.specs.declared.store.SharedStore.{SharedStore}
 
 -- no turn of a job, and no selection, writes a refusal
-no_job_line : (cause : Cause) (job : ℕ) (lines : List JobLine) → entry.Refused cause ∷ [] ≡ of_job job lines → ⊥
-no_job_line cause job [] e = absurd cc
-no_job_line cause job (line ∷ lines) e = absurd cc
+no_job_line : (cause : Cause) (job : ℕ) (lines path : List JobLine) → entry.Refused cause ∷ [] ≡ told_with job lines path → ⊥
+no_job_line cause job [] [] e = absurd cc
+no_job_line cause job [] (p ∷ path) e = absurd cc
+no_job_line cause job (line ∷ lines) [] e = absurd cc
+no_job_line cause job (line ∷ lines) (p ∷ path) e = absurd cc
 
 never_acts : (old new : World) (place : ℕ) (x : world.Initiator) (o : Option world.Running) (cause : Cause) → Acts old place x o (entry.Refused cause ∷ []) new → ⊥
 never_acts old new place x None cause (selecting.nothing none told same) = absurd cc
 never_acts old new place x None cause (selecting.selected w first told leaves) = absurd cc
-never_acts old new place x (Some r) cause g = no_job_line cause r.job g.job_lines g.told
+never_acts old new place x (Some r) cause g = no_job_line cause r.job g.job_lines _ g.told
 
 -- initiators of one number are at one place
 no_other : (ns : List ℕ) (n k : ℕ) → All (λ m. n ≢ m) ns → slice_get ns k ≡ Some n → ⊥

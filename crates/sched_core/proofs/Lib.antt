@@ -1,7 +1,9 @@
 pub mod Seats
 pub mod Places
 pub mod Unchanged
+pub mod Zapped
 pub mod Waits
+pub mod Explained
 pub mod Turning
 pub mod Providing
 pub mod Selected

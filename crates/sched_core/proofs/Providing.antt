@@ -7,8 +7,8 @@ use Rattle.extent_core.specs.declared.extent.Extent.{Extent}
 use Rattle.jcl_plan.specs.declared.plan.JobPlan.{JobPlan}
 use Rattle.case_laws.specs.Cases.{CanGoOn, is_assured_at}
 use Rattle.case_laws.proofs.KeptAlone.{none_before}
-use Rattle.run_laws.specs.Soundness.{RunsAt, plan_read}
-use Rattle.run_laws.proofs.Reading.{plan_formed}
+use Rattle.law_core.specs.Soundness.{RunsAt, plan_read}
+use Rattle.law_core.proofs.Reading.{plan_formed}
 use Rattle.world_laws.specs.Beside.{FitsAt, RunsFit}
 use Rattle.world_meaning.specs.Tracks.{kept_of}
 use Rattle.world_meaning.specs.Worlds as world

@@ -6,8 +6,8 @@ use Rattle.jcl_plan.specs.declared.entry.JobLine.{JobLine}
 use Rattle.jcl_plan.specs.declared.plan.JobPlan.{JobPlan}
 use Rattle.jcl_meaning.specs.declared.state.Own.{Own}
 use Rattle.jcl_meaning.specs.Agendas.{agenda}
-use Rattle.run_laws.proofs.Over.{advance_stands, riskless}
-use Rattle.run_laws.proofs.PlainLines.{is_risk}
+use Rattle.law_core.proofs.Over.{advance_stands, riskless}
+use Rattle.law_core.proofs.PlainLines.{is_risk}
 use Rattle.world_meaning.specs.Holdings.{Holds, ReadsRecords, blocked, broken, held, read}
 use Rattle.world_meaning.specs.Transitions.{GoesOn}
 use Rattle.world_meaning.specs.Turns.{Advanced, Advances, acts, advanced, ends, waits}

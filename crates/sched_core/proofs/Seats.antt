@@ -5,7 +5,7 @@ use Rattle.std.specs.Option.{option_map}
 use Rattle.std.proofs.lemmas.Bool.{cases_eq}
 use Rattle.std.proofs.lemmas.Option.{slice_get-map}
 use Rattle.cb_queue.specs.RecordQueues.{RecordQueue}
-use Rattle.run_laws.specs.Soundness.{RunsAt}
+use Rattle.law_core.specs.Soundness.{RunsAt}
 use Rattle.world_laws.proofs.Beside.{one_there, set_elsewhere, set_here}
 use Rattle.world_meaning.specs.Worlds as world
 use Rattle.world_meaning.specs.Worlds.{Config}

@@ -10,11 +10,12 @@ use Rattle.jcl_plan.specs.declared.entry.Entry.{Entry}
 use Rattle.cb_queue.specs.RecordQueues.{RecordQueue}
 use Rattle.queue_core.specs.declared.queue.Queued.{Queued}
 use Rattle.machine_meaning.specs.declared.machine.TheConstants.{MOST_EVENTS, MOST_JOBS}
-use Rattle.run_laws.specs.Soundness.{IsThereAlone}
+use Rattle.law_core.specs.Soundness.{IsThereAlone}
 use Rattle.world_laws.proofs.Beside.{one_there, set_elsewhere, set_here}
+use Rattle.world_meaning.specs.Transitions.{told_with}
 use Rattle.world_meaning.specs.Worlds as world
 use Rattle.world_meaning.specs.Worlds.{Config, IsAt, World, with_running}
-use Rattle.admit_core.specs.Listed.{AreListed, waiting_in}
+use Rattle.job_core.specs.Listed.{AreListed, waiting_in}
 use Rattle.machine_core.specs.Shown.{shown}
 use Rattle.init_core.specs.Going.{IsLeft}
 use Rattle.init_core.specs.Running.{IsReady, lines_told, runs_after, shown_running}
@@ -73,7 +74,7 @@ module _ {Q : Type 0} (queue_of : Q → RecordQueue) (c : Config) (s : State Q) 
       shared = t.turns.went.middle;
       runs = option_map (shown_running c) runs;
       goes = t.turns.went.goes;
-      told = t.turns.told;
+      told = t.turns.told ∙ ap (told_with t.turns.running.job (lines_told t.turns.came)) t.turns.went.explained;
       leaves = refl;
     },
     t.turns.went.chosen,

@@ -5,10 +5,10 @@ use Rattle.cb_queue.specs.RecordQueues.{RecordQueue}
 use Rattle.enq_core.specs.Holds.{HoldsNone}
 use Rattle.machine_meaning.specs.declared.machine.TheConstants.{MOST_EVENTS, MOST_JOBS}
 use Rattle.case_laws.specs.Cases.{IsSupplied}
-use Rattle.run_laws.specs.Soundness.{IsSound}
+use Rattle.law_core.specs.Soundness.{IsSound}
 use Rattle.world_meaning.specs.Worlds.{Config}
 use Rattle.jcl_refs.specs.Plans.{most_steps}
-use Rattle.admit_core.specs.Listed.{AreListed}
+use Rattle.job_core.specs.Listed.{AreListed}
 use Rattle.init_core.specs.Running.{IsGood, IsReady}
 use Rattle.init_core.specs.declared.running.Running.{Running}
 use Rattle.sched_core.specs.Machines.{RunsIn, world_in}

@@ -2,10 +2,11 @@
 use Rattle.std.specs.Prelude.{◌≡◌, ℕ, List, Some, slice_get, slice_set}
 use Rattle.cb_queue.specs.RecordQueues.{RecordQueue}
 use Rattle.jcl_plan.specs.declared.entry.Entry.{Entry}
-use Rattle.world_meaning.specs.Worlds.{Config, of_job}
+use Rattle.world_meaning.specs.Transitions.{told_with}
+use Rattle.world_meaning.specs.Worlds.{Config}
 use Rattle.machine_core.specs.declared.parts.Parts.{Parts}
 use Rattle.init_core.specs.Going.{Went}
-use Rattle.init_core.specs.Running.{lines_told, runs_after}
+use Rattle.init_core.specs.Running.{lines_told, path_told, runs_after}
 use Rattle.init_core.specs.declared.running.Progress.{Progress}
 use Rattle.init_core.specs.declared.running.Running.{Running}
 use Rattle.sched_core.specs.declared.state.Initiator.{Initiator}
@@ -17,7 +18,7 @@ pub record TurnsJob {Q : Type 0} (queue_of : Q → RecordQueue) (c : Config) (ol
   pub runs : x.running ≡ Some running
   pub came : Progress
   pub went : Went queue_of c old running new came
-  pub told : lines ≡ of_job running.job (lines_told came)
+  pub told : lines ≡ told_with running.job (lines_told came) (path_told came)
   pub leaves : y ≡ record x { running = runs_after came }
 
 -- and so did that of the initiator at a place

@@ -5,7 +5,7 @@ use Rattle.world_meaning.specs.declared.event.Event as meant
 use Rattle.world_meaning.specs.declared.event.Event.TheVariants as event
 use Rattle.sched_core.specs.Systems.{meant_by}
 
--- an event that a session can bring: each but a change of a record, and a new date
+-- an event that a session can bring: each but a new date
 abbrev pub IsInput : meant.Event → Type 0
 IsInput (event.Read deck) = Unit {0}
 IsInput (event.Turn number) = Unit {0}
@@ -13,7 +13,7 @@ IsInput (event.DeviceEnd serial) = Unit {0}
 IsInput (event.Write class) = Unit {0}
 IsInput (event.Cancel job) = Unit {0}
 IsInput event.Display = Unit {0}
-IsInput (event.Zap n offset bytes) = ⊥
+IsInput (event.Zap n offset bytes) = Unit {0}
 IsInput (event.Date day) = ⊥
 
 -- Inputs and these events are the same, one by one.

@@ -1,6 +1,7 @@
 pub mod Machines
 pub mod Fits
 pub mod Events
+pub mod Explaining
 pub mod Going
 pub mod Copies
 pub mod Selecting
@@ -11,3 +12,4 @@ pub mod Systems
 pub mod Starting
 pub mod Inputs
 pub mod Deciding
+pub mod Zapping

@@ -18,9 +18,9 @@ pub record IsForMachine (l : Layout) : Type 0 where
 
 -- It is a start of the machine's definitions, on the first day, with the volumes as they are configured; decks are read with the units and the
 -- procedures of the configuration.
-pub record IsStarted (c : Configuration) (refuses : Bool) (views : ℕ) (l : Layout) (m : Machine) : Type 0 where
-  pub is_start : IsStart (start_of c refuses views l FIRST_DAY)
-  pub world : world_of m ≡ start_of c refuses views l FIRST_DAY
+pub record IsStarted (c : Configuration) (refuses : Bool) (views : ℕ) (explains : Bool) (l : Layout) (m : Machine) : Type 0 where
+  pub is_start : IsStart (start_of c refuses views explains l FIRST_DAY)
+  pub world : world_of m ≡ start_of c refuses views explains l FIRST_DAY
   pub unit_names : m.unit_names ≡ unit_names c.units
   pub library : m.library ≡ c.library
   pub volumes : m.parts.store.volumes ≡ c.volumes

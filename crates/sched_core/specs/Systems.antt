@@ -12,8 +12,8 @@ use Rattle.world_meaning.specs.declared.event.Event.TheVariants as event
 use Rattle.world_meaning.specs.Readings.{Denoting}
 use Rattle.world_meaning.specs.Transitions.{Runs}
 use Rattle.world_meaning.specs.Worlds.{Config, World}
-use Rattle.admit_core.specs.Listed.{waiting_in}
-use Rattle.admit_core.specs.declared.backlog.Listing.{Listing}
+use Rattle.job_core.specs.Listed.{waiting_in}
+use Rattle.job_core.specs.declared.backlog.Listing.{Listing}
 use Rattle.machine_core.specs.Shown.{shown}
 use Rattle.machine_core.specs.declared.parts.Parts.{Parts}
 use Rattle.init_core.specs.declared.running.Profile.{Profile}
@@ -90,6 +90,7 @@ meant_by (input.Turn number) = event.Turn number
 meant_by (input.DeviceEnd serial) = event.DeviceEnd serial
 meant_by (input.Write class) = event.Write class
 meant_by (input.Cancel job) = event.Cancel job
+meant_by (input.Zap n offset bytes) = event.Zap n offset bytes
 meant_by input.Display = event.Display
 
 -- what was done is allowed; a refusal is shown as its line; where memory was wanting nothing changed

@@ -4,7 +4,7 @@ ghost use Rattle.enq_core.specs.Holds.{HoldsNone};
 ghost use Rattle.jcl_plan.specs.declared.entry.Entry.TheVariants as entry;
 ghost use Rattle.world_meaning.specs.Cancels.{CancelsJob, cancelled_lines};
 ghost use Rattle.world_meaning.specs.Worlds.{Config};
-ghost use Rattle.admit_core.specs.Cancelled.{with_job};
+ghost use Rattle.job_core.specs.Cancelled.{with_job};
 ghost use Rattle.init_core.specs.Running.{IsReady};
 ghost use Rattle.init_core.specs.declared.running.Running.{Running};
 ghost use Rattle.sched_core.specs.Cancelling.{CancelsAt, CancelsRunning, GivesUp, LeavesQueue, RunsJob, has_admitted, has_job};
@@ -17,19 +17,19 @@ ghost use Rattle.sched_core.specs.declared.state.Initiator.{Initiator};
 use crate::fault::ApplyFault;
 use crate::lines::{cancelled, one};
 use crate::state::{Initiator, State};
-use admit_core::backlog::Backlog;
-use admit_core::cancels::Cancels;
 use cb_queue::store::RecordStore;
 use init_core::running::{Profile, Running, Stage};
 use jcl_plan::entry::Entry;
 use jcl_plan::fault::{Cause, EventFault};
+use job_core::backlog::Backlog;
+use job_core::cancels::Cancels;
 use machine_core::over::{release, release_unnamed};
 use machine_core::parts::Parts;
 use plain::listed::Listed;
 use std::alloc::{AllocError, Global};
 use std::mem;
 
-fn has_job(x: &Initiator, job: u16) -> bool
+pub(crate) fn has_job(x: &Initiator, job: u16) -> bool
     ensures { result ≡ has_job x.now.running job }
 {
     match &x.running {

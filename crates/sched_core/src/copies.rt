@@ -33,7 +33,6 @@ pub(crate) fn copied(line: &JobLine) -> Option<JobLine>
         },
         JobLine::Risk { .. } => return None,
         JobLine::TooMany(step) => JobLine::TooMany(*step),
-        JobLine::Unchecked => JobLine::Unchecked,
         JobLine::Refused => JobLine::Refused,
         JobLine::Cancelled => JobLine::Cancelled,
         JobLine::Step {

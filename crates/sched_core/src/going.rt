@@ -1,13 +1,16 @@
 //! An initiator goes on with its job.
-ghost use Rattle.std.specs.Prelude.{◌≡◌, ◌≢◌, ◌+◌, ◌≤◌, ◌++◌, [], All, Err, IfOk, None, OnErr, Some, length, slice_get, slice_set};
+ghost use Rattle.std.specs.Prelude.{◌≡◌, ◌≢◌, ◌+◌, ◌<◌, ◌≤◌, ◌++◌, ◌∷◌, [], All, Err, IfOk, None, OnErr, Some, length, map, slice_get, slice_set};
 ghost use Rattle.std.specs.Vec.{vec_capacity, vec_len};
+ghost use Rattle.jcl_plan.specs.declared.entry.Entry.TheVariants as entry;
 ghost use Rattle.jcl_plan.specs.declared.fault.Cause.{Cause};
+ghost use Rattle.world_meaning.specs.Transitions.{told_with};
 ghost use Rattle.world_meaning.specs.Worlds.{of_job};
 ghost use Rattle.init_core.specs.Providing.{IsProvided};
-ghost use Rattle.init_core.specs.Running.{IsGood, IsReady, config_of};
+ghost use Rattle.init_core.specs.Running.{IsGood, IsReady, config_of, path_before, told_before};
 ghost use Rattle.init_core.specs.declared.running.Running.{Running};
 ghost use Rattle.sched_core.specs.Copies.{unless_risk};
 ghost use Rattle.sched_core.specs.Events.{ActsAt, Answers};
+ghost use Rattle.sched_core.specs.Explaining.{most_explained};
 ghost use Rattle.sched_core.specs.Fits.{IsFit, IsKept};
 ghost use Rattle.sched_core.specs.Going.{TurnsAt, TurnsJob};
 ghost use Rattle.sched_core.specs.Machines.{RunsIn, config_in, world_in};
@@ -18,12 +21,14 @@ use crate::copies::copied;
 use crate::fault::ApplyFault;
 use crate::seating::seat;
 use crate::state::{Initiator, State};
+use admit_core::budget::budget_of;
 use cb_queue::store::RecordStore;
 use init_core::go_on::go_on;
-use init_core::running::{Profile, Progress, Running};
+use init_core::running::{Profile, Progress, Running, Stage, Told};
 use jcl_plan::entry::{Entry, JobLine};
 use machine_core::parts::Parts;
 use plain::listed::Listed;
+use start_laws::explanation_is_few;
 use std::alloc::{AllocError, Global};
 use std::mem;
 
@@ -49,12 +54,68 @@ fn tell(entries: &mut Vec<Entry>, job: u16, lines: &[JobLine])
     }
 }
 
-/// Room for the lines of a turn: two, or that of a fault and one for each DD that the step took.
-fn room_for(alloc: Global, running: &Running) -> Result<Vec<Entry>, AllocError>
-    ensures items { IfOk result (λ entries. (entries.items ≡ []) × (vec_len entries ≡ 0)) }
-    ensures room { IfOk result (λ entries. 2 + length running.now.walk.course.own.dds ≤ vec_capacity entries) }
+/// Puts the lines of a job's path behind the entries, in the room that is there for them.
+fn explain(entries: &mut Vec<Entry>, job: u16, path: Listed<JobLine>)
+    requires room { vec_len entries.old + length path ≤ vec_capacity entries.old }
+    ensures items { entries.new.items ≡ entries.old.items ++ map (entry.Path job) path }
+    ensures room { (vec_len entries.new ≡ vec_len entries.old + length path) × (vec_capacity entries.new ≡ vec_capacity entries.old) }
 {
-    let Some(count) = running.walk.course.own.dds.len().checked_add(2) else {
+    for line in path.into_vec() {
+        entries.push_reserved(Entry::Path(job, line));
+    }
+}
+
+/// Puts what a job was answered, with the lines of its path, behind the entries, in the room that is there for them.
+fn tell_answer(entries: &mut Vec<Entry>, job: u16, told: Told)
+    requires { vec_len entries.old + length told.path < vec_capacity entries.old }
+    ensures items { entries.new.items ≡ entries.old.items ++ told_with job (told.line ∷ []) told.path }
+    ensures room { (vec_len entries.new ≡ vec_len entries.old + length told.path + 1) × (vec_capacity entries.new ≡ vec_capacity entries.old) }
+{
+    let Told { line, path } = told;
+    entries.push_reserved(Entry::Job(job, line));
+    explain(entries, job, path);
+}
+
+/// Puts a job's last line behind the entries, and before it what it was answered, in the room that is there for them.
+fn tell_end(entries: &mut Vec<Entry>, job: u16, before: Option<Told>, last: JobLine)
+    requires { vec_len entries.old + length (path_before before) + 1 < vec_capacity entries.old }
+    ensures { entries.new.items ≡ entries.old.items ++ told_with job (told_before before ++ last ∷ []) (path_before before) }
+{
+    if let Some(told) = before {
+        tell_answer(entries, job, told);
+    }
+    entries.push_reserved(Entry::Job(job, last));
+}
+
+/// The most lines by which what a job is answered next may be explained.
+fn most_explained(profile: &Profile<'_>, running: &Running) -> Result<usize, AllocError>
+    ensures { IfOk result (λ count. count ≡ most_explained profile.now running.now) }
+{
+    if !profile.explains {
+        return Ok(0);
+    }
+    match &running.stage {
+        Stage::Selected { .. } => Ok(0),
+        Stage::Wanting { .. } => Ok(0),
+        Stage::Named { plan, .. } => budget_of(plan, profile.programs),
+        Stage::Admitted { .. } => Ok(0),
+    }
+}
+
+/// Room for the lines of a turn: two, with those that explain the first, or that of a fault and one for each DD that the step took.
+fn room_for(
+    alloc: Global,
+    profile: &Profile<'_>,
+    running: &Running,
+) -> Result<Vec<Entry>, AllocError>
+    ensures items { IfOk result (λ entries. (entries.items ≡ []) × (vec_len entries ≡ 0)) }
+    ensures room { IfOk result (λ entries. 2 + length running.now.walk.course.own.dds + most_explained profile.now running.now ≤ vec_capacity entries) }
+{
+    let explained = most_explained(profile, running)?;
+    let Some(lines) = running.walk.course.own.dds.len().checked_add(2) else {
+        return Err(AllocError);
+    };
+    let Some(count) = lines.checked_add(explained) else {
         return Err(AllocError);
     };
     Vec::with_capacity(alloc, count)
@@ -76,8 +137,9 @@ fn turn_of<Q: RecordStore>(
     let Some(running) = mem::replace(&mut x.running, None) else {
         unreachable!();
     };
+    explanation_is_few();
     let job = running.job;
-    let Ok(mut entries) = room_for(alloc, &running) else {
+    let Ok(mut entries) = room_for(alloc, profile, &running) else {
         seat(x, Some(running));
         return Err(AllocError);
     };
@@ -87,16 +149,13 @@ fn turn_of<Q: RecordStore>(
             seat(x, Some(running));
             Ok(Listed::new(entries))
         }
-        Ok(Progress::Answered { job: running, line }) => {
-            entries.push_reserved(Entry::Job(job, line));
+        Ok(Progress::Answered { job: running, told }) => {
+            tell_answer(&mut entries, job, told);
             seat(x, Some(running));
             Ok(Listed::new(entries))
         }
         Ok(Progress::Over { before, last }) => {
-            if let Some(line) = before {
-                entries.push_reserved(Entry::Job(job, line));
-            }
-            entries.push_reserved(Entry::Job(job, last));
+            tell_end(&mut entries, job, before, last);
             Ok(Listed::new(entries))
         }
         Err(running) => {

@@ -16,6 +16,7 @@ use crate::reading::read;
 use crate::selecting::select_at;
 use crate::showing::{display, end_device, write};
 use crate::state::{Initiator, State};
+use crate::zapping::zap;
 use case_laws::supplies_are_kept;
 use cb_queue::store::RecordStore;
 use init_core::running::Profile;
@@ -23,10 +24,10 @@ use input_core::event::Event;
 use jcl_plan::entry::Entry;
 use jcl_plan::fault::{Cause, EventFault};
 use jcl_refs::units::UnitNames;
+use law_core::soundness_is_kept;
 use machine_meaning::machine::MOST_EVENTS;
 use plain::listed::Listed;
 use proc_library::library::ProcLibrary;
-use run_laws::soundness_is_kept;
 use std::alloc::Global;
 
 /// Where the initiator of a number is.
@@ -93,6 +94,11 @@ fn happen<Q: RecordStore>(
         Event::DeviceEnd(serial) => end_device(alloc, state, profile, *serial),
         Event::Write(class) => write(alloc, state, profile, *class),
         Event::Cancel(job) => cancel(alloc, state, profile, *job),
+        Event::Zap {
+            record: n,
+            offset,
+            bytes,
+        } => zap(alloc, state, profile, *n, *offset, bytes.as_slice()),
         Event::Display => display(alloc, state, profile),
     }
 }

@@ -16,3 +16,4 @@ mod showing;
 pub mod start;
 pub mod state;
 pub mod system;
+mod zapping;

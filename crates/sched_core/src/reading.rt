@@ -18,8 +18,6 @@ ghost use Rattle.sched_core.specs.declared.fault.ApplyFault.TheVariants.{Refused
 use crate::fault::ApplyFault;
 use crate::lines::one;
 use crate::state::State;
-use admit_core::backlog::{Backlog, Listing};
-use admit_core::reading::{EnterFault, enter_job};
 use cb_queue::store::RecordStore;
 use init_core::running::Profile;
 use jcl_job::job::job_of;
@@ -27,6 +25,8 @@ use jcl_plan::entry::{Entry, JobLine};
 use jcl_plan::fault::{Cause, EventFault, QueueFault};
 use jcl_plan::plan::JobPlan;
 use jcl_refs::units::UnitNames;
+use job_core::backlog::{Backlog, Listing};
+use job_core::reading::{EnterFault, enter_job};
 use machine_meaning::machine::MOST_JOBS;
 use plain::lent::Lent;
 use plain::listed::Listed;

@@ -11,12 +11,12 @@ ghost use Rattle.sched_core.specs.declared.fault.ApplyFault.TheVariants.{Refused
 
 use crate::fault::ApplyFault;
 use crate::state::{Initiator, State};
-use admit_core::laws::waiting_are_listed;
 use cb_queue::store::RecordStore;
 use init_core::running::Profile;
 use jcl_plan::entry::Entry;
 use jcl_plan::fault::Cause;
 use jname_core::serial::Serial;
+use job_core::laws::waiting_are_listed;
 use machine_core::events;
 use plain::listed::Listed;
 use std::alloc::Global;

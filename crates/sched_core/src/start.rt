@@ -4,12 +4,12 @@ ghost use Rattle.cb_meaning.specs.declared.layout.TheConstants.{LAYOUT_1};
 ghost use Rattle.sched_core.specs.Starting.{IsForMachine};
 
 use crate::state::{Initiator, State};
-use admit_core::backlog::Backlog;
-use admit_core::cancels::Cancels;
 use cb_chain::laws::the_first_layout_holds_jobs;
 use cb_queue::store::RecordStore;
 use enq_core::table::EnqTable;
 use jcl_plan::day::Day;
+use job_core::backlog::Backlog;
+use job_core::cancels::Cancels;
 use machine_core::parts::Parts;
 use machine_meaning::config::ConfiguredInitiator;
 use prog_core::units::Units;

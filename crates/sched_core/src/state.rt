@@ -1,7 +1,7 @@
 //! The machine between two events.
-use admit_core::backlog::Backlog;
 use cb_queue::store::RecordStore;
 use init_core::running::Running;
+use job_core::backlog::Backlog;
 use machine_core::parts::Parts;
 use plain::short::Short;
 

@@ -4,7 +4,7 @@ ghost use Rattle.cb_queue.specs.RecordQueues.{empty_queue};
 ghost use Rattle.config_core.specs.Configs.{Configuration};
 ghost use Rattle.config_core.specs.Configured.{IsConfigured};
 ghost use Rattle.config_core.specs.Starts.{IsTakenApart};
-ghost use Rattle.run_laws.specs.Promises.{ArePromises};
+ghost use Rattle.law_core.specs.Promises.{ArePromises};
 ghost use Rattle.shared_core.specs.Sizes.{VolumesHaveTheirSizes};
 ghost use Rattle.world_meaning.specs.Starts.{IsStart};
 ghost use Rattle.world_meaning.specs.Transitions.{Transition};
@@ -17,7 +17,6 @@ use crate::fault::ApplyFault;
 use crate::happening::apply_in;
 use crate::start::{idle_of, started};
 use crate::state::State;
-use admit_core::laws::layout_reads_what_it_holds;
 use case_laws::starts_supplied;
 use cb_queue::store::RecordStore;
 use config_core::laws::configuration_is_start;
@@ -26,9 +25,10 @@ use init_core::running::Profile;
 use input_core::event::Event;
 use jcl_plan::entry::Entry;
 use jcl_refs::units::UnitNames;
+use job_core::laws::layout_reads_what_it_holds;
+use law_core::{promises_are_kept, starts_sound};
 use plain::listed::Listed;
 use proc_library::library::ProcLibrary;
-use run_laws::{promises_are_kept, starts_sound};
 use shared_core::store::SharedStore;
 use shared_core::sums::volumes_have_their_sizes;
 use std::alloc::{AllocError, Global};
@@ -76,13 +76,14 @@ impl<'c, Q: RecordStore> System<'c, Q> {
         fixed: &'c Fixed,
         refuses: bool,
         most_views: usize,
+        explains: bool,
     ) -> Result<System<'c, Q>, AllocError>
     where
         Q: Drop,
         requires configured { (c : Configuration) × IsConfigured c × IsTakenApart c store fixed.now }
         requires empty { Q.queue queue ≡ empty_queue (Q.queue queue).layout }
         requires layout { IsForMachine (Q.queue queue).layout }
-        ensures { IfOk result (λ m. (c : Configuration) → IsConfigured c → IsTakenApart c store fixed.now → IsStarted c refuses most_views (Q.queue queue).layout m) }
+        ensures { IfOk result (λ m. (c : Configuration) → IsConfigured c → IsTakenApart c store fixed.now → IsStarted c refuses most_views explains (Q.queue queue).layout m) }
     {
         configuration_is_start();
         starts_sound();
@@ -97,6 +98,7 @@ impl<'c, Q: RecordStore> System<'c, Q> {
                 programs: &fixed.programs,
                 refuses,
                 most_views,
+                explains,
             },
             units: fixed.units.names(),
             library: &fixed.library,

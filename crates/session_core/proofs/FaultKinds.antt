@@ -1,11 +1,14 @@
 -- Kinds of faults that no statement of a text has itself, and that its session does not tell.
-use Rattle.std.proofs.Common.{◌≡◌, ℕ, ◌+◌, Bool, true, false, cond, ◌&&◌, not, List, [], ◌∷◌, ◌++◌, map, Option, Some, None, position, is_none, codes, refl}
+use Rattle.std.proofs.Common.{◌≡◌, ℕ, ◌+◌, ◌-◌, Bool, true, false, cond, ◌&&◌, not, List, [], ◌∷◌, ◌++◌, length, map, Option, Some, None, position, is_none, codes, refl}
 use Rattle.std.specs.List.{list_any}
 use Rattle.std.specs.Str.{bytes_eq}
 use Rattle.jname_core.specs.Faults.{is_no_serial, name8_fault, unit_name_fault}
 use Rattle.machine_meaning.specs.declared.config.ConfigFault.{ConfigFault}
 use Rattle.machine_meaning.specs.declared.config.ConfigFault.TheVariants as config
+use Rattle.cb_meaning.specs.declared.layout.TheConstants.{LAYOUT_1, RECORD_BYTES}
 use Rattle.config_core.specs.Configs.{config_fault}
+use Rattle.input_core.specs.declared.event.Event.TheVariants as event
+use Rattle.input_core.specs.declared.event.TheConstants.{FIRST_OPEN}
 use Rattle.input_core.specs.declared.statement.ConfigStatement.TheVariants as statement
 use Rattle.input_core.specs.declared.statement.SetStatement.{SetStatement}
 use Rattle.session_text.specs.declared.fault.Fault.{Fault}
@@ -28,7 +31,7 @@ use Rattle.session_text.specs.Records.{filled, is_no_record}
 use Rattle.session_text.specs.Statements.{at_end, behind_end, block_to, by_line, cancel_of, cancel_with, configures, deck_of, device_end_of, device_end_with, display_of}
 use Rattle.session_text.specs.Statements.{event_by, group_of, group_with, initiator_of, initiator_with, is_end, procedure_of, program_of, program_with, says_by, says_in}
 use Rattle.session_text.specs.Statements.{says_of, set_of, set_with, statements_from, statements_of, turns_of, turns_with, unit_of, volume_of, volume_with, writes_of}
-use Rattle.session_text.specs.Statements.{writes_with}
+use Rattle.session_text.specs.Statements.{bytes_in, stays_within, writes_with, zap_by, zap_of, zap_with}
 use Rattle.session_text.specs.Volumes.{used_of}
 use Rattle.session_core.specs.Sessions.{Session, configuration_of, fault_behind, has_begun, session_behind, session_by, session_of, unless_late}
 
@@ -143,6 +146,26 @@ module _ (kind : Fault → Bool) (bad : kind fault.BadValue ≡ false) (unknown 
   cancel_free (a ∷ []) = cancel_with_free (number_within 1 9999 a)
   cancel_free (a ∷ b ∷ rest) = bad
 
+  zap_with_free : (n offset : Option ℕ) (bytes : Option (List ℕ)) → says_kind kind (zap_with n offset bytes) ≡ false
+  zap_with_free None offset bytes = bad
+  zap_with_free (Some n) None bytes = bad
+  zap_with_free (Some n) (Some offset) None = bad
+  zap_with_free (Some n) (Some offset) (Some bytes) =
+      either (says_kind kind) (stays_within offset (length bytes)) (Events (event.Zap n offset bytes) 1) (Refused fault.BadValue) refl bad
+
+  zap_by_free : (parts : List (List ℕ)) → says_kind kind (zap_by parts) ≡ false
+  zap_by_free [] = bad
+  zap_by_free (n ∷ []) = bad
+  zap_by_free (n ∷ offset ∷ []) = bad
+  zap_by_free (n ∷ offset ∷ hex ∷ []) =
+      zap_with_free (number_within 1 LAYOUT_1.most_records n) (number_within FIRST_OPEN (RECORD_BYTES - 1) offset) (bytes_in hex)
+  zap_by_free (n ∷ offset ∷ hex ∷ another ∷ rest) = bad
+
+  zap_free : (operands : List (List ℕ)) → says_kind kind (zap_of operands) ≡ false
+  zap_free [] = bad
+  zap_free (a ∷ []) = zap_by_free (listed_in a)
+  zap_free (a ∷ b ∷ rest) = bad
+
   display_free : (operands : List (List ℕ)) → says_kind kind (display_of operands) ≡ false
   display_free [] = refl
   display_free (a ∷ rest) = bad
@@ -184,7 +207,8 @@ module _ (kind : Fault → Bool) (bad : kind fault.BadValue ≡ false) (unknown 
       let p = line_kind kind in
       let last = line.One (Refused fault.UnknownStatement) in
       let display = cond (bytes_eq word (codes "DISPLAY")) (line.One (display_of operands)) last in
-      let cancel = cond (bytes_eq word (codes "CANCEL")) (line.One (cancel_of operands)) display in
+      let zap = cond (bytes_eq word (codes "ZAP")) (line.One (zap_of operands)) display in
+      let cancel = cond (bytes_eq word (codes "CANCEL")) (line.One (cancel_of operands)) zap in
       let write = cond (bytes_eq word (codes "WRITE")) (line.One (writes_of operands)) cancel in
       let device = cond (bytes_eq word (codes "DEV")) (line.One (device_end_of operands)) write in
       let turn = cond (bytes_eq word (codes "TURN")) (line.One (turns_of operands)) device in
@@ -192,9 +216,10 @@ module _ (kind : Fault → Bool) (bad : kind fault.BadValue ≡ false) (unknown 
       (either p (bytes_eq word (codes "TURN")) (line.One (turns_of operands)) device (turns_free operands)
       (either p (bytes_eq word (codes "DEV")) (line.One (device_end_of operands)) write (device_free operands)
       (either p (bytes_eq word (codes "WRITE")) (line.One (writes_of operands)) cancel (writes_free operands)
-      (either p (bytes_eq word (codes "CANCEL")) (line.One (cancel_of operands)) display (cancel_free operands)
+      (either p (bytes_eq word (codes "CANCEL")) (line.One (cancel_of operands)) zap (cancel_free operands)
+      (either p (bytes_eq word (codes "ZAP")) (line.One (zap_of operands)) display (zap_free operands)
       (either p (bytes_eq word (codes "DISPLAY")) (line.One (display_of operands)) last (display_free operands)
-      unknown)))))
+      unknown))))))
 
   says_by_free : (word : List ℕ) (operands : List (List ℕ)) → line_kind kind (says_by word operands) ≡ false
   says_by_free word operands =

@@ -29,7 +29,7 @@ use Rattle.session_core.specs.declared.RiskChoice.{RiskChoice}
 use Rattle.session_core.specs.declared.RiskChoice.TheVariants as risk
 
 abbrev pub IsFirst : Options → Configuration → Machine → Type 0
-IsFirst o c first = IsStarted c (refuses_in o) o.views LAYOUT_1 first
+IsFirst o c first = IsStarted c (refuses_in o) o.views o.explains LAYOUT_1 first
 
 abbrev without_job : ConfiguredInitiator → Initiator
 without_job x = record { number = x.number; classes = x.classes; running = None }
@@ -42,9 +42,9 @@ idle_shown c (x ∷ xs) = ap (λ ys. idle x ∷ ys) (idle_shown c xs)
 allocator : Global
 allocator = record { memory = record { seal = tt } }
 
-abbrev begun : Bool → ℕ → Configuration → Machine
-begun refuses views c = record {
-  config = start_config c refuses views LAYOUT_1;
+abbrev begun : Bool → ℕ → Bool → Configuration → Machine
+begun refuses views explains c = record {
+  config = start_config c refuses views explains LAYOUT_1;
   unit_names = unit_names c.units;
   library = c.library;
   parts = record {
@@ -66,13 +66,13 @@ begun refuses views c = record {
 nothing_kept : (c : Configuration) → IsConfigured c → (serial : List ℕ) → kept_shown c.volumes serial ≡ []
 nothing_kept c k serial = nothing_shown (mounted_in c.volumes serial) (nothing_on c.volumes k.kept serial)
 
-begun_so : StartsOfConfigurations → IsForMachine LAYOUT_1 → (refuses : Bool) (views : ℕ) (c : Configuration) → IsConfigured c →
-    IsStarted c refuses views LAYOUT_1 (begun refuses views c)
-begun_so law for_machine refuses views c k = record {
-  is_start = law c refuses views FIRST_DAY LAYOUT_1 k for_machine.link;
-  world = λ i. record (start_of c refuses views LAYOUT_1 FIRST_DAY) {
-    shared = record (start_of c refuses views LAYOUT_1 FIRST_DAY).shared { kept = λ serial. nothing_kept c k serial i };
-    initiators = idle_shown (start_config c refuses views LAYOUT_1) c.initiators i;
+begun_so : StartsOfConfigurations → IsForMachine LAYOUT_1 → (refuses : Bool) (views : ℕ) (explains : Bool) (c : Configuration) → IsConfigured c →
+    IsStarted c refuses views explains LAYOUT_1 (begun refuses views explains c)
+begun_so law for_machine refuses views explains c k = record {
+  is_start = law c refuses views explains FIRST_DAY LAYOUT_1 k for_machine.link;
+  world = λ i. record (start_of c refuses views explains LAYOUT_1 FIRST_DAY) {
+    shared = record (start_of c refuses views explains LAYOUT_1 FIRST_DAY).shared { kept = λ serial. nothing_kept c k serial i };
+    initiators = idle_shown (start_config c refuses views explains LAYOUT_1) c.initiators i;
   };
   unit_names = refl;
   library = refl;
@@ -80,7 +80,7 @@ begun_so law for_machine refuses views c k = record {
 }
 
 pub machine_begun : StartsOfConfigurations → IsForMachine LAYOUT_1 → (o : Options) (c : Configuration) → IsConfigured c → (first : Machine) × IsFirst o c first
-machine_begun law for_machine o c k = (begun (refuses_in o) o.views c, begun_so law for_machine (refuses_in o) o.views c k)
+machine_begun law for_machine o c k = (begun (refuses_in o) o.views o.explains c, begun_so law for_machine (refuses_in o) o.views o.explains c k)
 
 -- the options that a machine was started with are those in what is fixed of it
 same_choice : (choice : RiskChoice) → choice_of (is_refusal choice) ≡ choice
@@ -89,15 +89,15 @@ same_choice risk.Refuse = refl
 
 same_options : (o : Options) (c : Configuration) (first : Machine) → IsFirst o c first → options_in first.config ≡ o
 same_options o c first started =
-    ap (λ (w : World). options_in w.config) started.world ∙ ap (λ (choice : RiskChoice). record { risk = choice; views = o.views }) (same_choice o.risk)
+    ap (λ (w : World). options_in w.config) started.world ∙ ap (λ (choice : RiskChoice). record { risk = choice; views = o.views; explains = o.explains }) (same_choice o.risk)
 
 -- a machine that was started so, with an empty queue of the first layout
 pub first_of : (o : Options) (c : Configuration) (refuses : Bool) (views : ℕ) (q : RecordQueue) (first : Machine) → refuses ≡ refuses_in o → views ≡ o.views →
-    q ≡ empty_queue LAYOUT_1 → IsStarted c refuses views q.layout first → IsFirst o c first × (options_in first.config ≡ o)
+    q ≡ empty_queue LAYOUT_1 → IsStarted c refuses views o.explains q.layout first → IsFirst o c first × (options_in first.config ≡ o)
 first_of o c refuses views q first chosen viewed empty started =
-    let by_choice : IsStarted c (refuses_in o) views q.layout first = subst (λ (b : Bool). IsStarted c b views q.layout first) chosen started in
-    let by_views : IsStarted c (refuses_in o) o.views q.layout first = subst (λ (n : ℕ). IsStarted c (refuses_in o) n q.layout first) viewed by_choice in
-    let so : IsFirst o c first = subst (λ (x : RecordQueue). IsStarted c (refuses_in o) o.views x.layout first) empty by_views in
+    let by_choice : IsStarted c (refuses_in o) views o.explains q.layout first = subst (λ (b : Bool). IsStarted c b views o.explains q.layout first) chosen started in
+    let by_views : IsStarted c (refuses_in o) o.views o.explains q.layout first = subst (λ (n : ℕ). IsStarted c (refuses_in o) n o.explains q.layout first) viewed by_choice in
+    let so : IsFirst o c first = subst (λ (x : RecordQueue). IsStarted c (refuses_in o) o.views o.explains x.layout first) empty by_views in
     (so, same_options o c first so)
 
 denotes : (o : Options) (c : Configuration) (first : Machine) → IsFirst o c first → denoting first ≡ denoting_in c

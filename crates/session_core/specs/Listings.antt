@@ -21,7 +21,7 @@ text_of_all entries = flat_map (λ lines. flat_map text_of lines) entries
 pub record Lists (o : Options) (config : List Statement) (events : List Event) (listing : List ℕ) : Type 0 where
   pub first : Machine
   pub last : Machine
-  pub started : IsStarted (configuration_of config) (refuses_in o) o.views LAYOUT_1 first
+  pub started : IsStarted (configuration_of config) (refuses_in o) o.views o.explains LAYOUT_1 first
   pub entries : List (List Entry)
   pub drives : Drives first events entries last
   pub run : Runs (denoting_of config) (world_at_start o config) (map meant_by events) entries (world_of last)

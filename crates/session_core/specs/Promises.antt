@@ -1,7 +1,7 @@
 -- The promise of each ASSURED line of a session.
 use Rattle.std.specs.Prelude.{ℕ, List, map}
 use Rattle.input_core.specs.declared.event.Event.{Event}
-use Rattle.run_laws.specs.Promises.{ArePromises}
+use Rattle.law_core.specs.Promises.{ArePromises}
 use Rattle.sched_core.specs.Systems.{meant_by, world_of}
 use Rattle.session_text.specs.declared.statement.Statement.{Statement}
 use Rattle.session_core.specs.Listings.{Lists}

@@ -23,7 +23,7 @@ choice_of false = risk.Run
 choice_of true = risk.Refuse
 
 abbrev pub options_in : Config → Options
-options_in c = record { risk = choice_of c.refuses; views = c.most_views }
+options_in c = record { risk = choice_of c.refuses; views = c.most_views; explains = c.explains }
 
 -- an event, which is a step from one machine to the next, and the text before and after it
 pub record IsApplied (old : Machine) (event : Event) (new : Machine) (text new_text : List ℕ) : Type 0 where

@@ -50,7 +50,7 @@ refuses_in o = is_refusal o.risk
 
 -- the machine that they configure, before its first event, started with these options, and the job that a deck denotes in it
 abbrev pub start_in : Options → Configuration → World
-start_in o c = start_of c (refuses_in o) o.views LAYOUT_1 FIRST_DAY
+start_in o c = start_of c (refuses_in o) o.views o.explains LAYOUT_1 FIRST_DAY
 
 abbrev pub world_at_start : Options → List Statement → World
 world_at_start o statements = start_in o (configuration_of statements)

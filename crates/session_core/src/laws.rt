@@ -9,7 +9,7 @@ ghost use Rattle.session_core.specs.Sessions.{refuses_in};
 ghost use Rattle.session_core.specs.declared.Options.{Options};
 
 use config_core::laws::configuration_is_start;
-use run_laws::promises_are_kept;
+use law_core::promises_are_kept;
 use sched_core::start::first_layout_is_for_machine;
 
 /// From any listing of a session, each ASSURED line among its entries is kept.
@@ -21,7 +21,7 @@ pub fn promises_of_a_session()
 
 /// Each configuration has a machine before its first event, with whichever options it is started.
 pub fn configuration_has_a_machine()
-    ensures { (o : Options) (c : Configuration) → IsConfigured c → (first : Machine) × IsStarted c (refuses_in o) o.views LAYOUT_1 first }
+    ensures { (o : Options) (c : Configuration) → IsConfigured c → (first : Machine) × IsStarted c (refuses_in o) o.views o.explains LAYOUT_1 first }
 {
     configuration_is_start();
     first_layout_is_for_machine();

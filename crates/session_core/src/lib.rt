@@ -40,6 +40,8 @@ pub struct Options {
     pub risk: RiskChoice,
     /// The most views of the verifier.
     pub views: u16,
+    /// The path of a risk is shown.
+    pub explains: bool,
 }
 
 impl Options {

@@ -114,7 +114,7 @@ fn run_from<W: Write>(
     sink: &mut Sink<'_, W>,
 ) -> Result<SessionEnd, SessionFault>
     requires configured { (c : Configuration) × IsConfiguredBy statements.now from c × (late ≡ late_in c (drop from statements.now))
-        × IsStarted c (refuses_in (options_in system.old.config)) system.old.config.most_views LAYOUT_1 system.old }
+        × IsStarted c (refuses_in (options_in system.old.config)) system.old.config.most_views system.old.config.explains LAYOUT_1 system.old }
     requires unfailed { sink.old.failed ≡ false }
     ensures outcome { WritesOutcome (options_in system.old.config) (sink_state W.contents sink.old) (sink_state W.contents sink.new) [] (session_behind [] statements.now) result }
     ensures left { is_write_fault result ≡ false → WritesWhole (sink_state W.contents sink.old) (sink_state W.contents sink.new) system.old system.new }
@@ -175,7 +175,15 @@ pub(crate) fn run<W: Write>(
         return Err(SessionFault::Memory);
     };
     let views = usize::from(options.views);
-    let Ok(mut system) = System::new(alloc, store, queue, &fixed, options.refuses(), views) else {
+    let Ok(mut system) = System::new(
+        alloc,
+        store,
+        queue,
+        &fixed,
+        options.refuses(),
+        views,
+        options.explains,
+    ) else {
         return Err(SessionFault::Memory);
     };
     let outcome = run_from(alloc, statements, from, late, &mut system, sink);

@@ -33,15 +33,17 @@ pub(crate) struct Asked {
 #[derive(Clone, Copy)]
 enum Command {
     Risk(RiskChoice),
+    Explain,
     Calls,
     Driven,
     Statements(Ending),
     Fails(Failing, Failure),
 }
 
-const COMMANDS: [(&str, Command); 12] = [
+const COMMANDS: [(&str, Command); 13] = [
     ("risk run", Command::Risk(RiskChoice::Run)),
     ("risk refuse", Command::Risk(RiskChoice::Refuse)),
+    ("explain", Command::Explain),
     ("calls", Command::Calls),
     ("driven", Command::Driven),
     ("statements", Command::Statements(Ending::Whole)),
@@ -106,6 +108,7 @@ pub(crate) fn asked_first() -> Asked {
         options: Options {
             risk: RiskChoice::Run,
             views: 1024,
+            explains: false,
         },
         reads: calls_of(1),
         writes: calls_of(usize::MAX),
@@ -147,6 +150,7 @@ impl Asked {
         *words = ahead;
         match command {
             Some(Command::Risk(risk)) => self.options.risk = risk,
+            Some(Command::Explain) => self.options.explains = true,
             Some(Command::Calls) => self.counts = true,
             Some(Command::Driven) => self.driven = true,
             Some(Command::Statements(ending)) => self.statements = Some(ending),

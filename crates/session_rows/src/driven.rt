@@ -25,6 +25,15 @@ fn again<'a>(event: &Event<'a>) -> Option<Event<'a>> {
         Event::DeviceEnd(serial) => Some(Event::DeviceEnd(*serial)),
         Event::Write(class) => Some(Event::Write(*class)),
         Event::Cancel(job) => Some(Event::Cancel(*job)),
+        Event::Zap {
+            record,
+            offset,
+            bytes,
+        } => Some(Event::Zap {
+            record: *record,
+            offset: *offset,
+            bytes: *bytes,
+        }),
         Event::Display => Some(Event::Display),
     }
 }
@@ -92,7 +101,7 @@ fn push_entries(text: &mut Draft, entries: &[Listed<Entry>]) -> Result<(), Alloc
 fn drive(alloc: Global, config: Config, events: &[Event<'_>]) -> Result<Draft, AllocError> {
     let (store, fixed) = config.take_apart()?;
     let queue = first_queue(alloc)?;
-    let mut system = System::new(alloc, store, queue, &fixed, false, 1_024)?;
+    let mut system = System::new(alloc, store, queue, &fixed, false, 1_024, false)?;
     let first = system.drive(events);
     let (_, rest) = events.split_at(first.done);
     let then = system.drive(rest);

@@ -123,6 +123,14 @@ fn tell_config(told: &mut Told, statement: &ConfigStatement<'_>) {
     }
 }
 
+fn tell_zap(told: &mut Told, n: u32, offset: u8, bytes: &[u8]) {
+    told.numbered(b"ZAP ", u64::from(n));
+    tell_count(told, b" ", u16::from(offset));
+    for byte in bytes {
+        tell_count(told, b" ", u16::from(*byte));
+    }
+}
+
 fn tell_event(told: &mut Told, event: &Event<'_>) {
     match event {
         Event::Read(cards) => {
@@ -133,6 +141,11 @@ fn tell_event(told: &mut Told, event: &Event<'_>) {
         Event::DeviceEnd(serial) => told.two(b"DEV ", serial.as_slice()),
         Event::Write(class) => told.two(b"WRITE ", &[*class]),
         Event::Cancel(job) => tell_count(told, b"CANCEL ", *job),
+        Event::Zap {
+            record,
+            offset,
+            bytes,
+        } => tell_zap(told, *record, *offset, bytes.as_slice()),
         Event::Display => told.two(b"DISPLAY", b""),
     }
 }

@@ -3,6 +3,7 @@ pub mod Blanks
 pub mod Serials
 pub mod Extents
 pub mod Operands
+pub mod Zapped
 pub mod Feeds
 pub mod Taking
 pub mod Blocks

@@ -8,3 +8,4 @@ pub mod Programs
 pub mod Blocks
 pub mod Begun
 pub mod Statements
+pub mod Zaps

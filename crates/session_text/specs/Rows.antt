@@ -18,3 +18,8 @@ only_of _ = None
 abbrev pub two_of : List (List ℕ) → Option (List ℕ × List ℕ)
 two_of (x ∷ y ∷ []) = Some (x, y)
 two_of _ = None
+
+-- the three, where there are three
+abbrev pub three_of : List (List ℕ) → Option (List ℕ × List ℕ × List ℕ)
+three_of (x ∷ y ∷ z ∷ []) = Some (x, y, z)
+three_of _ = None

@@ -1,7 +1,11 @@
 -- The statements of a session. (This profile)
-use Rattle.std.specs.Prelude.{ℕ, ◌+◌, Bool, true, false, not, ◌&&◌, List, [], ◌∷◌, take, codes, Option, Some, None, is_none, if◌then◌else◌}
+use Rattle.std.specs.Prelude.{ℕ, ◌+◌, ◌-◌, Bool, true, false, not, ◌&&◌, nat_le, List, [], ◌∷◌, length, take, codes, Option, Some, None, is_none, if◌then◌else◌}
 use Rattle.std.specs.List.{list_any, position}
+use Rattle.std.specs.Result.{result_ok}
 use Rattle.std.specs.Str.{bytes_eq}
+use Rattle.hex.specs.Hex.{decode_of}
+use Rattle.cb_meaning.specs.declared.layout.TheConstants.{LAYOUT_1, RECORD_BYTES}
+use Rattle.input_core.specs.declared.event.TheConstants.{FIRST_OPEN, MOST_ZAPPED}
 use Rattle.extent_core.specs.declared.extent.Extent.{Extent}
 use Rattle.jname_core.specs.Faults.{is_no_serial, name8_fault, unit_name_fault}
 use Rattle.input_core.specs.declared.statement.ConfigStatement.{ConfigStatement}
@@ -109,6 +113,31 @@ abbrev pub cancel_of : List (List ℕ) → Says
 cancel_of (job ∷ []) = cancel_with (number_within 1 9999 job)
 cancel_of _ = bad
 
+-- `./ ZAP record,offset,hex`: one to 32 bytes, by hexadecimal digits of either case, that stay within the record
+abbrev pub bytes_in : List ℕ → Option (List ℕ)
+bytes_in text = result_ok (decode_of text)
+
+abbrev pub stays_within : ℕ → ℕ → Bool
+stays_within offset count = nat_le 1 count && nat_le count MOST_ZAPPED && nat_le (offset + count) RECORD_BYTES
+
+abbrev pub zap_within : ℕ → ℕ → List ℕ → Says
+zap_within n offset bytes = if stays_within offset (length bytes) then says.Events (event.Zap n offset bytes) 1 else bad
+
+abbrev pub zap_with : Option ℕ → Option ℕ → Option (List ℕ) → Says
+zap_with None offset bytes = bad
+zap_with (Some n) None bytes = bad
+zap_with (Some n) (Some offset) None = bad
+zap_with (Some n) (Some offset) (Some bytes) = zap_within n offset bytes
+
+abbrev pub zap_by : List (List ℕ) → Says
+zap_by (n ∷ offset ∷ hex ∷ []) =
+    zap_with (number_within 1 LAYOUT_1.most_records n) (number_within FIRST_OPEN (RECORD_BYTES - 1) offset) (bytes_in hex)
+zap_by _ = bad
+
+abbrev pub zap_of : List (List ℕ) → Says
+zap_of (operand ∷ []) = zap_by (listed_in operand)
+zap_of _ = bad
+
 -- `./ DISPLAY`
 abbrev pub display_of : List (List ℕ) → Says
 display_of [] = says.Events event.Display 1
@@ -160,8 +189,9 @@ event_by word operands =
     else (if bytes_eq word (codes "DEV") then line.One (device_end_of operands)
     else (if bytes_eq word (codes "WRITE") then line.One (writes_of operands)
     else (if bytes_eq word (codes "CANCEL") then line.One (cancel_of operands)
+    else (if bytes_eq word (codes "ZAP") then line.One (zap_of operands)
     else (if bytes_eq word (codes "DISPLAY") then line.One (display_of operands)
-    else line.One (says.Refused fault.UnknownStatement))))))
+    else line.One (says.Refused fault.UnknownStatement)))))))
 
 -- configuration, or an event
 abbrev pub says_by : List ℕ → List (List ℕ) → LineSays

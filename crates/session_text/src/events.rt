@@ -7,6 +7,7 @@ use crate::fault::Fault;
 use crate::fields::{next_field, only_field};
 use crate::statement::{Block, LineSays, Says};
 use crate::values::{before_star, class_of, serial_in, times_in};
+use crate::zaps::zap;
 use input_core::event::Event;
 use jname_core::decimal::number_within;
 
@@ -96,6 +97,8 @@ pub(crate) fn event_by(word: &[u8], operands: &[u8]) -> LineSays<'static>
         LineSays::One(writes(operands))
     } else if word == b"CANCEL".as_slice() {
         LineSays::One(cancel(operands))
+    } else if word == b"ZAP".as_slice() {
+        LineSays::One(zap(operands))
     } else if word == b"DISPLAY".as_slice() {
         LineSays::One(display(operands))
     } else {

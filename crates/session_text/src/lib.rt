@@ -14,3 +14,4 @@ mod sets;
 pub mod statement;
 mod values;
 mod volumes;
+mod zaps;

@@ -1,5 +1,9 @@
 pub mod Earliest
 pub mod Ended
+pub mod Explanations
+pub mod Lines
+pub mod LinesEnded
+pub mod LinesTaken
 pub mod Meanings
 pub mod Runs
 pub mod Verdicts

@@ -1,19 +1,21 @@
 -- A job that sees the same of two stores as it starts: what is told of it in the one stands in the other. (This profile)
-use Rattle.std.specs.Prelude.{◌≡◌, ℕ, List}
+use Rattle.std.specs.Prelude.{◌≡◌, ◌≤◌, ℕ, List, length}
 use Rattle.jname_core.specs.declared.key.Key.{Key}
 use Rattle.jcl_plan.specs.declared.fault.Fault.{Fault}
 use Rattle.jcl_plan.specs.declared.outcome.Outcome.{Outcome}
 use Rattle.jcl_plan.specs.declared.plan.JobPlan.{JobPlan}
 use Rattle.jcl_meaning.specs.declared.state.Place.{Place}
-use Rattle.jcl_meaning.specs.Agendas.{path_agenda}
+use Rattle.jcl_meaning.specs.declared.program.SoloProgram.{SoloProgram}
+use Rattle.jcl_meaning.specs.Agendas.{budget_of, path_agenda}
 use Rattle.jcl_meaning.specs.Names.{names_of}
 use Rattle.jcl_meaning.specs.Parts.{part_of}
 use Rattle.jcl_meaning.specs.Resolutions.{meanings_of}
-use Rattle.jcl_meaning.specs.Solo.{nothing_own}
+use Rattle.jcl_meaning.specs.Solo.{nothing_own, solo_path_of}
 use Rattle.jcl_meaning.specs.States.{Fixed}
 use Rattle.jcl_meaning.specs.Stores.{Store}
 use Rattle.jcl_meaning.specs.Views.{shown_set}
 use Rattle.part_laws.specs.Fits.{Fits}
+use Rattle.path_meaning.specs.Explanations.{path_lines}
 use Rattle.path_meaning.specs.Verdicts.{IsEarliest, IsFirstWithMore, IsFree}
 
 -- A job sees the same of two stores: of each set under its names whether it is there, and unexpired on this date; and each entry.
@@ -40,6 +42,16 @@ FreeIsSeen = (fixed : Fixed) (plan : JobPlan) (s t : Store) (limit : ℕ) (place
 abbrev pub EarliestIsSeen : Type 0
 EarliestIsSeen = (fixed : Fixed) (plan : JobPlan) (s t : Store) (limit : ℕ) (fault : Fault) (step dd : ℕ) (path : List Outcome) → IsAnalysed fixed plan →
     SeesSame plan fixed.date s t → IsEarliest fixed plan s limit fault step dd path → IsEarliest fixed plan t limit fault step dd path
+
+-- On one path it writes the same lines in both.
+abbrev pub PathIsSeen : Type 0
+PathIsSeen = (fixed : Fixed) (plan : JobPlan) (s t : Store) (outcomes : List Outcome) → IsAnalysed fixed plan → SeesSame plan fixed.date s t →
+    (solo_path_of fixed plan s outcomes).lines ≡ (solo_path_of fixed plan t outcomes).lines
+
+-- What explains a risk, on whatever path, is no longer than the job's budget.
+abbrev pub ExplanationIsFew : Type 0
+ExplanationIsFew = (fixed : Fixed) (plan : JobPlan) (store : Store) (path : List Outcome) (programs : List SoloProgram) →
+    length (path_lines fixed plan store path) ≤ budget_of plan programs
 
 -- The first step with more views than the limit is the same.
 abbrev pub FirstWithMoreIsSeen : Type 0

@@ -2,7 +2,7 @@
 //! does nothing, and its contract is the law.
 #![tactic(auto)]
 
-ghost use Rattle.start_laws.specs.Starts.{EarliestIsSeen, FirstWithMoreIsSeen, FreeIsSeen, MeaningsAreSeen};
+ghost use Rattle.start_laws.specs.Starts.{EarliestIsSeen, ExplanationIsFew, FirstWithMoreIsSeen, FreeIsSeen, MeaningsAreSeen, PathIsSeen};
 
 use part_laws::same_meanings;
 
@@ -23,7 +23,17 @@ pub fn earliest_is_seen()
     ensures { EarliestIsSeen }
 {}
 
+/// Along one list of outcomes a job writes the same lines in both.
+pub fn path_is_seen()
+    ensures { PathIsSeen }
+{}
+
 /// The first step with too many views is the same.
 pub fn first_with_more_is_seen()
     ensures { FirstWithMoreIsSeen }
+{}
+
+/// What explains a risk is no longer than the job's budget.
+pub fn explanation_is_few()
+    ensures { ExplanationIsFew }
 {}

@@ -41,7 +41,6 @@ pub record WritesAnalyses : Type 0 where
   pub risk_later : of_job (line.Risk F8 6 64 (outcome.Code 0 ∷ outcome.Abend (abend.User 0) ∷ outcome.Abend abend.S806 ∷ outcome.Bypassed ∷ outcome.Flushed ∷ []))
       ≡ codes "0017 RISK F8 STEP 6 DD 64 PATH C0000,U0000,S806,B,F\n"
   pub too_many : of_job (line.TooMany 32) ≡ codes "0017 TOOMANY STEP 32\n"
-  pub unchecked : of_job line.Unchecked ≡ codes "0017 UNCHECKED\n"
   pub refused : of_job line.Refused ≡ codes "0017 REFUSED\n"
   pub cancelled : of_job line.Cancelled ≡ codes "0017 CANCELLED\n"
 
@@ -146,6 +145,8 @@ pub record WritesOthers : Type 0 where
   pub job_1 : text_of (entry.Job 1 line.End) ≡ codes "0001 END\n"
   pub job_9999 : text_of (entry.Job 9999 line.End) ≡ codes "9999 END\n"
   pub job_10000 : text_of (entry.Job 10000 line.End) ≡ codes "10000 END\n"
+  pub path : text_of (entry.Path 1 (line.Take 1 (Some (codes "T")) (take.Made (codes "VOL001")))) ≡ codes "-- PATH 0001 TAKE 1 T MADE VOL001\n"
+  pub path_to_its_fault : text_of (entry.Path 17 (line.Fault F1 3 1)) ≡ codes "-- PATH 0017 FAULT F1 STEP 3 DD 1\n"
   pub cancel : text_of (entry.Cancel 8) ≡ codes "-- CANCEL 0008\n"
   pub cancel_of_the_last : text_of (entry.Cancel 65535) ≡ codes "-- CANCEL 65535\n"
   pub free_tracks : text_of (entry.Volume (codes "VOL001") 97 0) ≡ codes "-- VOL001 FREE 97 KEPT 0\n"

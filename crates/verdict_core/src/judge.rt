@@ -7,13 +7,12 @@ ghost use Rattle.shared_core.specs.Shown.{world_store_of};
 ghost use Rattle.world_meaning.specs.Lenses.{seen};
 ghost use Rattle.verdict_core.specs.Judging.{IsJudged};
 
-use crate::verdict::verdict_in;
+use crate::verdict::{Finding, verdict_in};
 use disp_core::resolve::meanings_of;
 use jcl_meaning::state::{KeyMeaning, Place};
 use jcl_plan::day::Day;
 use jcl_plan::plan::JobPlan;
 use jname_core::serial::Serial;
-use path_search::verdict::Verdict;
 use place_core::place::place_sets;
 use plain::listed::Listed;
 use shared_core::store::SharedStore;
@@ -24,7 +23,7 @@ use std::alloc::{AllocError, Global};
 pub struct Judged {
     pub places: Listed<Place>,
     pub meanings: Listed<KeyMeaning>,
-    pub verdict: Verdict,
+    pub finding: Finding,
 }
 
 /// Places a job's sets and tells what may become of it so, on a date, with this many views behind a step at most. The store is as it was.
@@ -36,16 +35,17 @@ pub fn judge(
     units: &[Listed<Serial>],
     date: Day,
     most_views: usize,
+    explains: bool,
 ) -> Result<Judged, AllocError>
     requires none { NothingKeptFor job store.old }
     requires plan { IsWellFormedPlan plan.now }
     requires groups { HasSoundGroups (seen job (world_store_of store.old)) }
-    ensures judged { IfOk result (IsJudged store.old units.now job plan.now date most_views) }
+    ensures judged { IfOk result (IsJudged store.old units.now job plan.now date most_views explains) }
     ensures store { store.new ≡ store.old }
 {
     let places = place_sets(alloc, store, job, plan, units)?;
     let meanings = meanings_of(alloc, plan, &*store, job)?;
-    let verdict = verdict_in(
+    let finding = verdict_in(
         alloc,
         &*store,
         job,
@@ -53,10 +53,11 @@ pub fn judge(
         places.as_slice(),
         date,
         most_views,
+        explains,
     )?;
     Ok(Judged {
         places,
         meanings,
-        verdict,
+        finding,
     })
 }

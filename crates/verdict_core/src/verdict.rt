@@ -3,24 +3,73 @@ ghost use Rattle.std.specs.Prelude.{◌≡◌, IfOk};
 ghost use Rattle.jcl_meaning.specs.Solo.{fixed_in};
 ghost use Rattle.jcl_meaning.specs.WellFormed.{IsWellFormedPlan};
 ghost use Rattle.part_laws.specs.Keeping.{HasSoundGroups};
-ghost use Rattle.path_search.specs.Verdicts.{IsVerdict};
+ghost use Rattle.jcl_meaning.specs.Stores.{store_of};
+ghost use Rattle.path_core.specs.Starts.{fixed_from};
 ghost use Rattle.place_core.specs.Placings.{serials_of};
 ghost use Rattle.shared_core.specs.Shown.{world_store_of};
+ghost use Rattle.verdict_core.specs.Judging.{IsFound, path_of};
 ghost use Rattle.world_meaning.specs.Lenses.{seen};
 
 use jcl_meaning::names::names_of;
 use jcl_meaning::state::Place;
 use jcl_plan::day::Day;
+use jcl_plan::entry::JobLine;
 use jcl_plan::plan::JobPlan;
 use part_core::part::part_of;
 use part_laws::start_fits;
 use path_core::analyse::analyse;
+use path_core::explain::path_lines;
 use path_core::start::StartView;
 use path_search::verdict::Verdict;
 use plain::listed::Listed;
 use shared_core::store::SharedStore;
-use start_laws::{earliest_is_seen, first_with_more_is_seen, free_is_seen, meanings_are_seen};
+use start_laws::{
+    earliest_is_seen, first_with_more_is_seen, free_is_seen, meanings_are_seen, path_is_seen,
+};
 use std::alloc::{AllocError, Global};
+
+/// What may become of a job, and the lines of the path to its risk, where they are asked for.
+#[derive(Drop)]
+pub struct Finding {
+    pub verdict: Verdict,
+    pub path: Listed<JobLine>,
+}
+
+/// The lines of the path to a risk, where they are asked for.
+fn path_to(
+    alloc: Global,
+    plan: &JobPlan,
+    start: &StartView,
+    verdict: &Verdict,
+    explains: bool,
+) -> Result<Listed<JobLine>, AllocError>
+    ensures { IfOk result (λ path. path ≡ path_of explains (fixed_from start.now plan.now) plan.now (store_of start.now.store) verdict.now) }
+{
+    if !explains {
+        return Ok(Listed::empty(alloc));
+    }
+    match verdict {
+        Verdict::Risk(report) => path_lines(alloc, plan, start, report.path.as_slice()),
+        Verdict::Safe(_) => Ok(Listed::empty(alloc)),
+        Verdict::TooMany { .. } => Ok(Listed::empty(alloc)),
+    }
+}
+
+/// What may become of a job that starts so.
+fn find(
+    alloc: Global,
+    plan: &JobPlan,
+    start: &StartView,
+    explains: bool,
+) -> Result<Finding, AllocError>
+    requires plan { IsWellFormedPlan plan.now }
+    requires groups { HasSoundGroups (store_of start.now.store) }
+    ensures { IfOk result (IsFound (fixed_from start.now plan.now) plan.now (store_of start.now.store) start.now.most_views explains) }
+{
+    let verdict = analyse(alloc, plan, start)?;
+    let path = path_to(alloc, plan, start, &verdict, explains)?;
+    Ok(Finding { verdict, path })
+}
 
 /// What may become of a job in the store as it sees it, where its sets are placed so, on a date, with this many views behind a step at most. It is found
 /// on a copy of what stands under the job's names; the store is as it was.
@@ -32,17 +81,19 @@ pub fn verdict_in(
     places: &[Place],
     date: Day,
     most_views: usize,
-) -> Result<Verdict, AllocError>
+    explains: bool,
+) -> Result<Finding, AllocError>
     requires plan { IsWellFormedPlan plan.now }
     requires groups { HasSoundGroups (seen job (world_store_of store.now)) }
-    ensures { IfOk result (IsVerdict (fixed_in (serials_of store.now.volumes) (seen job (world_store_of store.now)) plan.now places.now date) plan.now
-        (seen job (world_store_of store.now)) most_views) }
+    ensures { IfOk result (IsFound (fixed_in (serials_of store.now.volumes) (seen job (world_store_of store.now)) plan.now places.now date) plan.now
+        (seen job (world_store_of store.now)) most_views explains) }
 {
     start_fits();
     meanings_are_seen();
     free_is_seen();
     earliest_is_seen();
     first_with_more_is_seen();
+    path_is_seen();
     let names = names_of(alloc, plan)?;
     let part = part_of(alloc, store, job, names.as_slice())?;
     let places = Listed::copy_of(alloc, places)?;
@@ -52,5 +103,5 @@ pub fn verdict_in(
         date,
         most_views,
     };
-    analyse(alloc, plan, &start)
+    find(alloc, plan, &start, explains)
 }

@@ -18,7 +18,7 @@ use Rattle.part_laws.specs.Fits.{Fits}
 use Rattle.part_laws.specs.Keeping.{AreCompatible, SameNamed}
 use Rattle.part_laws.proofs.Others.{unseen_by_other}
 use Rattle.world_meaning.specs.declared.event.Event.{Event}
-use Rattle.world_meaning.specs.Admissions.{Answered, MayFail, assured, fixed_at, no_space, refused, risk, risky, too_many, unchecked}
+use Rattle.world_meaning.specs.Admissions.{Answered, MayFail, assured, fixed_at, no_space, refused, risk, risky, too_many}
 use Rattle.world_meaning.specs.Cancels.{is_admitted}
 use Rattle.world_meaning.specs.Holdings.{Holds, ReadsRecords, blocked, broken, held, read}
 use Rattle.world_meaning.specs.Lenses.{WorldStore, put_back, seen}
@@ -120,7 +120,6 @@ answered_store c old r plan fixed lines new runs (assured places kept free safe 
 answered_store c old r plan fixed lines new runs (no_space serial there t n goes_on) = ap (λ (s : Shared). s.store) n
 answered_store c old r plan fixed lines new runs (risk fault step dd path meets m) = may_fail_store c old r plan fixed _ lines new runs m
 answered_store c old r plan fixed lines new runs (too_many step low high views m) = may_fail_store c old r plan fixed _ lines new runs m
-answered_store c old r plan fixed lines new runs (unchecked b t n goes_on) = ap (λ (s : Shared). s.store) n
 
 -- what any event leaves of a job's part
 goes_keep : (c : Config) (old : Shared) (r : Running) (stage : Stage) (lines : List JobLine) (new : Shared) (runs : Option Running) (job : ℕ)

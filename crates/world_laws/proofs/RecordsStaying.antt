@@ -14,7 +14,7 @@ use Rattle.cb_meaning.specs.Spelled.{Records}
 use Rattle.cb_meaning.specs.Walks.{is_free, owner_of}
 use Rattle.world_meaning.specs.declared.event.Event.{Event}
 use Rattle.world_meaning.specs.declared.event.Event.TheVariants as event
-use Rattle.world_meaning.specs.Admissions.{Answered, MayFail, assured, fixed_at, no_space, refused, risk, risky, too_many, unchecked}
+use Rattle.world_meaning.specs.Admissions.{Answered, MayFail, assured, fixed_at, no_space, refused, risk, risky, too_many}
 use Rattle.world_meaning.specs.Cancels.{CancelsJob, RunsNot, admitted as cancels_admitted, no_job, selected as cancels_selected, waiting as cancels_waiting}
 use Rattle.world_meaning.specs.Devices.{ended, idle, no_volume, nothing_written, wrote}
 use Rattle.world_meaning.specs.Displays.{set}
@@ -84,7 +84,6 @@ answered_records c old r plan fixed lines new runs (assured places kept free saf
 answered_records c old r plan fixed lines new runs (no_space serial there t n goes_on) = inl (ap (λ (s : Shared). s.records) n)
 answered_records c old r plan fixed lines new runs (risk fault step dd path meets m) = may_fail_records c old r plan fixed _ lines new runs m
 answered_records c old r plan fixed lines new runs (too_many step low high views m) = may_fail_records c old r plan fixed _ lines new runs m
-answered_records c old r plan fixed lines new runs (unchecked b t n goes_on) = inl (ap (λ (s : Shared). s.records) n)
 
 goes_records : (c : Config) (old : Shared) (r : Running) (stage : Stage) (lines : List JobLine) (new : Shared) (runs : Option Running) →
     GoesOn c old r stage lines new runs → LeavesRecords c old r new runs

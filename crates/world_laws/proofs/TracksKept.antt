@@ -10,7 +10,7 @@ use Rattle.jcl_meaning.specs.declared.state.Own.{Own}
 use Rattle.jcl_meaning.specs.declared.state.Place.{Place}
 use Rattle.jcl_meaning.specs.States.{Fixed}
 use Rattle.world_meaning.specs.declared.event.Event.{Event}
-use Rattle.world_meaning.specs.Admissions.{Answered, MayFail, assured, fixed_at, no_space, refused, risk, risky, too_many, unchecked}
+use Rattle.world_meaning.specs.Admissions.{Answered, MayFail, assured, fixed_at, no_space, refused, risk, risky, too_many}
 use Rattle.world_meaning.specs.Cancels.{RunsNot, is_admitted}
 use Rattle.world_meaning.specs.Holdings.{Holds, ReadsRecords, blocked, broken, held, read}
 use Rattle.world_meaning.specs.Tracks.{is_kept_for, kept_of, kept_unless_made, kept_without}
@@ -78,7 +78,6 @@ module _ (job : ℕ) (c : Config) (old : Shared) (r : Running) (apart : r.job �
   answered_kept plan fixed (no_space v there t n goes_on) = ap (λ (s : Shared). kept_of job s.kept serial) n
   answered_kept plan fixed (risk fault step dd path meets m) = may_fail_kept plan fixed _ m
   answered_kept plan fixed (too_many step low high views m) = may_fail_kept plan fixed _ m
-  answered_kept plan fixed (unchecked b t n goes_on) = ap (λ (s : Shared). kept_of job s.kept serial) n
 
   advances_kept : (plan : JobPlan) (a : Admission) (count : ℕ) (own : Own) → Advances c old r plan a count own lines new runs →
       kept_of job new.kept serial ≡ kept_of job old.kept serial

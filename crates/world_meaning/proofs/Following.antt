@@ -1,5 +1,5 @@
 -- Steps of the machine, put together: what a case of the table needs beside the case itself.
-use Rattle.std.proofs.Common.{◌≡◌, ℕ, ◌+◌, ◌<◌, Bool, true, false, List, Option, Some, None, refl, sym, ap, ◌∙◌, subst}
+use Rattle.std.proofs.Common.{◌≡◌, ℕ, ◌+◌, ◌<◌, Bool, true, false, List, [], Option, Some, None, refl, sym, ap, ◌∙◌, subst}
 use Rattle.std.specs.Prelude.{slice_get}
 use Rattle.std.specs.Str.{bytes_eq}
 use Rattle.jcl_plan.specs.declared.entry.Entry.{Entry}
@@ -19,7 +19,7 @@ use Rattle.world_meaning.specs.Lenses.{put_back, seen, with_world_set}
 use Rattle.world_meaning.specs.Readings.{Denoting}
 use Rattle.world_meaning.specs.Records.{Reopened}
 use Rattle.world_meaning.specs.Tracks.{kept_unless_made, kept_without, tracks_of}
-use Rattle.world_meaning.specs.Transitions.{Acts, Does, GoesOn, acts, Transition, taken}
+use Rattle.world_meaning.specs.Transitions.{Acts, Does, GoesOn, acts, Transition, explained_by, taken, told_with}
 use Rattle.world_meaning.specs.Turns.{Advanced, Advances, acts as does_act, ends, advanced, with_output, is_over, must_wait, cancels_after, operations_after}
 use Rattle.world_meaning.specs.Worlds.{Admission, Admitted, Config, Initiator, Running, Shared, World, counted, going_on, of_job, with_running}
 use Rattle.world_meaning.proofs.Conserved.{conserved_same, conserved_there, with_free}
@@ -36,14 +36,15 @@ happened job_of w new e lines few does = taken few (record { middle = new; does 
 
 -- a turn of a job, and its case
 pub turned : (job_of : Denoting) (w : World) (place : ℕ) (x : Initiator) (r : Running) (lines : List JobLine) (shared : Shared) (runs : Option Running) →
-    w.events < MOST_EVENTS → slice_get w.initiators place ≡ Some x → x.running ≡ Some r → GoesOn w.config w.shared r r.stage lines shared runs →
+    w.events < MOST_EVENTS → slice_get w.initiators place ≡ Some x → x.running ≡ Some r → (goes : GoesOn w.config w.shared r r.stage lines shared runs) →
+    explained_by w.config w.shared r r.stage lines shared runs goes ≡ [] →
     Transition job_of w (event.Turn x.number) (of_job r.job lines) (record (counted w) { shared = shared; initiators = with_running w.initiators place x runs })
-turned job_of w place x r lines shared runs few at running goes =
+turned job_of w place x r lines shared runs few at running goes unexplained =
     let new : World = record (counted w) { shared = shared; initiators = with_running w.initiators place x runs } in
     happened job_of w new (event.Turn x.number) (of_job r.job lines) few
     (acts place x at refl
     (subst (λ now. Acts (counted w) place x now (of_job r.job lines) new) (sym running)
-    (record { job_lines = lines; shared = shared; runs = runs; goes = goes; told = refl; leaves = refl })))
+    (record { job_lines = lines; shared = shared; runs = runs; goes = goes; told = ap (told_with r.job lines) (sym unexplained); leaves = refl })))
 
 -- an action that leaves the store as it is
 abbrev pub store_kept : Shared → ℕ → Advanced → Shared

@@ -1,4 +1,4 @@
--- A job whose names are held is admitted, waits for space, or is refused: ASSURED, WAIT SPACE, RISK, TOOMANY, UNCHECKED, REFUSED.
+-- A job whose names are held is admitted, waits for space, or is refused: ASSURED, WAIT SPACE, RISK, TOOMANY, REFUSED.
 use Rattle.std.specs.Prelude.{◌≡◌, ℕ, ◌≤◌, Bool, true, false, ◌&&◌, ◌==◌, List, [], ◌∷◌, length, Option, Some, None, sum_by, All}
 use Rattle.std.specs.List.{Contains, list_any}
 use Rattle.jcl_plan.specs.declared.entry.JobLine.{JobLine}
@@ -13,6 +13,8 @@ use Rattle.jcl_meaning.specs.Agendas.{budget_of}
 use Rattle.jcl_meaning.specs.Solo.{fixed_in, nothing_own}
 use Rattle.jcl_meaning.specs.States.{Fixed}
 use Rattle.jcl_meaning.specs.Takes.{primary_of}
+use Rattle.jcl_meaning.specs.Stores.{Store}
+use Rattle.path_meaning.specs.Explanations.{path_lines}
 use Rattle.path_meaning.specs.Paths.{HasMoreViews, IsSafe, MeetsFault}
 use Rattle.path_meaning.specs.Verdicts.{AreMade}
 use Rattle.cb_meaning.specs.Writable.{kind_at}
@@ -56,16 +58,6 @@ pub record AreKept (plan : JobPlan) (job : ℕ) (places : List Place) (kept : Li
   pub all : (p : Place) → Contains places p → list_any (is_kept_for job p p.serial) (kept p.serial) ≡ true
   pub once : (serial : List ℕ) → all_different is_same_dd (kept_of job kept serial) ≡ true
 
--- some DD is for a set
-abbrev pub is_for_set : DdKind → Bool
-is_for_set (Set p) = true
-is_for_set Dummy = false
-is_for_set (Sysout class) = false
-is_for_set (Cards cards) = false
-
-abbrev pub names_a_set : JobPlan → Bool
-names_a_set plan = list_any (λ step. list_any (λ d. is_for_set d.kind) step.dds) plan.steps
-
 abbrev pub admitted : Running → List JobLine → JobPlan → Fixed → Bool → Option Running
 admitted r lines plan fixed assured = going_on r lines (Admitted plan (record { fixed = fixed; assured = assured }) 0 nothing_own)
 
@@ -77,7 +69,7 @@ pub data MayFail (c : Config) (old : Shared) (r : Running) (plan : JobPlan) (fix
       MayFail c old r plan fixed told lines new runs
 
 -- ASSURED t TRACKS b ACTIONS: no path meets a fault, and the primary of every DD is kept on each volume where some path makes its set. WAIT SPACE serial,
--- RISK Fn STEP s DD d PATH p, TOOMANY STEP s; and UNCHECKED of a job that names a set, as long as nothing analyses it.
+-- RISK Fn STEP s DD d PATH p, TOOMANY STEP s.
 pub data Answered (c : Config) (old : Shared) (r : Running) (plan : JobPlan) (fixed : Fixed)
     (lines : List JobLine) (new : Shared) (runs : Option Running) : Type 0 where
   assured : (made : List Place) (kept : List ℕ → List Kept) (free : List ℕ → ℕ) → IsSafe fixed plan (seen r.job old.store) →
@@ -91,8 +83,11 @@ pub data Answered (c : Config) (old : Shared) (r : Running) (plan : JobPlan) (fi
       MayFail c old r plan fixed (line.Risk fault step dd path) lines new runs → Answered c old r plan fixed lines new runs
   too_many : (step : ℕ) → 1 ≤ step → step ≤ length plan.steps → HasMoreViews fixed plan (seen r.job old.store) step c.most_views →
       MayFail c old r plan fixed (line.TooMany step) lines new runs → Answered c old r plan fixed lines new runs
-  unchecked : names_a_set plan ≡ true → lines ≡ line.Unchecked ∷ [] → new ≡ old → runs ≡ admitted r lines plan fixed false →
-      Answered c old r plan fixed lines new runs
+
+-- The lines behind a RISK line: those of the job's solo path on the path that it tells, up to the fault, where they are asked for.
+abbrev pub explained : Bool → Fixed → JobPlan → Store → List JobLine → List JobLine
+explained true fixed plan store (line.Risk fault step dd path ∷ lines) = path_lines fixed plan store path
+explained other fixed plan store lines = []
 
 -- The placement is chosen, and what the job's relative names mean is found, at the line that is written here.
 pub record Admits (c : Config) (old : Shared) (r : Running) (plan : JobPlan) (lines : List JobLine) (new : Shared) (runs : Option Running) : Type 0 where

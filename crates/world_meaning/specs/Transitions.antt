@@ -1,5 +1,5 @@
 -- What may follow an event: the table of cases. An event is refused exactly where its case says so, and then changes the count of events alone.
-use Rattle.std.specs.Prelude.{◌≡◌, ℕ, ◌<◌, ◌≤◌, List, [], ◌∷◌, Option, Some, None}
+use Rattle.std.specs.Prelude.{◌≡◌, ℕ, ◌<◌, ◌≤◌, List, [], ◌∷◌, ◌++◌, map, Option, Some, None}
 use Rattle.jcl_plan.specs.declared.entry.Entry.{Entry}
 use Rattle.jcl_plan.specs.declared.entry.Entry.TheVariants as entry
 use Rattle.jcl_plan.specs.declared.entry.JobLine.{JobLine}
@@ -8,11 +8,12 @@ use Rattle.jcl_plan.specs.declared.fault.EventFault.TheVariants.{NoSuchInitiator
 use Rattle.machine_meaning.specs.declared.machine.TheConstants.{MOST_EVENTS}
 use Rattle.world_meaning.specs.declared.event.Event.{Event}
 use Rattle.world_meaning.specs.declared.event.Event.TheVariants as event
-use Rattle.world_meaning.specs.Admissions.{Admits}
+use Rattle.world_meaning.specs.Admissions.{Admits, explained, fixed_at}
 use Rattle.world_meaning.specs.Cancels.{CancelsJob}
 use Rattle.world_meaning.specs.Devices.{EndsDevice, Writes}
 use Rattle.world_meaning.specs.Displays.{SetsDate, shown_lines}
 use Rattle.world_meaning.specs.Holdings.{Holds, ReadsRecords}
+use Rattle.world_meaning.specs.Lenses.{seen}
 use Rattle.world_meaning.specs.Readings.{Denoting, Reads}
 use Rattle.world_meaning.specs.Records.{Reopened}
 use Rattle.world_meaning.specs.Selections.{Selects}
@@ -27,12 +28,29 @@ GoesOn c old r (Wanting plan) lines new runs = Holds old r plan lines new runs
 GoesOn c old r (Named plan) lines new runs = Admits c old r plan lines new runs
 GoesOn c old r (Admitted plan a count own) lines new runs = Advances c old r plan a count own lines new runs
 
+-- what of it explains a risk
+abbrev pub explained_by : (c : Config) (old : Shared) (r : Running) (stage : Stage) (lines : List JobLine) (new : Shared) (runs : Option Running) →
+    GoesOn c old r stage lines new runs → List JobLine
+explained_by c old r (Selected first) lines new runs g = []
+explained_by c old r (Wanting plan) lines new runs g = []
+explained_by c old r (Named plan) lines new runs g = explained c.explains (fixed_at c old r.job plan g.places) plan (seen r.job old.store) lines
+explained_by c old r (Admitted plan a count own) lines new runs g = []
+
+-- PATH lines stand behind the line that they explain, before another of the same turn.
+abbrev pub behind_first : ℕ → List JobLine → List Entry → List Entry
+behind_first job [] path = path
+behind_first job (first ∷ lines) path = entry.Job job first ∷ (path ++ of_job job lines)
+
+abbrev pub told_with : ℕ → List JobLine → List JobLine → List Entry
+told_with job lines [] = of_job job lines
+told_with job lines (first ∷ path) = behind_first job lines (map (entry.Path job) (first ∷ path))
+
 pub record Goes (old : World) (place : ℕ) (x : Initiator) (r : Running) (lines : List Entry) (new : World) : Type 0 where
   pub job_lines : List JobLine
   pub shared : Shared
   pub runs : Option Running
   pub goes : GoesOn old.config old.shared r r.stage job_lines shared runs
-  pub told : lines ≡ of_job r.job job_lines
+  pub told : lines ≡ told_with r.job job_lines (explained_by old.config old.shared r r.stage job_lines shared runs goes)
   pub leaves : new ≡ record old { shared = shared; initiators = with_running old.initiators place x runs }
 
 abbrev pub Acts : World → ℕ → Initiator → Option Running → List Entry → World → Type 0

@@ -15,7 +15,7 @@ use Rattle.prog_core.specs.declared.units.Operation.{Operation}
 use Rattle.world_meaning.specs.Lenses.{WorldStore}
 
 -- What the session's configuration fixes: the serials of the volumes, the volumes of each unit name, by its number from 1, the programs, the
--- layout of the queue's records, whether jobs that may fail are refused, and the limit of views.
+-- layout of the queue's records, whether jobs that may fail are refused, the limit of views, and whether a risk's path is shown.
 pub record Config : Type 0 where
   pub volumes : List (List ℕ)
   pub units : List (List (List ℕ))
@@ -23,6 +23,7 @@ pub record Config : Type 0 where
   pub layout : Layout
   pub refuses : Bool
   pub most_views : ℕ
+  pub explains : Bool
 
 -- tracks that are kept on a volume for the set that a DD of a job is to make there
 pub record Kept : Type 0 where

@@ -7,7 +7,7 @@ use Rattle.jcl_plan.specs.declared.entry.JobLine.{JobLine}
 use Rattle.machine_meaning.specs.declared.machine.TheConstants.{MOST_EVENTS}
 use Rattle.world_meaning.specs.declared.event.Event.TheVariants as event
 use Rattle.world_meaning.specs.Readings.{Denoting}
-use Rattle.world_meaning.specs.Transitions.{Acts, Goes, GoesOn, Transition, Turns, past, taken, unknown, acts}
+use Rattle.world_meaning.specs.Transitions.{Acts, Goes, GoesOn, Transition, Turns, explained_by, past, taken, told_with, unknown, acts}
 use Rattle.world_meaning.specs.Worlds.{Initiator, Running, Shared, World, counted, of_job}
 use Rattle.world_rows.specs.Machines.{initiator}
 
@@ -17,7 +17,7 @@ pub record GoesSo (w : World) (r : Running) (told : List Entry) (new : World) : 
   pub shared : Shared
   pub runs : Option Running
   pub goes : GoesOn w.config w.shared r r.stage lines shared runs
-  pub told_so : told ≡ of_job r.job lines
+  pub told_so : told ≡ told_with r.job lines (explained_by w.config w.shared r r.stage lines shared runs goes)
   pub holds : new.shared.holds ≡ shared.holds
 
 -- the place of number 1 is the first

@@ -39,7 +39,7 @@ abbrev pub few_records : Layout
 few_records = record LAYOUT_1 { most_records = 8 }
 
 abbrev pub config : List SoloProgram → Config
-config programs = record { volumes = serial ∷ []; units = (serial ∷ []) ∷ []; programs = programs; layout = few_records; refuses = false; most_views = 1024 }
+config programs = record { volumes = serial ∷ []; units = (serial ∷ []) ∷ []; programs = programs; layout = few_records; refuses = false; most_views = 1024; explains = false }
 
 -- jobs
 abbrev pub step_with : Option (List ℕ) → List ℕ → List DdPlan → StepPlan

@@ -29,7 +29,7 @@ abbrev pub are_held : List Did
 are_held =
     says (event.Turn 1) (codes "0001 NAMES 1")
     ∷ says (event.Turn 2) (codes "0002 WAIT NAMES 0001 R.SET")
-    ∷ says (event.Turn 1) (codes "0001 UNCHECKED")
+    ∷ says (event.Turn 1) (codes "0001 ASSURED 0 TRACKS 5 ACTIONS")
     ∷ []
 
 abbrev pub are_used : List Did

@@ -1,6 +1,6 @@
 use Rattle.std.proofs.Common.{subst, sym, ◌∙◌}
-use Rattle.admission_core.specs.Admitted.{IsAnswered}
-use Rattle.admission_core.specs.declared.admit.Terms.{Terms}
+use Rattle.admit_core.specs.Admitted.{IsAnswered}
+use Rattle.admit_core.specs.declared.admit.Terms.{Terms}
 use Rattle.init_core.specs.Going.{Went}
 use Rattle.init_core.specs.Running.{config_of}
 use Rattle.init_core.specs.declared.running.Progress.TheVariants.{Answered}
@@ -25,7 +25,7 @@ returns-else-is_turned_away-clause-ok g c =
     let p = c.args.parts.now in
     let config = config_of c.args.profile.now (queue_of p.queue).layout in
     subst (λ (r : Running). Went queue_of config p (record { job = c.args.job; walk = c.args.walk; stage = stage.Named c.args.plan c.args.held })
-    (record p { store = c.admit.new.store }) (Answered r c.in-Ok.field-0.line)) (sym c.behind_answer.ensures.is)
+    (record p { store = c.admit.new.store }) (Answered r (record { line = c.in-Ok.field-0.line; path = c.in-Ok.field-0.path }))) (sym c.behind_answer.ensures.is)
     (goes_on queue_of c.args.profile.now p c.args.job c.args.walk c.args.plan c.args.held c.requires.good c.requires.some c.requires.its_own c.admit.new.store
     c.admit.new.listing c.in-Ok.field-0 c.in-Ok.ensures.told
     (subst (λ (t : Terms). IsAnswered p.store t c.args.job c.args.plan p.date c.admit.new.store c.in-Ok.field-0) c.terms-terms.ensures c.in-Ok.ensures.ok)

@@ -15,18 +15,21 @@ returns-in_err-matches g c =
 pub returns-in-Some : goal.returns-in-Some
 returns-in-Some g c =
     let program : IsProgram (app_of c.in_ok-command.command) = c.in_ok-command.ensures in
-    let free : fault_of (app_of c.in_ok-command.command) (map g.S.AsStr.text c.args.words.now) ≡ [] = c.in_ok-matches.ensures.kinds (program_is_free _ program) in
+    let free : fault_of (app_of c.in_ok-command.command) (map g.S.AsStr.text c.args.words.now) ≡ [] =
+    c.in_ok-matches.ensures.kinds (program_is_free _ program) in
     let rows : rows_of (found_of c.in_ok-matches.matches) ≡ matches_of (app_of c.in_ok-command.command) (map g.S.AsStr.text c.args.words.now) =
     (c.in_ok-matches.ensures.ok.2 (program_is_simple _ program)).0 in
-    is_taken _ _ _ program free (options_read c.in_ok-matches.matches _ rows _ _ c.risk_of.ensures c.in-Some.ensures)
+    is_taken _ _ _ program free (options_read c.in_ok-matches.matches _ rows _ _ _ c.risk_of.ensures c.in-Some.ensures c.explains_of.ensures)
 
 pub returns-in_err-error-in-None : goal.returns-in_err-error-in-None
-returns-in_err-error-in-None g c = memory_wants (map g.S.AsStr.text c.args.words.now) c.from_residual-in_err-error-in-None.result c.from_residual-in_err-error-in-None.ensures.1
+returns-in_err-error-in-None g c =
+    memory_wants (map g.S.AsStr.text c.args.words.now) c.from_residual-in_err-error-in-None.result c.from_residual-in_err-error-in-None.ensures.1
 
 pub returns : goal.returns
 returns g c =
     let program : IsProgram (app_of c.in_ok-command.command) = c.in_ok-command.ensures in
-    let free : fault_of (app_of c.in_ok-command.command) (map g.S.AsStr.text c.args.words.now) ≡ [] = c.in_ok-matches.ensures.kinds (program_is_free _ program) in
+    let free : fault_of (app_of c.in_ok-command.command) (map g.S.AsStr.text c.args.words.now) ≡ [] =
+    c.in_ok-matches.ensures.kinds (program_is_free _ program) in
     let rows : rows_of (found_of c.in_ok-matches.matches) ≡ matches_of (app_of c.in_ok-command.command) (map g.S.AsStr.text c.args.words.now) =
     (c.in_ok-matches.ensures.ok.2 (program_is_simple _ program)).0 in
     views_fail _ _ _ program free (views_unread c.in_ok-matches.matches _ rows c.in-None.ensures) c.in_ok-error-in-None.ensures.kind

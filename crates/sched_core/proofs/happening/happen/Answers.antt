@@ -3,6 +3,7 @@ use Rattle.jcl_job.specs.Jobs.{job_of}
 use Rattle.world_meaning.specs.Devices.{Writes}
 use Rattle.world_meaning.specs.Readings.{Reads}
 use Rattle.world_meaning.specs.Transitions.{Does, Shows}
+use Rattle.world_meaning.specs.Zaps.{ZapsRecord}
 use Rattle.sched_core.specs.Events.{Answers, DoesSo, RefusesFirst}
 use Rattle.sched_core.specs.Machines.{config_in, world_in}
 use Rattle.sched_core.specs.Systems.{meant_by}
@@ -104,6 +105,16 @@ returns-in-Cancel-clause-refusal g c =
     let job = job_of c.args.units.now c.args.library.now in
     let w = world_in queue_of config s in
     subst (λ e. RefusesFirst c.cancel.result (Does job w (meant_by e))) (sym c.in-Cancel.is) c.cancel.ensures.refusal
+
+pub returns-in-Zap-clause-refusal : goal.returns-in-Zap-clause-refusal
+returns-in-Zap-clause-refusal g c =
+    let queue_of = g.Q.RecordStore.queue in
+    let s = c.args.state.now in
+    let config = config_in queue_of c.args.profile.now s in
+    let job = job_of c.args.units.now c.args.library.now in
+    let w = world_in queue_of config s in
+    subst (λ e. RefusesFirst c.zap.result (Does job w (meant_by e))) (sym c.in-Zap.is)
+    (subst (λ bytes. RefusesFirst c.zap.result (ZapsRecord w c.in-Zap.n c.in-Zap.offset bytes)) c.as_slice-in-Zap.ensures.value c.zap.ensures.refusal)
 
 pub returns-in-Display-clause-answer : goal.returns-in-Display-clause-answer
 returns-in-Display-clause-answer g c =

@@ -3,7 +3,7 @@ use Rattle.sched_core.specs.declared.state.Initiator.{Initiator}
 use Rattle.std.proofs.lemmas.Option.{slice_get_within}
 use Rattle.sched_core.specs.Happening.{IsSeat}
 use Rattle.sched_core.specs.Machines.{config_in, world_in}
-use Rattle.sched_core.proofs.Happened.{never_refused, refused, seat_idle, seat_runs, selects_acts, turn_answer}
+use Rattle.sched_core.proofs.Happened.{never_refused, refused, refused_first, seat_idle, seat_runs, selects_acts, turn_answer}
 use Rattle.sched_core.proofs.happening.turn.Goals as goal
 
 pub returns-in_default-clause-answer : goal.returns-in_default-clause-answer
@@ -13,6 +13,11 @@ returns-in_default-clause-answer g c =
           (subst (λ xs. All (λ (x : Initiator). x.number ≢ c.args.number) xs) c.as_slice.ensures.value (c.in_default.ensures.none)),
       refl,
     )
+
+pub returns-in_default-clause-refusal : goal.returns-in_default-clause-refusal
+returns-in_default-clause-refusal g c =
+    let s = c.args.state.now in
+    refused_first g.Q.RecordStore.queue (config_in g.Q.RecordStore.queue c.args.profile.now s) s c.args.number _ refl
 
 pub index-requires : goal.index-requires
 index-requires g c =

@@ -14,7 +14,7 @@ input_of (event.DeviceEnd serial) is = (input.DeviceEnd serial, refl)
 input_of (event.Write class) is = (input.Write class, refl)
 input_of (event.Cancel job) is = (input.Cancel job, refl)
 input_of event.Display is = (input.Display, refl)
-input_of (event.Zap n offset bytes) is = absurd is
+input_of (event.Zap n offset bytes) is = (input.Zap n offset bytes, refl)
 input_of (event.Date day) is = absurd is
 
 is_input : (i : Event) → IsInput (meant_by i)
@@ -23,6 +23,7 @@ is_input (input.Turn number) = tt
 is_input (input.DeviceEnd serial) = tt
 is_input (input.Write class) = tt
 is_input (input.Cancel job) = tt
+is_input (input.Zap n offset bytes) = tt
 is_input input.Display = tt
 
 -- the input back again
@@ -33,7 +34,7 @@ input_again other (event.DeviceEnd serial) = input.DeviceEnd serial
 input_again other (event.Write class) = input.Write class
 input_again other (event.Cancel job) = input.Cancel job
 input_again other event.Display = input.Display
-input_again other (event.Zap n offset bytes) = other
+input_again other (event.Zap n offset bytes) = input.Zap n offset bytes
 input_again other (event.Date day) = other
 
 again_is : (other i : Event) → input_again other (meant_by i) ≡ i
@@ -43,6 +44,7 @@ again_is other (input.Turn number) = refl
 again_is other (input.DeviceEnd serial) = refl
 again_is other (input.Write class) = refl
 again_is other (input.Cancel job) = refl
+again_is other (input.Zap n offset bytes) = refl
 again_is other input.Display = refl
 
 pub returns : goal.returns

@@ -9,7 +9,6 @@ returns c = record {
   risk_at_once = refl;
   risk_later = refl;
   too_many = refl;
-  unchecked = refl;
   refused = refl;
   cancelled = refl;
 }

@@ -50,7 +50,7 @@ returns c job_of = record {
       (
         _,
         _,
-        turned job_of _ 0 _ _ _ _ _ (lit≤ tt) refl refl (broken 4 _ refl refl refl (conserved_same _ _ refl refl refl) refl),
+        turned job_of _ 0 _ _ _ _ _ (lit≤ tt) refl refl (broken 4 _ refl refl refl (conserved_same _ _ refl refl refl) refl) refl,
         refl,
         (
           _,

@@ -16,12 +16,12 @@ returns c job_of = record {
   reach = (
     _,
     _,
-    turned job_of _ 0 _ _ _ _ _ (lit≤ tt) refl refl (acted_on _ _ _ _ _ _ _ _ true true name serial (Some (set_of 1 [])) 99 refl (λ h. refl) refl refl refl refl refl refl),
+    turned job_of _ 0 _ _ _ _ _ (lit≤ tt) refl refl (acted_on _ _ _ _ _ _ _ _ true true name serial (Some (set_of 1 [])) 99 refl (λ h. refl) refl refl refl refl refl refl) refl,
     refl,
     (
       _,
       _,
-      turned job_of _ 0 _ _ _ _ _ (lit≤ tt) refl refl (acted_on _ _ _ _ _ _ _ _ true true name serial (Some (set_of 1 [])) 99 refl (λ h. refl) refl refl refl refl refl refl),
+      turned job_of _ 0 _ _ _ _ _ (lit≤ tt) refl refl (acted_on _ _ _ _ _ _ _ _ true true name serial (Some (set_of 1 [])) 99 refl (λ h. refl) refl refl refl refl refl refl) refl,
       refl,
       (
         _,
@@ -31,22 +31,22 @@ returns c job_of = record {
         (
           _,
           _,
-          turned job_of _ 0 _ _ _ _ _ (lit≤ tt) refl refl (acted _ _ _ _ _ _ _ _ true true refl (λ h. refl) refl refl refl refl),
+          turned job_of _ 0 _ _ _ _ _ (lit≤ tt) refl refl (acted _ _ _ _ _ _ _ _ true true refl (λ h. refl) refl refl refl refl) refl,
           refl,
           (
             _,
             _,
-            turned job_of _ 0 _ _ _ _ _ (lit≤ tt) refl refl (acted_on _ _ _ _ _ _ _ _ true true name serial (None) 100 refl (λ h. refl) refl refl refl refl refl refl),
+            turned job_of _ 0 _ _ _ _ _ (lit≤ tt) refl refl (acted_on _ _ _ _ _ _ _ _ true true name serial (None) 100 refl (λ h. refl) refl refl refl refl refl refl) refl,
             refl,
             (
               _,
               _,
-              turned job_of _ 0 _ _ _ _ _ (lit≤ tt) refl refl (acted _ _ _ _ _ _ _ _ true true refl (λ h. refl) refl refl refl refl),
+              turned job_of _ 0 _ _ _ _ _ (lit≤ tt) refl refl (acted _ _ _ _ _ _ _ _ true true refl (λ h. refl) refl refl refl refl) refl,
               refl,
               (
                 _,
                 _,
-                turned job_of _ 0 _ _ _ _ _ (lit≤ tt) refl refl (acted _ _ _ _ _ _ _ _ true true refl (λ h. refl) refl refl refl refl),
+                turned job_of _ 0 _ _ _ _ _ (lit≤ tt) refl refl (acted _ _ _ _ _ _ _ _ true true refl (λ h. refl) refl refl refl refl) refl,
                 refl,
                 refl,
               ),

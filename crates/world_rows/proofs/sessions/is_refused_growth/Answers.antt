@@ -15,24 +15,24 @@ returns c job_of = record {
     _,
     _,
     turned job_of _ 1 _ _ _ _ _ (lit≤ tt) refl refl (acted_on _ _ _ _ _ _ _ _ true true name serial (Some (set_of 0 [])) 1
-        refl (λ h. refl) refl refl refl refl refl refl),
+        refl (λ h. refl) refl refl refl refl refl refl) refl,
     refl,
     (
       _,
       _,
       turned job_of _ 1 _ _ _ _ _ (lit≤ tt) refl refl (acted_on _ _ _ _ _ _ _ _ false true name serial (Some (set_of 0 [])) 1
-          refl (λ h. refl) refl refl refl refl refl refl),
+          refl (λ h. refl) refl refl refl refl refl refl) refl,
       refl,
       (
         _,
         _,
         turned job_of _ 1 _ _ _ _ _ (lit≤ tt) refl refl (acted_on _ _ _ _ _ _ _ _ true true name serial None 1
-            refl (λ h. refl) refl refl refl refl refl refl),
+            refl (λ h. refl) refl refl refl refl refl refl) refl,
         refl,
         (
           _,
           _,
-          turned job_of _ 1 _ _ _ _ _ (lit≤ tt) refl refl (ended _ _ _ _ _ _ _ _ true true refl (λ h. refl) refl refl refl refl),
+          turned job_of _ 1 _ _ _ _ _ (lit≤ tt) refl refl (ended _ _ _ _ _ _ _ _ true true refl (λ h. refl) refl refl refl refl) refl,
           refl,
           refl,
         ),

@@ -22,17 +22,17 @@ returns c job_of = record {
   reach = (
     _,
     _,
-    turned job_of _ 1 _ _ _ _ _ (lit≤ tt) refl refl (acted_on _ _ _ _ _ _ _ _ true true new_name serial (Some (set_of 1 [])) 97 refl (λ h. refl) refl refl refl refl refl refl),
+    turned job_of _ 1 _ _ _ _ _ (lit≤ tt) refl refl (acted_on _ _ _ _ _ _ _ _ true true new_name serial (Some (set_of 1 [])) 97 refl (λ h. refl) refl refl refl refl refl refl) refl,
     refl,
     (
       _,
       _,
-      turned job_of _ 1 _ _ _ _ _ (lit≤ tt) refl refl (acted _ _ _ _ _ _ _ _ true true refl (λ h. refl) refl refl refl refl),
+      turned job_of _ 1 _ _ _ _ _ (lit≤ tt) refl refl (acted _ _ _ _ _ _ _ _ true true refl (λ h. refl) refl refl refl refl) refl,
       refl,
       (
         _,
         _,
-        turned job_of _ 1 _ _ _ _ _ (lit≤ tt) refl refl (acts _ true true (with_free (with_free (free_tracks 98) serial 97) serial 98) refl (λ h. refl) refl refl refl refl (conserved_there _ _ (world.Named (codes "PAY.G.G0001V00")) serial None 98 refl (ap (λ w. w.set) (put_named 2 (with_world_set store (world.Named new_name) serial (Some (set_of 1 []))) (codes "PAY.G.G0001V00") serial None)) refl refl refl) refl),
+        turned job_of _ 1 _ _ _ _ _ (lit≤ tt) refl refl (acts _ true true (with_free (with_free (free_tracks 98) serial 97) serial 98) refl (λ h. refl) refl refl refl refl (conserved_there _ _ (world.Named (codes "PAY.G.G0001V00")) serial None 98 refl (ap (λ w. w.set) (put_named 2 (with_world_set store (world.Named new_name) serial (Some (set_of 1 []))) (codes "PAY.G.G0001V00") serial None)) refl refl refl) refl) refl,
         refl,
         (
           _,

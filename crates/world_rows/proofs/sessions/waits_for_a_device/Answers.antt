@@ -17,12 +17,12 @@ returns c job_of = record {
   reach = (
     _,
     _,
-    turned job_of _ 0 _ _ _ _ _ (lit≤ tt) refl refl (acted _ _ _ _ _ _ _ _ true true refl (λ h. refl) refl refl refl refl),
+    turned job_of _ 0 _ _ _ _ _ (lit≤ tt) refl refl (acted _ _ _ _ _ _ _ _ true true refl (λ h. refl) refl refl refl refl) refl,
     refl,
     (
       _,
       _,
-      turned job_of _ 1 _ _ _ _ _ (lit≤ tt) refl refl (waits _ true true refl refl refl refl refl),
+      turned job_of _ 1 _ _ _ _ _ (lit≤ tt) refl refl (waits _ true true refl refl refl refl refl) refl,
       refl,
       (
         _,
@@ -32,12 +32,12 @@ returns c job_of = record {
         (
           _,
           _,
-          turned job_of _ 0 _ _ _ _ _ (lit≤ tt) refl refl (acted _ _ _ _ _ _ _ _ true true refl (λ h. refl) refl refl refl refl),
+          turned job_of _ 0 _ _ _ _ _ (lit≤ tt) refl refl (acted _ _ _ _ _ _ _ _ true true refl (λ h. refl) refl refl refl refl) refl,
           refl,
           (
             _,
             _,
-            turned job_of _ 1 _ _ _ _ _ (lit≤ tt) refl refl (acted _ _ _ _ _ _ _ _ true true refl (λ h. refl) refl refl refl refl),
+            turned job_of _ 1 _ _ _ _ _ (lit≤ tt) refl refl (acted _ _ _ _ _ _ _ _ true true refl (λ h. refl) refl refl refl refl) refl,
             refl,
             refl,
           ),

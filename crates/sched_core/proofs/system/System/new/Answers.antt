@@ -14,6 +14,7 @@ invariant_of-result g c =
       programs = record { ref_ptr = c.args.fixed.ref_ptr; now = fixed.programs };
       refuses = c.args.refuses;
       most_views = c.args.most_views;
+      explains = c.args.explains;
     } in
     record {
       kept = begins_kept g.Q.RecordStore.queue c.args.store c.args.queue fixed p c.started.result c.started.ensures.parts
@@ -33,9 +34,10 @@ returns g c = λ config configured apart.
       programs = record { ref_ptr = c.args.fixed.ref_ptr; now = fixed.programs };
       refuses = c.args.refuses;
       most_views = c.args.most_views;
+      explains = c.args.explains;
     } in
     record {
-      is_start = c.configuration_is_start.ensures config c.args.refuses c.args.most_views FIRST_DAY _ configured c.requires.layout.link;
+      is_start = c.configuration_is_start.ensures config c.args.refuses c.args.most_views c.args.explains FIRST_DAY _ configured c.requires.layout.link;
       world = world_at g.Q.RecordStore.queue c.args.store c.args.queue fixed p c.started.result c.started.ensures.parts
           (c.started.ensures.initiators ∙ c.in_ok-initiators.ensures ∙ ap (map idle_seat) c.as_slice.ensures)
           c.started.ensures.backlog c.started.ensures.jobs c.started.ensures.events c.as_slice-2.ensures c.volumes.ensures refl c.requires.empty c.requires.layout

@@ -1,5 +1,0 @@
-use Rattle.admit_core.proofs.Selected.{found, missing, removed}
-use Rattle.admit_core.proofs.laws.waiting_are_queued.Goals as goal
-
-pub returns : goal.returns
-returns c = record { removed = removed; found = found; missing = missing }

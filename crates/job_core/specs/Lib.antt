@@ -1,0 +1,10 @@
+pub mod Backlogs
+pub mod Cancelled
+pub mod Entering
+pub mod Layouts
+pub mod Listed
+pub mod Naming
+pub mod Reads
+pub mod Releases
+pub mod Selecting
+pub mod Zapping

@@ -1,0 +1,22 @@
+mod Acting
+pub mod AssuredAlone
+pub mod Admitting
+pub mod Alone
+pub mod Elements
+pub mod Explained
+pub mod Fitting
+pub mod Following
+pub mod Gone
+pub mod Holding
+pub mod Keeping
+pub mod Moves
+pub mod NextTurns
+pub mod Over
+pub mod Places
+pub mod PlainLines
+pub mod Promising
+pub mod Reading
+pub mod Sound
+pub mod Starting
+pub mod Voices
+pub mod Waiting

@@ -1,0 +1,4 @@
+pub mod KeepsPart
+pub mod Soundness
+pub mod Promises
+pub mod Waits

@@ -1,3 +1,0 @@
-pub mod KeepsPart
-pub mod Soundness
-pub mod Promises

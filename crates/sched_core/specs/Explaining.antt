@@ -1,0 +1,16 @@
+-- The most lines by which what a job is answered next may be explained.
+use Rattle.std.specs.Prelude.{ℕ, if◌then◌else◌}
+use Rattle.jcl_meaning.specs.Agendas.{budget_of}
+use Rattle.init_core.specs.declared.running.Profile.{Profile}
+use Rattle.init_core.specs.declared.running.Running.{Running}
+use Rattle.init_core.specs.declared.running.Stage.{Stage}
+use Rattle.init_core.specs.declared.running.Stage.TheVariants.{Admitted, Named, Selected, Wanting}
+
+abbrev pub most_explained_at : Profile → Stage → ℕ
+most_explained_at p (Selected first) = 0
+most_explained_at p (Wanting plan wants) = 0
+most_explained_at p (Named plan held) = budget_of plan p.programs.now
+most_explained_at p (Admitted plan held a) = 0
+
+abbrev pub most_explained : Profile → Running → ℕ
+most_explained p r = if p.explains then most_explained_at p r.stage else 0
