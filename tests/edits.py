@@ -1,7 +1,8 @@
 """Tries the edits of tests/edits/ as the gate tries those of crates/NAME/must-fail/: the prover must refuse each.
 
-The gate has those of the calls that carry a property of docs/PROVED.md; all of them would make it too long. An edit that was refused
-is not tried again until it, its crate or a crate below that one has changed: what was refused stands in out/edits, a line each.
+The gate has those of the calls that carry a property of docs/PROVED.md; all of them would make it too long. What the gate
+proved on this machine before is not proved again. An edit that was refused is not tried again until it, its crate or a
+crate below that one has changed: what was refused stands in out/edits, a line each.
 Usage: python3 tests/edits.py [--all] [CRATE..]
 """
 
@@ -59,13 +60,16 @@ def are_refused(crate, edits):
     """Tries these edits of a crate in a copy of the repository, and returns whether the prover refuses each."""
     with tempfile.TemporaryDirectory() as work:
         copy = os.path.join(work, "copy")
-        shutil.copytree(".", copy, symlinks=True)
+        shutil.copytree(".", copy, symlinks=True, ignore=shutil.ignore_patterns(".git", "out"))
         folder = os.path.join(copy, "crates", crate, "must-fail")
         shutil.rmtree(folder, ignore_errors=True)
         os.mkdir(folder)
         for edit in edits:
             shutil.copy(edit, folder)
-        return subprocess.run(["rt", "must-fail", crate], cwd=copy, check=False).returncode == 0
+        run = subprocess.run(["rt", "ci", crate], cwd=copy, stdout=subprocess.PIPE, stderr=subprocess.STDOUT, text=True, check=False)
+        said = [line for line in run.stdout.splitlines() if line.startswith("rt: ")]
+        print("\n".join(line for line in said if f"must-fail {crate}/" in line or "FAILED" in line or "BAD EDIT" in line), flush=True)
+        return run.returncode == 0 and not any("BAD EDIT" in line for line in said)
 
 
 def main():
