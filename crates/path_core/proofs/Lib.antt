@@ -1,5 +1,6 @@
 pub mod Explained
 mod Certified
+mod Ending
 mod Locating
 mod Marked
 mod Members

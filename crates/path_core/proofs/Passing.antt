@@ -1,9 +1,10 @@
 -- The path of a report is taken: along it the fault is met where it is told.
-use Rattle.std.proofs.Common.{◌≡◌, ◌+◌, ◌-◌, ◌++◌, ◌==◌, ◌≤◌, ◌<◌, ℕ, zero, suc, true, false, List, [], ◌∷◌, Some, drop, take, length, map, refl, sym, ap, ◌∙◌, subst, arith}
+use Rattle.std.proofs.Common.{eqb-true, ltb, ltb-true, ltb-false}
+use Rattle.std.proofs.Common.{◌≡◌, ◌+◌, ◌-◌, ◌++◌, ◌==◌, ◌≤◌, ◌<◌, ℕ, zero, suc, Bool, true, false, Option, List, [], ◌∷◌, Some, drop, take, length, map, refl, sym, ap, ◌∙◌, subst, arith}
 use Rattle.std.specs.Prelude.{All, slice_get}
 use Rattle.std.specs.List.{Contains}
 use Rattle.std.proofs.lemmas.List.{drop_all, length-append, length-take-le}
-use Rattle.std.proofs.lemmas.List.Elements.{All-head}
+use Rattle.std.proofs.lemmas.List.Elements.{All-contains, All-head}
 use Rattle.std.proofs.lemmas.Option.{slice_get_within}
 use Rattle.jcl_plan.specs.declared.fault.Fault.{Fault}
 use Rattle.jcl_plan.specs.declared.outcome.Fate.{Fate}
@@ -29,7 +30,7 @@ use Rattle.reach_laws.specs.Paths.{before_part}
 use Rattle.reach_laws.proofs.Before.{fits_before}
 use Rattle.reach_laws.proofs.Fates.{tells_fates}
 use Rattle.reach_laws.proofs.Faults.{met_within}
-use Rattle.reach_laws.proofs.Parts.{front_of, path_begins}
+use Rattle.reach_laws.proofs.Parts.{cut_at_part, front_of, path_begins}
 use Rattle.solo_core.specs.Meets.{meets_in}
 use Rattle.solo_core.proofs.Runs.{meets_in-append}
 use Rattle.view_laws.specs.PathParts.{IsBefore, next_outcome, part_from, part_runs, path_part}
@@ -50,6 +51,10 @@ none_below (m ∷ ms) later bound place low high h =
     let less : m.place < bound = All-head (λ (m : Met). m.place < bound) m ms low in
     let more : place ≤ m.place = All-head (λ (m : Met). place ≤ m.place) m (ms ++ later) high in
     absurd (omega arith)
+
+none_in : (ms : List Met) {m : Met} → (length ms == 0) ≡ true → Contains ms m → ⊥
+none_in [] e (n, h, is) = absurd (omega (arith, h))
+none_in (x ∷ ms) e there = let size : length (x ∷ ms) ≡ 0 = eqb-true (length (x ∷ ms)) 0 e in absurd (omega (arith, size))
 
 -- an element of a front of a list
 get_take : (n k : ℕ) (xs : List Fate) → k < n → slice_get (take n xs) k ≡ slice_get xs k
@@ -75,15 +80,14 @@ module _ (n dd : ℕ) (d : DdPlan) where
   in_front (x ∷ xs) ys zero never is = omega arith
   in_front (x ∷ xs) ys (suc k) never is = let less : k < length xs = in_front xs ys k never is in omega arith
 
--- a step's take meets the same, whatever outcomes are given for it and those behind it
-take_meets : (fixed : Fixed) (k m : ℕ) (step : StepPlan) (at n dd : ℕ) (d : DdPlan) (b : Answers) (s : State) → s.answers.primary ≡ b.primary →
-    slice_get (Start m step ∷ (takes_from m 1 step.dds ++ (Finish m ∷ disposes_from m 1 step.dds))) at ≡ Some (Take n dd d) →
+-- before what is behind its takes a step meets the same, whatever outcomes are given for it and those behind it
+take_meets : (fixed : Fixed) (m : ℕ) (step : StepPlan) (at : ℕ) (b : Answers) (s : State) → s.answers.primary ≡ b.primary →
+    at < length (Start m step ∷ takes_from m 1 step.dds) →
     slice_get (meets_in fixed (Start m step ∷ (takes_from m 1 step.dds ++ (Finish m ∷ disposes_from m 1 step.dds))) (beside b s)) at
     ≡ slice_get (meets_in fixed (Start m step ∷ (takes_from m 1 step.dds ++ (Finish m ∷ disposes_from m 1 step.dds))) s) at
-take_meets fixed k m step at n dd d b s primary is =
+take_meets fixed m step at b s primary less =
     let front : List Action = Start m step ∷ takes_from m 1 step.dds in
     let rest : List Action = Finish m ∷ disposes_from m 1 step.dds in
-    let less : at < length front = in_front n dd d front rest at (no_take_behind n dd d m 1 step.dds) is in
     let there : (t : State) → slice_get (meets_in fixed (front ++ rest) t) at ≡ slice_get (meets_in fixed front t) at = λ t.
     let size : length (meets_in fixed front t) ≡ length front = meets_size fixed front t in
     ap (λ ms. slice_get ms at) (meets_in-append fixed front rest t)
@@ -151,6 +155,23 @@ module _ (fixed : Fixed) (plan : JobPlan) (store : Store) (job : fixed.job_tests
     clean_too : j ≤ ended → is_clean (ran_to fixed plan store j ps) ≡ true
     clean_too h = ap (λ faults. length faults == 0) (sym (same h).faults) ∙ clean
 
+    -- before that none is met there,
+    none_then : (i : ℕ) (f : Fault) → i < at → slice_get (meets_in fixed (path_part plan j) (ran_to fixed plan store j os).state) i ≡ Some (Some f) → ⊥
+    none_then i f h e =
+        let met = met_from fixed (path_agenda plan) (at_start store (given os)) (before_part plan j + i) f
+        (meets_at_part fixed plan store j i os (omega (arith, h, less)) ∙ e) in
+        let late : earliest.meets.place ≤ before_part plan j + i =
+        All-contains (λ (m : Met). earliest.meets.place ≤ m.place) (solo_path_of fixed plan store os).faults _ (earliest.none_before os earliest.meets.within) met in
+        absurd (omega (arith, late, place, h))
+
+    -- what the part meets elsewhere it meets there, if its faults are the same
+    met_back : (t : State) → (run fixed (path_part plan j) (ran_to fixed plan store j os).state).faults ≡ (run fixed (path_part plan j) t).faults →
+        (i : ℕ) (f : Fault) → slice_get (meets_in fixed (path_part plan j) t) i ≡ Some (Some f) →
+        slice_get (meets_in fixed (path_part plan j) (ran_to fixed plan store j os).state) i ≡ Some (Some f)
+    met_back t faults i f e =
+        meets_from fixed (path_part plan j) (ran_to fixed plan store j os).state i f
+        (subst (λ (ms : List Met). Contains ms (record { place = i; fault = f })) (sym faults) (met_from fixed (path_part plan j) t i f e))
+
     -- and in the part along the path, if the part meets the same faults there,
     met_there : (t : State) → (run fixed (path_part plan j) (ran_to fixed plan store j os).state).faults ≡ (run fixed (path_part plan j) t).faults →
         slice_get (meets_in fixed (path_part plan j) t) at ≡ Some (Some fault)
@@ -158,9 +179,14 @@ module _ (fixed : Fixed) (plan : JobPlan) (store : Store) (job : fixed.job_tests
         meets_from fixed (path_part plan j) t at fault (subst (λ (ms : List Met). Contains ms (record { place = at; fault = fault })) faults
         (met_from fixed (path_part plan j) (ran_to fixed plan store j os).state at fault met_then))
 
+    -- it is met there, and none before it
+    abbrev IsFirst : Type 0
+    IsFirst = (slice_get (meets_in fixed (path_part plan j) here) at ≡ Some (Some fault))
+        × ((i : ℕ) (f : Fault) → i < at → slice_get (meets_in fixed (path_part plan j) here) i ≡ Some (Some f) → ⊥)
+
     -- which it does at a take, whatever comes then
     met_at_take : j ≤ ended → (first : StepPlan) (later : List StepPlan) → drop j plan.steps ≡ first ∷ later → (n e : ℕ) (d : DdPlan) →
-        earliest.meets.action ≡ Take n e d → slice_get (meets_in fixed (path_part plan j) here) at ≡ Some (Some fault)
+        earliest.meets.action ≡ Take n e d → IsFirst
     met_at_take h first later is n e d take =
         let own : Answers = given (drop j os) in
         let before : IsBefore here (drop j ps) = stands fixed plan store j ps within (clean_too h) in
@@ -172,16 +198,24 @@ module _ (fixed : Fixed) (plan : JobPlan) (store : Store) (job : fixed.job_tests
         part_sees plan fixed j ahead.0 (ran_to fixed plan store j os).state (beside own here) (drop j os) (drop j os) job (same h).view
         (stands fixed plan store j os within clean) (record { unfaulted = before.unfaulted; answers = refl })
         (λ runs. same_class (j + 1) plan.tests.items (drop (j + 1) plan.steps) (next_outcome (drop j os))) ahead.1 in
-        ap (λ (actions : List Action). slice_get (meets_in fixed actions here) at) part
-        ∙ sym (take_meets fixed j (j + 1) first at n e d own here (ap (λ (a : Answers). a.primary) before.answers)
-        (ap (λ (actions : List Action). slice_get actions at) (sym part) ∙ there ∙ ap Some take))
-        ∙ ap (λ (actions : List Action). slice_get (meets_in fixed actions (beside own here)) at) (sym part)
-        ∙ met_there (beside own here) did.faults
+        let front : List Action = Start (j + 1) first ∷ takes_from (j + 1) 1 first.dds in
+        let rest : List Action = Finish (j + 1) ∷ disposes_from (j + 1) 1 first.dds in
+        let inside : at < length front = in_front n e d front rest at (no_take_behind n e d (j + 1) 1 first.dds)
+        (ap (λ (actions : List Action). slice_get actions at) (sym part) ∙ there ∙ ap Some take) in
+        let same_meets : (i : ℕ) → i < length front →
+        slice_get (meets_in fixed (path_part plan j) here) i ≡ slice_get (meets_in fixed (path_part plan j) (beside own here)) i = λ i less_here.
+        ap (λ (actions : List Action). slice_get (meets_in fixed actions here) i) part
+        ∙ sym (take_meets fixed (j + 1) first i own here (ap (λ (a : Answers). a.primary) before.answers) less_here)
+        ∙ ap (λ (actions : List Action). slice_get (meets_in fixed actions (beside own here)) i) (sym part) in (
+          same_meets at inside ∙ met_there (beside own here) did.faults,
+          λ i f before_it e. none_then i f before_it (met_back (beside own here) did.faults i f (sym (same_meets i (omega (arith, before_it, inside))) ∙ e)),
+        )
 
     -- and elsewhere
-    met_behind : j ≤ ended → (part_runs fixed (drop j plan.steps) (ran_to fixed plan store j os).state.own ≡ true → slice_get fates j ≡ Some Run) →
-        slice_get (meets_in fixed (path_part plan j) here) at ≡ Some (Some fault)
-    met_behind h run = met_there here (part_same fixed plan store job fits os fates j within clean (same h) run).faults
+    met_behind : j ≤ ended → (part_runs fixed (drop j plan.steps) (ran_to fixed plan store j os).state.own ≡ true → slice_get fates j ≡ Some Run) → IsFirst
+    met_behind h run =
+        let did = part_same fixed plan store job fits os fates j within clean (same h) run in
+        (met_there here did.faults, λ i f before_it e. none_then i f before_it (met_back here did.faults i f e))
 
     -- The fates are those of the path too.
     taken : ended ≤ length plan.steps → fates_in (ran_to fixed plan store ended os).lines ≡ fates_in (ran_to fixed plan store ended ps).lines →
@@ -212,7 +246,13 @@ module _ (fixed : Fixed) (plan : JobPlan) (store : Store) (job : fixed.job_tests
     abbrev At : Action → Type 0
     At a = (earliest.meets.action ≡ a) × (fault_place (length plan.steps) a ≡ Some (record { step = step; dd = dd; ended = ended }))
 
-    by_action : (a : Action) → At a → TakesPath fixed plan store fault step dd ps
+    -- the path is taken, and up to the fault no other is met along it
+    record Passes : Type 0 where
+      path_taken : TakesPath fixed plan store fault step dd ps
+      to : j ≤ ended
+      first : IsFirst
+
+    by_action : (a : Action) → At a → Passes
     by_action (Start n s) h = absurd cc
     by_action (Ask s move) h = absurd cc
     by_action Receive h = absurd cc
@@ -225,7 +265,8 @@ module _ (fixed : Fixed) (plan : JobPlan) (store : Store) (job : fixed.job_tests
         let count : n - 1 ≡ ended = ended_is (record { step = n; dd = e; ended = n - 1 }) h.1 in
         let is : j ≡ ended = omega arith in
         let first = drop_inside j plan.steps inside in
-        taken (omega arith) (fates_to is) (met_at_take (omega arith) first.0 first.1 first.2 n e d h.0)
+        let met = met_at_take (omega arith) first.0 first.1 first.2 n e d h.0 in
+        record { path_taken = taken (omega arith) (fates_to is) met.0; to = omega arith; first = met }
     by_action (Dispose n e d) h =
         let of = at_place _ (path_part plan j) at (Dispose n e d) (all_of_part plan j within) (there ∙ ap Some h.0) in
         let number : n ≡ j + 1 = of.0 in
@@ -236,13 +277,19 @@ module _ (fixed : Fixed) (plan : JobPlan) (store : Store) (job : fixed.job_tests
         told j (omega arith) inside clean in
         let through : DidTheSame plan fixed.date (suc j) (ran_to fixed plan store (suc j) os) (ran_to fixed plan store (suc j) ps) =
         step_same fixed plan store job fits os fates j inside clean (same (omega arith)) run in
-        taken (omega arith) (subst (λ m. fates_in (ran_to fixed plan store m os).lines ≡ fates_in (ran_to fixed plan store m ps).lines) is through.fates)
-        (met_behind (omega arith) run)
+        let met = met_behind (omega arith) run in
+        record {
+          path_taken = taken (omega arith)
+              (subst (λ m. fates_in (ran_to fixed plan store m os).lines ≡ fates_in (ran_to fixed plan store m ps).lines) is through.fates) met.0;
+          to = omega arith;
+          first = met;
+        }
     by_action (Left n e d) h =
         let of = at_place _ (path_part plan j) at (Left n e d) (all_of_part plan j within) (there ∙ ap Some h.0) in
         let number : j ≡ length plan.steps = of in
         let count : length plan.steps ≡ ended = ended_is (record { step = n; dd = e; ended = length plan.steps }) h.1 in
-        taken (omega arith) (fates_to (omega arith)) (met_behind (omega arith) (λ runs. absurd (never number runs)))
+        let met = met_behind (omega arith) (λ runs. absurd (never number runs)) in
+        record { path_taken = taken (omega arith) (fates_to (omega arith)) met.0; to = omega arith; first = met }
       where
         never : j ≡ length plan.steps → part_runs fixed (drop j plan.steps) (ran_to fixed plan store j os).state.own ≡ true → ⊥
         never last runs =
@@ -252,9 +299,58 @@ module _ (fixed : Fixed) (plan : JobPlan) (store : Store) (job : fixed.job_tests
 
     pub there_taken : TakesPath fixed plan store fault step dd path
     there_taken =
-        subst (TakesPath fixed plan store fault step dd) (sym earliest.meets.shown) (by_action earliest.meets.action (refl, earliest.meets.at))
+        subst (TakesPath fixed plan store fault step dd) (sym earliest.meets.shown) (by_action earliest.meets.action (refl, earliest.meets.at)).path_taken
+
+    -- along the whole path it is met at its place,
+    abbrev along : List (Option Fault)
+    along = meets_in fixed (path_agenda plan) (at_start store (given ps))
+
+    pub its_fault : slice_get along earliest.meets.place ≡ Some (Some fault)
+    its_fault =
+        ap (slice_get along) place ∙ meets_at_part fixed plan store j at ps less ∙ (by_action earliest.meets.action (refl, earliest.meets.at)).first.0
+
+    -- and none before it
+    pub none_earlier : (k : ℕ) (f : Fault) → k < earliest.meets.place → slice_get along k ≡ Some (Some f) → ⊥
+    none_earlier k f h e = by_part (ltb k (before_part plan j)) refl
+      where
+        passed : Passes
+        passed = by_action earliest.meets.action (refl, earliest.meets.at)
+
+        in_parts_before : k < before_part plan j → ⊥
+        in_parts_before low =
+            let cut = cut_at_part plan j in
+            let start : State = at_start store (given ps) in
+            let front = meets_in fixed (front_of plan j) start in
+            let size : length front ≡ before_part plan j = meets_size fixed (front_of plan j) start in
+            let there_too : slice_get front k ≡ Some (Some f) =
+            sym (get_front front (meets_in fixed (path_part plan j ++ cut.rest) here) k (omega arith))
+            ∙ ap (λ (ms : List (Option Fault)). slice_get ms k) (sym (meets_in-append fixed (front_of plan j) (path_part plan j ++ cut.rest) start))
+            ∙ ap (λ (actions : List Action). slice_get (meets_in fixed actions start) k) (sym cut.whole) ∙ e in
+            none_in (ran_to fixed plan store j ps).faults (clean_too passed.to) (met_from fixed (front_of plan j) start k f there_too)
+
+        in_this_part : before_part plan j ≤ k → ⊥
+        in_this_part high =
+            let i : ℕ = k - before_part plan j in
+            let number : before_part plan j + i ≡ k = omega arith in
+            let before_it : i < at = omega (arith, place) in
+            passed.first.1 i f before_it
+            (sym (meets_at_part fixed plan store j i ps (omega (arith, less))) ∙ ap (slice_get along) number ∙ e)
+
+        by_part : (b : Bool) → ltb k (before_part plan j) ≡ b → ⊥
+        by_part true is = in_parts_before (ltb-true k (before_part plan j) is)
+        by_part false is = in_this_part (ltb-false k (before_part plan j) is)
 
   pub passes : TakesPath fixed plan store fault step dd path
   passes =
       let located : Located plan earliest.meets.place earliest.meets.action = locate plan earliest.meets.place earliest.meets.action earliest.meets.due in
       there_taken located.part located.at located.within located.place_is located.there
+
+  -- along the path the fault is met at its place, and none before it
+  pub first_fault : (slice_get (meets_in fixed (path_agenda plan) (at_start store (given path))) earliest.meets.place ≡ Some (Some fault))
+      × ((k : ℕ) (f : Fault) → k < earliest.meets.place → slice_get (meets_in fixed (path_agenda plan) (at_start store (given path))) k ≡ Some (Some f) → ⊥)
+  first_fault =
+      let located : Located plan earliest.meets.place earliest.meets.action = locate plan earliest.meets.place earliest.meets.action earliest.meets.due in
+      subst (λ (os : List Outcome). (slice_get (meets_in fixed (path_agenda plan) (at_start store (given os))) earliest.meets.place ≡ Some (Some fault))
+      × ((k : ℕ) (f : Fault) → k < earliest.meets.place → slice_get (meets_in fixed (path_agenda plan) (at_start store (given os))) k ≡ Some (Some f) → ⊥))
+      (sym earliest.meets.shown)
+      (its_fault located.part located.at located.within located.place_is located.there, none_earlier located.part located.at located.within located.place_is located.there)

@@ -1,3 +1,4 @@
+pub mod Endings
 pub mod FatesMet
 pub mod Marks
 pub mod MarksMet
