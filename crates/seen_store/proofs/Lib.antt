@@ -1,0 +1,4 @@
+pub mod Places
+pub mod Names
+pub mod Groups
+pub mod Seen
