@@ -83,7 +83,7 @@ unfolding run act
 over_meets fixed s = refl
 
 module _ (plan : JobPlan) (fixed : Fixed) (k : ℕ) (none : drop k plan.steps ≡ []) (v : PlainView) (u : Under)
-    (same : u.store.store ≡ v.scene.value.store) (begun : IsBegun v.scene.value v.abended u.course.own) (lefts : List LeftDd)
+    (same : u.store ≡ v.scene.value.store) (begun : IsBegun v.scene.value v.abended u.course.own) (lefts : List LeftDd)
     (these : left_actions lefts ≡ lefts_from 1 plan.steps) where
   abbrev here : View
   here = shown_by plan fixed.date k v

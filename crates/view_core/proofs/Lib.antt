@@ -3,6 +3,7 @@ pub mod Leaving
 pub mod Numbered
 pub mod Runs
 pub mod SameViews
+pub mod Beside
 pub mod Shown
 pub mod TestBits
 pub mod Told

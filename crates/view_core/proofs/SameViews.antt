@@ -79,7 +79,7 @@ all_from_each test [] h = refl
 all_from_each test (x ∷ xs) h = and_from (test x) (list_all test xs) (h x) (all_from_each test xs h)
 
 -- texts and keys
-same_bytes : (a b : List ℕ) → bytes_eq a b ≡ true → a ≡ b
+pub same_bytes : (a b : List ℕ) → bytes_eq a b ≡ true → a ≡ b
 same_bytes a b = (bytes_eq-Decides a b).0
 
 bytes_itself : (a : List ℕ) → bytes_eq a a ≡ true

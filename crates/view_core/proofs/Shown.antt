@@ -118,11 +118,11 @@ pub none_met : (tests : List Test) → map (satisfied []) tests ≡ replicate (l
 none_met [] = refl
 none_met (t ∷ tests) = ap (λ (l : List Bool). false ∷ l) (none_met tests)
 
-pub shown_first : (plan : JobPlan) (date : ℕ) (store : SoloStore) (scene : Scene) (bits : List Bool) → scene.store ≡ store → scene.passed ≡ [] →
+pub shown_first : (plan : JobPlan) (date : ℕ) (store : SoloStore) (scene : Scene) (bits : List Bool) → store_of scene.store ≡ store_of store → scene.passed ≡ [] →
     scene.volumes ≡ [] → bits ≡ replicate (length (kept_tests plan.tests.items plan.steps)) false →
     shown_parts plan date 0 scene false bits ≡ view_at plan 0 date (at_start (store_of store) (given []))
 shown_first plan date store scene bits same passed volumes met =
     let s : State = at_start (store_of store) (given []) in
     sym (shown_as plan date 0 s s scene false bits (same_state plan date 0 s)
-    (record { store = ap store_of (sym same); passed = sym passed; volumes = sym volumes }) refl
+    (record { store = sym same; passed = sym passed; volumes = sym volumes }) refl
     ([], met ∙ sym (none_met (kept_tests plan.tests.items plan.steps)) ∙ sym (append-nil (map (satisfied []) (kept_tests plan.tests.items plan.steps)))))

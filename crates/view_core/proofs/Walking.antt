@@ -34,7 +34,7 @@ place_told stop ended e = ap (told_at stop) e
 behind_end : (size dds place at : ℕ) → size ≡ suc dds → at ≡ dds + 2 + place → at ≡ suc (size + place)
 behind_end size dds place at e f = omega arith
 
-module _ (fixed : Fixed) (n : ℕ) (step : StepPlan) (scene : Scene) (u : Under) (same : u.store.store ≡ scene.store) where
+module _ (fixed : Fixed) (n : ℕ) (step : StepPlan) (scene : Scene) (u : Under) (same : u.store ≡ scene.store) where
   abbrev start : List Outcome → State
   start os = state_on scene u.course.own os
 
@@ -78,8 +78,8 @@ module _ (fixed : Fixed) (n : ℕ) (step : StepPlan) (scene : Scene) (u : Under)
       end_one : RanTo (run fixed (Finish n ∷ []) (state_of v (given (o ∷ [])))) (state_of shut left) []
       unfolding act
       end_one =
-          let did : Does (finished n (state_of v (given (o ∷ [])))) (store_of v.store.store) c v.course left None [] =
-          ended (store_of v.store.store) (given (o ∷ [])) refl refl in
+          let did : Does (finished n (state_of v (given (o ∷ [])))) (store_of v.store) c v.course left None [] =
+          ended (store_of v.store) (given (o ∷ [])) refl refl in
           run_one fixed (Finish n) (state_of v (given (o ∷ []))) (state_of shut left) [] did.its_state did.its_fault did.its_made
 
       to_end : RanTo (run fixed (takes_from n 1 step.dds ++ Finish n ∷ []) (start (o ∷ []))) (state_of shut left) (made ++ [])
@@ -108,7 +108,7 @@ module _ (fixed : Fixed) (n : ℕ) (step : StepPlan) (scene : Scene) (u : Under)
 
       -- or none does
       pub leaves : (w : Under) → DisposesAll fixed n step.dds shut None w → LeavesScene (run fixed (behind_start n step) (start (o ∷ [])))
-          (record { store = w.store.store; passed = w.course.own.passed; volumes = w.course.own.volumes })
+          (record { store = w.store; passed = w.course.own.passed; volumes = w.course.own.volumes })
       leaves w h =
           let ran : RanTo (run fixed (behind_start n step) (start (o ∷ []))) (state_of w left) ((made ++ []) ++ []) =
           subst (λ (l : List Action). RanTo (run fixed l (start (o ∷ []))) (state_of w left) ((made ++ []) ++ [])) whole

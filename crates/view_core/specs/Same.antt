@@ -19,6 +19,7 @@ use Rattle.jcl_plan.specs.declared.plan.VolumePlan.TheVariants.{NotCoded, Serial
 use Rattle.jcl_meaning.specs.declared.names.HeldName.{HeldName}
 use Rattle.jcl_meaning.specs.declared.state.DdVolume.{DdVolume}
 use Rattle.jcl_meaning.specs.declared.state.Passed.{Passed}
+use Rattle.jcl_meaning.specs.declared.store.DataSet.{DataSet}
 use Rattle.jcl_meaning.specs.declared.store.SoloEntry.{SoloEntry}
 use Rattle.jcl_meaning.specs.declared.store.SoloSet.{SoloSet}
 use Rattle.jcl_meaning.specs.declared.store.SoloStore.{SoloStore}
@@ -27,6 +28,7 @@ use Rattle.jcl_meaning.specs.Parts.{is_among, part_of, sees_key}
 use Rattle.jcl_meaning.specs.Stores.{entry_in, set_in, store_of}
 use Rattle.jcl_meaning.specs.Takes.{dd_volume}
 use Rattle.jcl_meaning.specs.Views.{View, shown_set, steps_refer}
+use Rattle.seen_store.specs.declared.place.SetPlace.{SetPlace}
 use Rattle.view_core.specs.declared.scene.PlainView.{PlainView}
 use Rattle.view_core.specs.declared.scene.Scene.{Scene}
 use Rattle.view_core.specs.PlainViews.{by_step}
@@ -50,9 +52,15 @@ same_shown None (Some y) = false
 same_shown (Some x) None = false
 same_shown (Some x) (Some y) = beq x y
 
+-- of two sets of a key, if it is seen
+abbrev pub shown_alike : List HeldName → ℕ → Key → Option DataSet → Option DataSet → Bool
+shown_alike names date key x y = not (sees_key names key) || same_shown (shown_set x date) (shown_set y date)
+
 abbrev pub set_alike : List HeldName → ℕ → SoloStore → SoloStore → Key → List ℕ → Bool
-set_alike names date a b key serial =
-    not (sees_key names key) || same_shown (shown_set (set_in a.sets key serial) date) (shown_set (set_in b.sets key serial) date)
+set_alike names date a b key serial = shown_alike names date key (set_in a.sets key serial) (set_in b.sets key serial)
+
+abbrev pub same_place : SetPlace → SetPlace → Bool
+same_place p q = same_key p.key q.key && bytes_eq p.serial q.serial
 
 abbrev pub sets_alike : List HeldName → ℕ → SoloStore → SoloStore → List SoloSet → Bool
 sets_alike names date a b sets = list_all (λ x. set_alike names date a b x.key x.serial) sets

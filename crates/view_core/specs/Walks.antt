@@ -20,7 +20,7 @@ use Rattle.view_core.specs.declared.walk.Walked.TheVariants as walked
 
 -- a part under way as the state of a job
 abbrev pub state_of : Under → Answers → State
-state_of u answers = record { store = store_of u.store.store; own = u.course.own; answers = answers }
+state_of u answers = record { store = store_of u.store; own = u.course.own; answers = answers }
 
 -- no fault was met, this state was reached, and these sets were made
 pub record RanTo (ran : Ran) (t : State) (sets : List Place) : Type 0 where

@@ -8,6 +8,7 @@ use crate::moves::shared;
 use crate::same::{drop_first, is_shown};
 use crate::scene::{PlainView, PlainViews, Scene};
 use plain::listed::Listed;
+use seen_store::store::SeenStore;
 use std::alloc::{AllocError, Global};
 use view_domain::crossed::Crossed;
 use view_domain::domain::ViewDomain;
@@ -45,7 +46,7 @@ impl<'a> ViewDomain for PlainDomain<'a> {
         let job = self.plan.tests.as_slice();
         let tests = kept_tests(alloc, job, self.plan.steps.as_slice())?;
         let scene = Scene {
-            store: self.store.copy_of(alloc)?,
+            store: SeenStore::of_solo(alloc, self.store)?,
             passed: Listed::empty(alloc),
             volumes: Listed::empty(alloc),
         };

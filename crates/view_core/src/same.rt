@@ -1,12 +1,15 @@
 //! Whether two views are one.
-ghost use Rattle.std.specs.Prelude.{◌≡◌, Contains, Decides, drop, length, map, take, zip};
+ghost use Rattle.std.specs.Prelude.{◌≡◌, ◌&&◌, Some, Contains, Decides, drop, length, map, take, zip};
 ghost use Rattle.std.specs.List.{list_all, list_any};
 ghost use Rattle.std.specs.Option.{option_copied};
 ghost use Rattle.jname_core.specs.Generations.{base_of};
 ghost use Rattle.jcl_meaning.specs.Parts.{is_among, sees_key};
-ghost use Rattle.jcl_meaning.specs.Stores.{set_in};
+ghost use Rattle.std.specs.Str.{bytes_eq};
+ghost use Rattle.jcl_meaning.specs.Stores.{entry_in, set_in};
+ghost use Rattle.seen_store.specs.Listing.{entries_of, sets_of};
 ghost use Rattle.jcl_meaning.specs.Views.{shown_set};
-ghost use Rattle.view_core.specs.Same.{all_same_passed, entries_alike, entry_alike, same_generation, same_group, same_passed, same_seen, set_alike, sets_alike};
+ghost use Rattle.view_core.specs.Same.{all_same_passed, entries_alike, entry_alike, same_generation, same_group, same_passed, same_place, same_seen, set_alike};
+ghost use Rattle.view_core.specs.Same.{sets_alike, shown_alike};
 ghost use Rattle.view_core.specs.Same.{same_bits, same_by_step, same_for_dds, same_for_kind, same_met, same_scene, same_shown, same_view, same_volume};
 ghost use Rattle.view_core.specs.Same.{same_volumes};
 ghost use Rattle.view_core.specs.Same.{shown_under};
@@ -16,13 +19,15 @@ use group_core::entry::CatEntry;
 use group_core::group::{Generation, Group};
 use jcl_meaning::names::{HeldName, same_key};
 use jcl_meaning::state::{DdVolume, Passed};
-use jcl_meaning::store::{SoloEntry, SoloSet, SoloStore};
+use jcl_meaning::store::DataSet;
 use jcl_plan::day::Day;
 use jcl_plan::plan::{DdKind, DdPlan, StepPlan, VolumePlan};
 use jname_core::ds_name::DsName;
 use jname_core::key::Key;
-use jname_core::serial::Serial;
-use store_core::store::{entry_in, is_later, set_in};
+use seen_store::place::SetPlace;
+use seen_store::store::SeenStore;
+use std::collections::btree_map::Iter;
+use store_core::store::is_later;
 use store_core::take::dd_volume;
 
 /// A name is one of these.
@@ -47,10 +52,10 @@ pub(crate) fn sees_key(names: &[HeldName], key: &Key) -> bool
 }
 
 /// What is shown of a set: whether it is there, and unexpired.
-fn shown_set(store: &SoloStore, key: &Key, serial: Serial, date: Day) -> Option<bool>
-    ensures { result ≡ shown_set (set_in store.now.sets key.now serial) date }
+fn shown_set(set: Option<&DataSet>, date: Day) -> Option<bool>
+    ensures { result ≡ shown_set (option_copied set.entry) date }
 {
-    match set_in(store, key, serial) {
+    match set {
         None => None,
         Some(set) => Some(is_later(set.expires, date)),
     }
@@ -66,22 +71,99 @@ fn same_shown(a: Option<bool>, b: Option<bool>) -> bool
     }
 }
 
-/// A set, if it is seen, is shown alike in both stores.
-fn set_alike(names: &[HeldName], date: Day, a: &SoloStore, b: &SoloStore, x: &SoloSet) -> bool
-    ensures { result ≡ set_alike names.now date a.now b.now x.now.key x.now.serial }
+/// What is shown of the sets of a key on one volume is the same, or the key is not seen.
+fn shown_alike(
+    names: &[HeldName],
+    date: Day,
+    key: &Key,
+    x: Option<&DataSet>,
+    y: Option<&DataSet>,
+) -> bool
+    ensures { result ≡ shown_alike names.now date key.now (option_copied x.entry) (option_copied y.entry) }
 {
-    !sees_key(names, &x.key)
-        || same_shown(
-            shown_set(a, &x.key, x.serial, date),
-            shown_set(b, &x.key, x.serial, date),
-        )
+    same_shown(shown_set(x, date), shown_set(y, date)) || !sees_key(names, key)
+}
+
+/// A set, if it is seen, is shown alike in both stores.
+fn set_alike(names: &[HeldName], date: Day, a: &SeenStore, b: &SeenStore, place: &SetPlace) -> bool
+    ensures { result ≡ set_alike names.now date a.now b.now place.now.key place.now.serial }
+{
+    shown_alike(
+        names,
+        date,
+        &place.key,
+        a.set_at(&place.key, place.serial),
+        b.set_at(&place.key, place.serial),
+    )
+}
+
+fn same_place(p: &SetPlace, q: &SetPlace) -> bool
+    ensures { result ≡ same_place p.now q.now }
+{
+    same_key(&p.key, &q.key) && p.serial.as_slice() == q.serial.as_slice()
+}
+
+/// A set of the one store and one of the other, each if it is seen, are shown alike in both. Where they stand in one place nothing is looked up.
+fn two_sets_alike(
+    names: &[HeldName],
+    date: Day,
+    a: &SeenStore,
+    b: &SeenStore,
+    x: (&SetPlace, &DataSet),
+    y: (&SetPlace, &DataSet),
+) -> bool
+    requires first { set_in a.now.sets x.0.now.key x.0.now.serial ≡ Some x.1.now }
+    requires other { set_in b.now.sets y.0.now.key y.0.now.serial ≡ Some y.1.now }
+    ensures { let p = x.entry.0.now in let q = y.entry.0.now in
+        result ≡ (set_alike names.now date a.now b.now p.key p.serial && set_alike names.now date a.now b.now q.key q.serial) }
+{
+    if same_place(x.0, y.0) {
+        shown_alike(names, date, &x.0.key, Some(x.1), Some(y.1))
+    } else {
+        set_alike(names, date, a, b, x.0) && set_alike(names, date, a, b, y.0)
+    }
 }
 
 /// Each of these sets that is seen is shown alike in both stores.
-fn sets_alike(names: &[HeldName], date: Day, a: &SoloStore, b: &SoloStore, sets: &[SoloSet]) -> bool
-    ensures { result ≡ sets_alike names.now date a.now b.now sets.now }
+fn each_set_alike(
+    names: &[HeldName],
+    date: Day,
+    a: &SeenStore,
+    b: &SeenStore,
+    sets: Iter<'_, SetPlace, DataSet>,
+) -> bool
+    ensures { result ≡ sets_alike names.now date a.now b.now (sets_of sets.entry) }
 {
-    sets.iter().all(|x| set_alike(names, date, a, b, x))
+    let mut sets = sets;
+    while let Some((place, _)) = sets.next() {
+        if !set_alike(names, date, a, b, place) {
+            return false;
+        }
+    }
+    true
+}
+
+/// Each set of both stores that is seen is shown alike in both. The sets of the one are gone through beside those of the other.
+fn sets_alike(names: &[HeldName], date: Day, a: &SeenStore, b: &SeenStore) -> bool
+    ensures { result ≡ (sets_alike names.now date a.now b.now a.now.sets && sets_alike names.now date a.now b.now b.now.sets) }
+{
+    let mut xs = a.sets();
+    let mut ys = b.sets();
+    while let Some(x) = xs.next() {
+        match ys.next() {
+            Some(y) => {
+                if !two_sets_alike(names, date, a, b, x, y) {
+                    return false;
+                }
+            }
+            None => {
+                if !set_alike(names, date, a, b, x.0) {
+                    return false;
+                }
+            }
+        }
+    }
+    each_set_alike(names, date, a, b, ys)
 }
 
 fn same_generation(a: &Generation, b: &Generation) -> bool
@@ -123,23 +205,90 @@ fn same_seen(whole: bool, base: bool, a: Option<&CatEntry>, b: Option<&CatEntry>
     }
 }
 
-/// A job with these names sees the same of a name's two entries.
-fn entry_alike(names: &[HeldName], a: &SoloStore, b: &SoloStore, name: &DsName) -> bool
+/// What a job with these names sees of two entries of a name is the same.
+fn seen_alike(names: &[HeldName], name: &DsName, x: Option<&CatEntry>, y: Option<&CatEntry>) -> bool
+    ensures { result ≡ same_seen (is_among names.now name.now) (is_among names.now (base_of name.now)) (option_copied x.entry) (option_copied y.entry) }
+{
+    same_seen(true, true, x, y)
+        || same_seen(
+            is_among(names, name),
+            is_among(names, &name.base_of()),
+            x,
+            y,
+        )
+}
+
+/// It sees the same of a name's entries in both stores.
+fn entry_alike(names: &[HeldName], a: &SeenStore, b: &SeenStore, name: &DsName) -> bool
     ensures { result ≡ entry_alike names.now a.now b.now name.now }
 {
-    same_seen(
-        is_among(names, name),
-        is_among(names, &name.base_of()),
-        entry_in(a, name),
-        entry_in(b, name),
-    )
+    seen_alike(names, name, a.entry_of(name), b.entry_of(name))
+}
+
+fn same_name(n: &DsName, m: &DsName) -> bool
+    ensures { result ≡ bytes_eq n.now m.now }
+{
+    n.as_slice() == m.as_slice()
+}
+
+/// Of the name of an entry of the one store, and of one of the other, it sees the same in both. Where they are one name nothing is looked up.
+fn two_entries_alike(
+    names: &[HeldName],
+    a: &SeenStore,
+    b: &SeenStore,
+    x: (&DsName, &CatEntry),
+    y: (&DsName, &CatEntry),
+) -> bool
+    requires first { entry_in a.now.catalog x.0.now ≡ Some x.1.now }
+    requires other { entry_in b.now.catalog y.0.now ≡ Some y.1.now }
+    ensures { result ≡ (entry_alike names.now a.now b.now x.entry.0.now && entry_alike names.now a.now b.now y.entry.0.now) }
+{
+    if same_name(x.0, y.0) {
+        seen_alike(names, x.0, Some(x.1), Some(y.1))
+    } else {
+        entry_alike(names, a, b, x.0) && entry_alike(names, a, b, y.0)
+    }
 }
 
 /// Of each of these entries' names it sees the same in both stores.
-fn entries_alike(names: &[HeldName], a: &SoloStore, b: &SoloStore, entries: &[SoloEntry]) -> bool
-    ensures { result ≡ entries_alike names.now a.now b.now entries.now }
+fn each_entry_alike(
+    names: &[HeldName],
+    a: &SeenStore,
+    b: &SeenStore,
+    entries: Iter<'_, DsName, CatEntry>,
+) -> bool
+    ensures { result ≡ entries_alike names.now a.now b.now (entries_of entries.entry) }
 {
-    entries.iter().all(|x| entry_alike(names, a, b, &x.name))
+    let mut entries = entries;
+    while let Some((name, _)) = entries.next() {
+        if !entry_alike(names, a, b, name) {
+            return false;
+        }
+    }
+    true
+}
+
+/// Of each name that is entered in one of both stores it sees the same in both. The entries of the one are gone through beside those of the other.
+fn entries_alike(names: &[HeldName], a: &SeenStore, b: &SeenStore) -> bool
+    ensures { result ≡ (entries_alike names.now a.now b.now a.now.catalog && entries_alike names.now a.now b.now b.now.catalog) }
+{
+    let mut xs = a.entries();
+    let mut ys = b.entries();
+    while let Some(x) = xs.next() {
+        match ys.next() {
+            Some(y) => {
+                if !two_entries_alike(names, a, b, x, y) {
+                    return false;
+                }
+            }
+            None => {
+                if !entry_alike(names, a, b, x.0) {
+                    return false;
+                }
+            }
+        }
+    }
+    each_entry_alike(names, a, b, ys)
 }
 
 fn same_passed(a: &Passed, b: &Passed) -> bool
@@ -216,10 +365,8 @@ pub(crate) fn same_scene(
 {
     all_same_passed(a.passed.as_slice(), b.passed.as_slice())
         && same_volumes(a.volumes.as_slice(), b.volumes.as_slice(), later)
-        && sets_alike(names, date, &a.store, &b.store, a.store.sets.as_slice())
-        && sets_alike(names, date, &a.store, &b.store, b.store.sets.as_slice())
-        && entries_alike(names, &a.store, &b.store, a.store.catalog.as_slice())
-        && entries_alike(names, &a.store, &b.store, b.store.catalog.as_slice())
+        && sets_alike(names, date, &a.store, &b.store)
+        && entries_alike(names, &a.store, &b.store)
 }
 
 fn same_bits(a: &[bool], b: &[bool]) -> bool

@@ -6,16 +6,16 @@ ghost use Rattle.view_core.specs.Scenes.{IsBegun};
 
 use disp_core::course::Course;
 use jcl_meaning::state::{DdVolume, Ended, Own, Passed};
-use jcl_meaning::store::SoloStore;
 use jcl_plan::outcome::{Abend, Code, Outcome};
 use plain::listed::Listed;
+use seen_store::store::SeenStore;
 use std::alloc::{AllocError, Global};
 use std::rc::Rc;
 
 /// What a job has between two parts, but for the steps that ended: the sets and entries that it sees, what is passed, and the volumes of its DDs.
 #[derive(Drop)]
 pub struct Scene {
-    pub store: SoloStore,
+    pub store: SeenStore,
     pub passed: Listed<Passed>,
     pub volumes: Listed<DdVolume>,
 }

@@ -12,8 +12,8 @@ use disp_core::{dispose, step, take};
 use jcl_meaning::state::Place;
 use jcl_plan::outcome::Outcome;
 use jcl_plan::plan::{DdPlan, StepPlan};
+use seen_store::store::SeenStore;
 use std::alloc::{AllocError, Global};
-use store_core::alone::Alone;
 use view_domain::crossed::Stop;
 
 /// The number of a job that has its store alone.
@@ -34,34 +34,25 @@ pub enum Walked {
 /// A step under way.
 #[derive(Drop)]
 pub(crate) struct Under {
-    pub(crate) store: Alone,
+    pub(crate) store: SeenStore,
     pub(crate) course: Course,
 }
 
 /// A step that begins to run on a scene.
 pub(crate) fn under_of(alloc: Global, scene: &Scene, abend: bool) -> Result<Under, AllocError>
-    ensures { IfOk result (λ under. (under.store.store ≡ scene.now.store) × IsBegun scene.now abend under.course.own) }
+    ensures { IfOk result (λ under. (under.store ≡ scene.now.store) × IsBegun scene.now abend under.course.own) }
 {
     Ok(Under {
-        store: Alone {
-            alloc,
-            store: scene.store.copy_of(alloc)?,
-            growth: true,
-        },
+        store: scene.store.copy_of()?,
         course: course_of(alloc, scene, abend)?,
     })
 }
 
 /// The scene that a step leaves.
 fn scene_of(under: Under) -> Scene
-    ensures { result ≡ record { store = under.store.store; passed = under.course.own.passed; volumes = under.course.own.volumes } }
+    ensures { result ≡ record { store = under.store; passed = under.course.own.passed; volumes = under.course.own.volumes } }
 {
     let Under { store, course } = under;
-    let Alone {
-        alloc: _,
-        store,
-        growth: _,
-    } = store;
     Scene {
         store,
         passed: course.own.passed,

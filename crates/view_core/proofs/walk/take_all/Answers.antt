@@ -28,7 +28,7 @@ returns-in-Some c =
           plan = d;
           meets = takes_meet fixed c.args.n c.loop-i.i c.args.dds.now d (state_of c.args.under.now answers) (state_of c.loop-i.under answers) c.loop-i.invariant.0
               c.loop-i-test.true c.index-dds-i.is c.in-Some.fault (c.loop-i.invariant.2 answers h)
-              ((c.in_ok-taken.ensures.ok answers (h ∙ sym (primary_is_granted fixed c.args.n (c.loop-i.i + 1) d.kind (store_of c.loop-i.under.store.store) c.loop-i.under.course.own))).its_fault
+              ((c.in_ok-taken.ensures.ok answers (h ∙ sym (primary_is_granted fixed c.args.n (c.loop-i.i + 1) d.kind (store_of c.loop-i.under.store) c.loop-i.under.course.own))).its_fault
               ∙ c.in-Some.is);
         },
       ),
@@ -42,7 +42,7 @@ loop-i-preserved c =
     let sets : List Place = c.loop-i.invariant.0 in
     let more : List Place = made_of c.in_ok-taken.taken.made in
     let granted : (answers : Answers) → answers.primary ≡ true → answers.primary ≡ _ =
-    λ answers h. h ∙ sym (primary_is_granted fixed c.args.n (c.loop-i.i + 1) d.kind (store_of c.loop-i.under.store.store) c.loop-i.under.course.own) in (
+    λ answers h. h ∙ sym (primary_is_granted fixed c.args.n (c.loop-i.i + 1) d.kind (store_of c.loop-i.under.store) c.loop-i.under.course.own) in (
       sets ++ more,
       c.in_ok-push_made.ensures ∙ ap (λ (l : List Place). l ++ more) c.loop-i.invariant.1 ∙ append_assoc c.args.made.now.items sets more,
       λ answers h. takes_more fixed c.args.n c.loop-i.i c.args.dds.now d (state_of c.args.under.now answers) (state_of c.loop-i.under answers) sets

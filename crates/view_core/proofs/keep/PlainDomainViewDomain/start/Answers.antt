@@ -1,4 +1,5 @@
 use Rattle.std.proofs.Common.{◌∙◌, ◌++◌, ◌∷◌, List, [], false, ap, length, map}
+use Rattle.jcl_meaning.specs.Stores.{store_of}
 use Rattle.jcl_meaning.specs.Views.{View}
 use Rattle.view_core.specs.declared.scene.PlainView.{PlainView}
 use Rattle.view_core.specs.declared.scene.Scene.{Scene}
@@ -18,5 +19,5 @@ returns-clause-first c =
     ap (map (shown_before domain 0)) (c.in_ok-push.ensures.items
     ∙ ap (λ (views : List PlainView). views ++ record { scene = c.in_ok-shared.field-0; abended = false; met = c.in_ok-no_bits.field-0 } ∷ []) c.new-views.ensures.items)
     ∙ ap (λ (view : View). view ∷ []) (shown_first domain.plan.now domain.given.date domain.store.now scene c.in_ok-no_bits.field-0.items
-    (ap (λ (s : Scene). s.store) e ∙ c.in_ok-copy_of.ensures) (ap (λ (s : Scene). s.passed) e ∙ c.empty.ensures)
+    (ap (λ (s : Scene). store_of s.store) e ∙ c.in_ok-of_solo.ensures) (ap (λ (s : Scene). s.passed) e ∙ c.empty.ensures)
     (ap (λ (s : Scene). s.volumes) e ∙ c.empty-2.ensures) bits)
