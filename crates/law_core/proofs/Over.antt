@@ -21,7 +21,7 @@ use Rattle.world_meaning.specs.Headlines.{is_end}
 use Rattle.world_meaning.specs.Turns.{Advanced, advance}
 use Rattle.world_laws.proofs.Behind.{acted, drop_next, here, writes_or_not}
 use Rattle.law_core.specs.Waits.{is_wait}
-use Rattle.law_core.proofs.PlainLines.{is_assured, is_last, is_of_admission, is_risk, is_special, plain_act}
+use Rattle.law_core.proofs.PlainLines.{is_assured, is_broken, is_last, is_of_admission, is_risk, is_special, is_too_many, plain_act}
 
 -- no action before the last is the job's end
 none_last : (xs ys : List Action) → list_any is_last xs ≡ false → list_any is_last ys ≡ false → list_any is_last (xs ++ ys) ≡ false
@@ -132,67 +132,50 @@ goes_plain plan programs fixed x s further = by_action (is_last x.action) refl
     by_action false other = ap (λ (d : Done). list_any is_special d.lines) s.done ∙ (plain_act fixed x.action x.before other).plain
     by_action true last = absurd (both_ways (nat_le (length (agenda plan programs)) x.count) further (past last))
 
--- no action writes ASSURED
-no_assured : (lines : List JobLine) → list_any is_special lines ≡ false → list_any is_assured lines ≡ false
-no_assured [] h = refl
-no_assured (l ∷ lines) h =
+-- no action writes what is told before it
+none_of_admission : (lines : List JobLine) → list_any is_special lines ≡ false → list_any is_of_admission lines ≡ false
+none_of_admission [] h = refl
+none_of_admission (l ∷ lines) h =
     let both : (is_special l ≡ false) × (list_any is_special lines ≡ false) = or_parts (is_special l) (list_any is_special lines) h in
-    λ i. (or_parts (is_assured l) (is_risk l || is_wait l) (or_parts (is_end l) (is_of_admission l) both.0).1).0 i || no_assured lines both.1 i
+    λ i. (or_parts (is_end l) (is_of_admission l) both.0).1 i || none_of_admission lines both.1 i
 
-act_unassured : (fixed : Fixed) (a : Action) (s : State) → list_any is_assured (act fixed a s).lines ≡ false
+act_none : (fixed : Fixed) (a : Action) (s : State) → list_any is_of_admission (act fixed a s).lines ≡ false
 unfolding act
-act_unassured fixed (Start n step) s = refl
-act_unassured fixed (Take n dd d) s = no_assured (act fixed (Take n dd d) s).lines (plain_act fixed (Take n dd d) s refl).plain
-act_unassured fixed (Ask step m) s = no_assured (act fixed (Ask step m) s).lines (plain_act fixed (Ask step m) s refl).plain
-act_unassured fixed Receive s = no_assured (act fixed Receive s).lines (plain_act fixed Receive s refl).plain
-act_unassured fixed (Finish n) s = no_assured (act fixed (Finish n) s).lines (plain_act fixed (Finish n) s refl).plain
-act_unassured fixed (Dispose n dd d) s = no_assured (act fixed (Dispose n dd d) s).lines (plain_act fixed (Dispose n dd d) s refl).plain
-act_unassured fixed (Left n dd d) s = no_assured (act fixed (Left n dd d) s).lines (plain_act fixed (Left n dd d) s refl).plain
-act_unassured fixed Over s = refl
+act_none fixed (Start n step) s = refl
+act_none fixed (Take n dd d) s = none_of_admission (act fixed (Take n dd d) s).lines (plain_act fixed (Take n dd d) s refl).plain
+act_none fixed (Ask step m) s = none_of_admission (act fixed (Ask step m) s).lines (plain_act fixed (Ask step m) s refl).plain
+act_none fixed Receive s = none_of_admission (act fixed Receive s).lines (plain_act fixed Receive s refl).plain
+act_none fixed (Finish n) s = none_of_admission (act fixed (Finish n) s).lines (plain_act fixed (Finish n) s refl).plain
+act_none fixed (Dispose n dd d) s = none_of_admission (act fixed (Dispose n dd d) s).lines (plain_act fixed (Dispose n dd d) s refl).plain
+act_none fixed (Left n dd d) s = none_of_admission (act fixed (Left n dd d) s).lines (plain_act fixed (Left n dd d) s refl).plain
+act_none fixed Over s = refl
+
+pub unanswered : (whole : List Action) (fixed : Fixed) (x : Advanced) → Stands whole fixed x → list_any is_of_admission x.done.lines ≡ false
+unanswered whole fixed x s = ap (λ (d : Done). list_any is_of_admission d.lines) s.done ∙ act_none fixed x.action x.before
+
+-- nor any one kind of it
+pub fewer : (p : JobLine → Bool) → ((l : JobLine) → is_of_admission l ≡ false → p l ≡ false) → (lines : List JobLine) → list_any is_of_admission lines ≡ false →
+    list_any p lines ≡ false
+fewer p is [] h = refl
+fewer p is (l ∷ lines) h =
+    let both : (is_of_admission l ≡ false) × (list_any is_of_admission lines ≡ false) = or_parts (is_of_admission l) (list_any is_of_admission lines) h in
+    λ i. is l both.0 i || fewer p is lines both.1 i
+
+rest_of : (l : JobLine) → is_of_admission l ≡ false → (is_risk l || (is_wait l || (is_too_many l || is_broken l))) ≡ false
+rest_of l h = (or_parts (is_assured l) (is_risk l || (is_wait l || (is_too_many l || is_broken l))) h).1
 
 pub unassured : (whole : List Action) (fixed : Fixed) (x : Advanced) → Stands whole fixed x → list_any is_assured x.done.lines ≡ false
-unassured whole fixed x s = ap (λ (d : Done). list_any is_assured d.lines) s.done ∙ act_unassured fixed x.action x.before
-
--- and none RISK
-no_risk : (lines : List JobLine) → list_any is_special lines ≡ false → list_any is_risk lines ≡ false
-no_risk [] h = refl
-no_risk (l ∷ lines) h =
-    let both : (is_special l ≡ false) × (list_any is_special lines ≡ false) = or_parts (is_special l) (list_any is_special lines) h in
-    let answers : (is_risk l || is_wait l) ≡ false = (or_parts (is_assured l) (is_risk l || is_wait l) (or_parts (is_end l) (is_of_admission l) both.0).1).1 in
-    λ i. (or_parts (is_risk l) (is_wait l) answers).0 i || no_risk lines both.1 i
-
-act_riskless : (fixed : Fixed) (a : Action) (s : State) → list_any is_risk (act fixed a s).lines ≡ false
-unfolding act
-act_riskless fixed (Start n step) s = refl
-act_riskless fixed (Take n dd d) s = no_risk (act fixed (Take n dd d) s).lines (plain_act fixed (Take n dd d) s refl).plain
-act_riskless fixed (Ask step m) s = no_risk (act fixed (Ask step m) s).lines (plain_act fixed (Ask step m) s refl).plain
-act_riskless fixed Receive s = no_risk (act fixed Receive s).lines (plain_act fixed Receive s refl).plain
-act_riskless fixed (Finish n) s = no_risk (act fixed (Finish n) s).lines (plain_act fixed (Finish n) s refl).plain
-act_riskless fixed (Dispose n dd d) s = no_risk (act fixed (Dispose n dd d) s).lines (plain_act fixed (Dispose n dd d) s refl).plain
-act_riskless fixed (Left n dd d) s = no_risk (act fixed (Left n dd d) s).lines (plain_act fixed (Left n dd d) s refl).plain
-act_riskless fixed Over s = refl
+unassured whole fixed x s =
+    fewer is_assured (λ l h. (or_parts (is_assured l) (is_risk l || (is_wait l || (is_too_many l || is_broken l))) h).0) x.done.lines (unanswered whole fixed x s)
 
 pub riskless : (whole : List Action) (fixed : Fixed) (x : Advanced) → Stands whole fixed x → list_any is_risk x.done.lines ≡ false
-riskless whole fixed x s = ap (λ (d : Done). list_any is_risk d.lines) s.done ∙ act_riskless fixed x.action x.before
-
--- nor that its job waits
-no_wait : (lines : List JobLine) → list_any is_special lines ≡ false → list_any is_wait lines ≡ false
-no_wait [] h = refl
-no_wait (l ∷ lines) h =
-    let both : (is_special l ≡ false) × (list_any is_special lines ≡ false) = or_parts (is_special l) (list_any is_special lines) h in
-    let answers : (is_risk l || is_wait l) ≡ false = (or_parts (is_assured l) (is_risk l || is_wait l) (or_parts (is_end l) (is_of_admission l) both.0).1).1 in
-    λ i. (or_parts (is_risk l) (is_wait l) answers).1 i || no_wait lines both.1 i
-
-act_waitless : (fixed : Fixed) (a : Action) (s : State) → list_any is_wait (act fixed a s).lines ≡ false
-unfolding act
-act_waitless fixed (Start n step) s = refl
-act_waitless fixed (Take n dd d) s = no_wait (act fixed (Take n dd d) s).lines (plain_act fixed (Take n dd d) s refl).plain
-act_waitless fixed (Ask step m) s = no_wait (act fixed (Ask step m) s).lines (plain_act fixed (Ask step m) s refl).plain
-act_waitless fixed Receive s = no_wait (act fixed Receive s).lines (plain_act fixed Receive s refl).plain
-act_waitless fixed (Finish n) s = no_wait (act fixed (Finish n) s).lines (plain_act fixed (Finish n) s refl).plain
-act_waitless fixed (Dispose n dd d) s = no_wait (act fixed (Dispose n dd d) s).lines (plain_act fixed (Dispose n dd d) s refl).plain
-act_waitless fixed (Left n dd d) s = no_wait (act fixed (Left n dd d) s).lines (plain_act fixed (Left n dd d) s refl).plain
-act_waitless fixed Over s = refl
+riskless whole fixed x s =
+    fewer is_risk (λ l h. (or_parts (is_risk l) (is_wait l || (is_too_many l || is_broken l)) (rest_of l h)).0) x.done.lines (unanswered whole fixed x s)
 
 pub waitless : (whole : List Action) (fixed : Fixed) (x : Advanced) → Stands whole fixed x → list_any is_wait x.done.lines ≡ false
-waitless whole fixed x s = ap (λ (d : Done). list_any is_wait d.lines) s.done ∙ act_waitless fixed x.action x.before
+waitless whole fixed x s = fewer is_wait waits x.done.lines (unanswered whole fixed x s)
+  where
+    waits : (l : JobLine) → is_of_admission l ≡ false → is_wait l ≡ false
+    waits l h =
+        let behind : (is_wait l || (is_too_many l || is_broken l)) ≡ false = (or_parts (is_risk l) (is_wait l || (is_too_many l || is_broken l)) (rest_of l h)).1 in
+        (or_parts (is_wait l) (is_too_many l || is_broken l) behind).0

@@ -1,4 +1,4 @@
--- No action but the job's end writes END, and none ASSURED, RISK or that its job waits.
+-- No action but the job's end writes END, and none what only a job's admission or its reading does.
 use Rattle.std.proofs.Common.{◌≡◌, ℕ, ◌-◌, Bool, true, false, cond, List, [], ◌∷◌, Option, Some, None, refl, ap, ◌∙◌}
 use Rattle.std.specs.Prelude.{◌||◌, drop, slice_get}
 use Rattle.std.specs.List.{list_any}
@@ -46,9 +46,17 @@ abbrev pub is_risk : JobLine → Bool
 is_risk (line.Risk fault step dd path) = true
 is_risk other = false
 
--- what only the admission writes, and what it or the job's end does
+abbrev pub is_too_many : JobLine → Bool
+is_too_many (line.TooMany step) = true
+is_too_many other = false
+
+abbrev pub is_broken : JobLine → Bool
+is_broken (line.Broken n) = true
+is_broken other = false
+
+-- what only a job's turns before its admission or at it write, and what they or the job's end do
 abbrev pub is_of_admission : JobLine → Bool
-is_of_admission l = is_assured l || (is_risk l || is_wait l)
+is_of_admission l = is_assured l || (is_risk l || (is_wait l || (is_too_many l || is_broken l)))
 
 abbrev pub is_special : JobLine → Bool
 is_special l = is_end l || is_of_admission l

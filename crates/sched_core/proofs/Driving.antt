@@ -6,7 +6,9 @@ use Rattle.jcl_job.specs.Jobs.{job_of}
 use Rattle.jcl_plan.specs.declared.entry.Entry.{Entry}
 use Rattle.input_core.specs.declared.event.Event.{Event}
 use Rattle.world_meaning.specs.Transitions.{Runs}
-use Rattle.sched_core.specs.Systems.{Drives, IsDriven, IsSameFixed, Machine, Steps, denoting, meant_by, world_of}
+use Rattle.world_meaning.specs.Worlds.{World}
+use Rattle.sched_core.specs.Answers.{AnswersAreExact, AreExact, AreExactAlong}
+use Rattle.sched_core.specs.Systems.{Along, Drives, IsDriven, IsSameFixed, Machine, Steps, denoting, meant_by, world_of}
 use Rattle.law_core.specs.Promises.{ArePromises, PromisesAreKept}
 use Rattle.world_meaning.specs.Starts.{IsStart}
 
@@ -84,3 +86,21 @@ pub promises_so : PromisesAreKept → (old new : Machine) (events : List Event) 
     IsStart (world_of old) → ArePromises (denoting old) (world_of old) (world_of new) (map meant_by (take done events)) entries
 promises_so law old new events entries done d is_start =
     law (denoting old) (world_of old) (world_of new) (map meant_by (take done events)) entries is_start d.runs
+
+-- what holds of each step holds of those of a chain
+pub along : (P : (old : Machine) (e : Event) (lines : List Entry) (new : World) → Steps old e lines new → Type 0) →
+    ((old : Machine) (e : Event) (lines : List Entry) (new : World) (s : Steps old e lines new) → P old e lines new s) →
+    (old new : Machine) (events : List Event) (entries : List (List Entry)) → Drives old events entries new → Along P old events entries new
+along P law old new [] [] d = d
+along P law old new (e ∷ es) (lines ∷ more) d = (d.0, d.1, d.2, law old e lines (world_of d.0) d.1, along P law d.0 new es more d.3)
+along P law old new [] (lines ∷ more) d = absurd d
+along P law old new (e ∷ es) [] d = absurd d
+
+-- the answers of what was driven
+pub exact_along : AnswersAreExact → (old new : Machine) (events : List Event) (entries : List (List Entry)) → Drives old events entries new →
+    AreExactAlong old events entries new
+exact_along law old new events entries d = record { along = along (λ m e lines w s. AreExact m lines) law.each old new events entries d }
+
+pub exact_so : AnswersAreExact → (old new : Machine) (events : List Event) (entries : List (List Entry)) (done : ℕ) → IsDriven old events entries done new →
+    AreExactAlong old (take done events) entries new
+exact_so law old new events entries done d = exact_along law old new (take done events) entries d.drives

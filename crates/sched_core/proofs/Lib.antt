@@ -21,3 +21,5 @@ pub mod RefusedGrowth
 pub mod RefusedPrimary
 pub mod ActionFacts
 pub mod Decided
+pub mod OnlyAnswers
+pub mod ExactAnswers

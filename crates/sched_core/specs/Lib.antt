@@ -12,4 +12,5 @@ pub mod Systems
 pub mod Starting
 pub mod Inputs
 pub mod Deciding
+pub mod Answers
 pub mod Zapping

@@ -122,6 +122,15 @@ Drives old (e ∷ es) (lines ∷ more) new = (mid : Machine) × Steps old e line
 Drives old [] (lines ∷ more) new = ⊥
 Drives old (e ∷ es) [] new = ⊥
 
+-- And of each of these steps this holds.
+abbrev pub Along : ((old : Machine) (e : Event) (lines : List Entry) (new : World) → Steps old e lines new → Type 0) →
+    Machine → List Event → List (List Entry) → Machine → Type 0
+Along P old [] [] new = new ≡ old
+Along P old (e ∷ es) (lines ∷ more) new =
+    (mid : Machine) × (s : Steps old e lines (world_of mid)) × IsSameFixed old mid × P old e lines (world_of mid) s × Along P mid es more new
+Along P old [] (lines ∷ more) new = ⊥
+Along P old (e ∷ es) [] new = ⊥
+
 -- The events that were done, each with its lines, lead to the machine as it is now: by the table, and as the volumes of the machine before each decide
 -- it.
 pub record IsDriven (old : Machine) (events : List Event) (entries : List (List Entry)) (done : ℕ) (new : Machine) : Type 0 where

@@ -1,6 +1,11 @@
 //! Laws of what stands in contracts of the machine, without code.
+ghost use Rattle.sched_core.specs.Answers.{AnswersAreExact, AnswersOfDrive};
 ghost use Rattle.sched_core.specs.Deciding.{ActionsAreTold, GrowthIsRefused, PrimaryIsRefused, SetsArePlaced};
 ghost use Rattle.sched_core.specs.Inputs.{AreInputs};
+
+use path_meaning::is_never_two;
+use reach_laws::is_one_answer;
+use walk_laws::denoted_has_no_fault;
 
 /// What a session puts into the machine and the events that it can bring are the same, one by one.
 pub fn inputs_are_events()
@@ -26,3 +31,20 @@ pub fn primary_is_refused()
 pub fn sets_are_placed()
     ensures { SetsArePlaced }
 {}
+
+/// What a job is answered holds of it in the machine as it was, and is the only answer: BROKEN where its records denote no job; ASSURED exactly where no path
+/// meets a fault, no step has too many views and the volumes have room; else WAIT SPACE, RISK at the earliest place, or TOOMANY.
+pub fn answers_are_exact()
+    ensures { AnswersAreExact }
+{
+    is_never_two();
+    is_one_answer();
+    denoted_has_no_fault();
+}
+
+/// So is what each job is answered by the events of a list that were done.
+pub fn answers_of_a_drive()
+    ensures { AnswersOfDrive }
+{
+    answers_are_exact();
+}

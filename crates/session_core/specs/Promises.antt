@@ -1,7 +1,9 @@
--- The promise of each ASSURED line of a session.
+-- The promise of each ASSURED line of a session, that what each job is answered is exact, and what its volumes decide.
 use Rattle.std.specs.Prelude.{ℕ, List, map}
 use Rattle.input_core.specs.declared.event.Event.{Event}
 use Rattle.law_core.specs.Promises.{ArePromises}
+use Rattle.sched_core.specs.Answers.{AreExactAlong}
+use Rattle.sched_core.specs.Deciding.{AreDecidedAlong}
 use Rattle.sched_core.specs.Systems.{meant_by, world_of}
 use Rattle.session_text.specs.declared.statement.Statement.{Statement}
 use Rattle.session_core.specs.Listings.{Lists}
@@ -12,3 +14,14 @@ use Rattle.session_core.specs.declared.Options.{Options}
 abbrev pub PromisesOfSession : Type 0
 PromisesOfSession = (o : Options) (config : List Statement) (events : List Event) (listing : List ℕ) → (l : Lists o config events listing) →
     ArePromises (denoting_of config) (world_at_start o config) (world_of l.last) (map meant_by events) l.entries
+
+-- With whichever options, each line of a listing that answers a job holds of it in the machine as it was, and is the only answer: BROKEN, ASSURED, WAIT SPACE,
+-- RISK, TOOMANY.
+abbrev pub AnswersOfSession : Type 0
+AnswersOfSession = (o : Options) (config : List Statement) (events : List Event) (listing : List ℕ) → (l : Lists o config events listing) →
+    AreExactAlong l.first events l.entries l.last
+
+-- And each event of it is decided by the volumes of the machine before it.
+abbrev pub VolumesDecideSession : Type 0
+VolumesDecideSession = (o : Options) (config : List Statement) (events : List Event) (listing : List ℕ) → (l : Lists o config events listing) →
+    AreDecidedAlong l.first events l.entries l.last

@@ -4,12 +4,13 @@ ghost use Rattle.config_core.specs.Configs.{Configuration};
 ghost use Rattle.config_core.specs.Configured.{IsConfigured};
 ghost use Rattle.sched_core.specs.Starting.{IsStarted};
 ghost use Rattle.sched_core.specs.Systems.{Machine};
-ghost use Rattle.session_core.specs.Promises.{PromisesOfSession};
+ghost use Rattle.session_core.specs.Promises.{AnswersOfSession, PromisesOfSession, VolumesDecideSession};
 ghost use Rattle.session_core.specs.Sessions.{refuses_in};
 ghost use Rattle.session_core.specs.declared.Options.{Options};
 
 use config_core::laws::configuration_is_start;
 use law_core::promises_are_kept;
+use sched_core::laws::{answers_are_exact, growth_is_refused, primary_is_refused, sets_are_placed};
 use sched_core::start::first_layout_is_for_machine;
 
 /// From any listing of a session, each ASSURED line among its entries is kept.
@@ -25,4 +26,21 @@ pub fn configuration_has_a_machine()
 {
     configuration_is_start();
     first_layout_is_for_machine();
+}
+
+/// What each job of a session is answered is exact, in the machine as it was.
+pub fn answers_of_a_session()
+    ensures { AnswersOfSession }
+{
+    answers_are_exact();
+}
+
+/// Along a session SB37 stands in the place of a request only where the volumes, as they were before its event, had no room for the tracks that it asked for; F6
+/// is told of a DD with a key only where a volume had none for its primary; and sets are placed by the rule.
+pub fn volumes_decide_a_session()
+    ensures { VolumesDecideSession }
+{
+    growth_is_refused();
+    primary_is_refused();
+    sets_are_placed();
 }
