@@ -62,7 +62,7 @@ def shown_sessions():
             session = session_of(text)
             if session is not None:
                 yield f"{document}, {heading_over(text_of(document), example)}", session, wanted
-    for path in sorted(glob.glob("examples/*.session")):
+    for path in sorted(glob.glob("examples/**/*.session", recursive=True)):
         names = [path.replace(".session", end) for end in (".listing", ".error")]
         yield path, ("", text_of(path)), "".join(text_of(name) for name in names if os.path.exists(name))
 

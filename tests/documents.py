@@ -113,7 +113,7 @@ def main():
     os.chdir(os.path.join(os.path.dirname(os.path.abspath(__file__)), ".."))
     program = os.path.abspath(sys.argv[1] if len(sys.argv) > 1 else "mvt")
     wrong = [*refusals_without_row(), *typed_and_told_otherwise(program), *faults_told_otherwise(program)]
-    for document in ["README.md", *sorted(glob.glob("docs/*.md")), "bench/README.md"]:
+    for document in ["README.md", *sorted(glob.glob("docs/*.md")), "bench/README.md", "examples/shop/README.md"]:
         wrong += [f"{document}: {said}" for said in [*examples_that_differ(document, program), *long_lines(document)]]
         count = len([*examples_of(document)])
         if count:

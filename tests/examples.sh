@@ -7,7 +7,7 @@ cd "$(dirname "$0")/.." || exit 2
 program=${1:-./mvt}
 status=0
 said=$(mktemp) && listed=$(mktemp) || exit 2
-for session in examples/*.session; do
+for session in examples/*.session examples/*/*.session; do
     name=${session%.session}
     wanted=/dev/null
     status_wanted=0
