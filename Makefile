@@ -1,6 +1,6 @@
 # Needs the Rattle toolchain (`rt` on the path).
 
-.PHONY: help test run mvt examples documents rows
+.PHONY: help test run mvt examples documents rows hostile
 
 # The session that `make run` runs.
 SESSION ?= examples/first.session
@@ -18,6 +18,7 @@ help:
 	@echo 'make examples             runs each session of examples/ with ./mvt and compares the listings'
 	@echo 'make documents            compares README.md and docs/ with ./mvt: what examples print, what refusals are told'
 	@echo 'make rows                 compares the worked rows that are texts with ./mvt and with the row programs'
+	@echo 'make hostile              refuses each allocation in turn and runs mutated sessions, behind make test'
 	@echo 'make test                 the gate: every proof from nothing, the edits that must fail, the tests, the programs'
 
 # Runs the program on a session. Nothing is proved.
@@ -47,6 +48,12 @@ rows: mvt
 	for crate in $(ROW_PROGRAMS); do test -x crates/$$crate/out/$$crate || (cd crates/$$crate && rt run </dev/null) || exit 1; done
 	python3 tests/rows.py ./mvt
 	tests/examples.sh ./mvt
+
+# Hostile use, beside what the gate has of it: memory is refused and sessions are mutated; each script with its time. REFERENCE is a
+# command that reads a session and writes its listing, where there is one.
+hostile: mvt
+	@for it in 'tests/refused_memory.sh' 'tests/hostile.sh $(REFERENCE)'; do \
+		start=$$(date +%s); $$it || exit 1; echo "$$it: $$(($$(date +%s) - start)) s"; done
 
 # The gate.
 test:

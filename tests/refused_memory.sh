@@ -1,9 +1,10 @@
 #!/bin/sh
 # Refuses the allocations of proved programs one at a time, the first, then the second and so on, until a run asks for no more.
 # - The row programs show the values of a call that wants memory before and behind it, and make the call again: no row may come out as
-#   another than it is, but by a line MEMORY.
-# - The program, on a session, must write the listing of a whole number of its events and end with status 3, or write all of it; a run
-#   writes never less than one in which an earlier allocation is refused, and the last that wants memory all but at most one event's.
+#   another than it is, but by a line MEMORY. Of a session they drive the events too: the event for which memory was wanting is done again.
+# - The program, on a session of examples/ or of wanting.rows, must write the listing of a whole number of its events and end with status
+#   3, or write all of it; a run writes never less than one in which an earlier allocation is refused, and the last that wants memory all
+#   but at most one event's.
 # It needs a C compiler, ./mvt (make mvt) and the row programs that the gate built.
 # Usage: tests/refused_memory.sh
 
@@ -49,8 +50,8 @@ if [ ! -x ./mvt ]; then
 fi
 failed=0
 
-# The rows of a table: CRATE TABLE STEP tries each STEPth allocation.
-try_rows() {
+# The rows of a table: CRATE TABLE STEP NAME tries each STEPth allocation.
+try_table() {
     program=$PWD/crates/$1/out/$1
     if [ ! -x "$program" ]; then
         echo "$program is not there: make test builds it"
@@ -58,70 +59,89 @@ try_rows() {
     fi
     input=/dev/null
     number=1
-    while refusing "$number" "$program" "crates/$1/data/$2.rows"; status=$?; [ -s "$work/told" ]; do
+    while refusing "$number" "$program" "$2"; status=$?; [ -s "$work/told" ]; do
         if [ $status -gt 3 ] || grep -qx CHANGED "$work/err" || { grep -qx -e '-- came' "$work/err" && ! grep -qx MEMORY "$work/err"; }; then
-            echo "$1: $2: allocation $number: status $status"
+            echo "$1: $4: allocation $number: status $status"
             cat "$work/err"
             failed=1
         fi
         number=$((number + $3))
     done
-    echo "$1: $2: of $((number - 1)) allocations one in $3 was refused in turn"
+    echo "$1: $4: of $((number - 1)) allocations one in $3 was refused in turn"
 }
 
-for table in volumes catalog groups extents records mounted; do try_rows volume_rows $table 1; done
-try_rows machine_rows places 1
-try_rows store_rows stores 7
-try_rows session_rows configurations 7
+for table in volumes catalog groups extents records mounted; do try_table volume_rows crates/volume_rows/data/$table.rows 1 $table; done
+try_table machine_rows crates/machine_rows/data/places.rows 1 places
+try_table store_rows crates/store_rows/data/stores.rows 7 stores
+try_table session_rows crates/session_rows/data/configurations.rows 7 configurations
 
-# How many bytes the events of a session list: the first, the first two, and so on.
+# How many bytes the events of the session list: the first, the first two, and so on.
 sizes_of() {
-    awk '$2 == "TURN" || $2 == "WRITE" {n = split($3, it, "*") > 1 ? it[2] : 1; for (k = 0; k < n; k++) print $1, $2, it[1]; next} {print}' "$1" >"$work/events"
+    awk '$2 == "TURN" || $2 == "WRITE" {n = split($3, it, "*") > 1 ? it[2] : 1; for (k = 0; k < n; k++) print $1, $2, it[1]; next} {print}' "$input" >"$work/events"
     lines=$(wc -l <"$work/events")
     line=0
     while [ "$line" -le "$lines" ]; do
-        head -n "$line" "$work/events" | ./mvt 2>/dev/null | wc -c
+        # shellcheck disable=SC2086
+        head -n "$line" "$work/events" | ./mvt $options 2>/dev/null | wc -c
         line=$((line + 1))
     done | sort -nu
 }
 
-for input in examples/*.session; do
-    listing=${input%.session}.listing
-    sizes_of "$input" >"$work/sizes"
+# The program on a session: NAME LISTING.
+try_session() {
+    sizes_of >"$work/sizes"
     number=1
     most=0
     while :; do
-        refusing $number ./mvt
+        # shellcheck disable=SC2086
+        refusing $number ./mvt $options
         status=$?
         size=$(wc -c <"$work/out")
         if [ ! -s "$work/told" ]; then break; fi
         if [ $status -eq 3 ]; then
             if [ "$size" -lt "$most" ]; then
-                echo "$input: allocation $number: $size bytes, and $most with an earlier one refused"
+                echo "$1: allocation $number: $size bytes, and $most with an earlier one refused"
                 failed=1
             fi
             most=$size
             if ! grep -qx "$size" "$work/sizes"; then
-                echo "$input: allocation $number: $size bytes are no whole number of events"
+                echo "$1: allocation $number: $size bytes are no whole number of events"
                 failed=1
             fi
         fi
-        if ! cmp -s "$work/out" "$listing"; then
-            if [ $status -ne 3 ] || ! head -c "$size" "$listing" | cmp -s "$work/out" -; then
-                echo "$input: allocation $number: status $status and no beginning of its listing"
+        if ! cmp -s "$work/out" "$2"; then
+            if [ $status -ne 3 ] || ! head -c "$size" "$2" | cmp -s "$work/out" -; then
+                echo "$1: allocation $number: status $status and no beginning of its listing"
                 failed=1
             fi
         fi
         number=$((number + 1))
     done
-    if ! cmp -s "$work/out" "$listing"; then
-        echo "$input: its listing differs though nothing is refused"
+    if ! cmp -s "$work/out" "$2"; then
+        echo "$1: its listing differs though nothing is refused"
         failed=1
     fi
     if [ "$most" -lt "$(tail -n 2 "$work/sizes" | head -n 1)" ]; then
-        echo "$input: at the last allocation more than one event's lines are wanting"
+        echo "$1: at the last allocation more than one event's lines are wanting"
         failed=1
     fi
-    echo "$input: $((number - 1)) allocations refused in turn, with up to $most bytes of the listing"
+    echo "$1: $((number - 1)) allocations refused in turn, with up to $most bytes of the listing"
+}
+
+# Each row of wanting.rows in a table of its own, and its session with the program.
+mkdir "$work/rows"
+awk -v folder="$work/rows" '/^== /{name = sprintf("%s/%02d", folder, ++count)} count {print >name}' crates/session_rows/data/wanting.rows
+for row in "$work"/rows/*; do
+    try_table session_rows "$row" 1 "$(head -n 1 "$row")"
+    sed '1d; /^=>$/,$d; /^!/d' "$row" >"$work/session"
+    sed '1,/^=>$/d; /^$/d' "$row" >"$work/listing"
+    options=$(sed -n 's/^!\(risk [a-z]*\|views [0-9]*\|explain\)$/--\1/p' "$row")
+    input=$work/session
+    try_session "$(head -n 1 "$row")" "$work/listing"
+done
+
+options=
+for input in examples/*.session; do
+    try_session "$input" "${input%.session}.listing"
 done
 exit $failed

@@ -4,6 +4,7 @@ Usage: python3 tests/rows.py PROGRAM       behind `make test` or `make rows`, wh
 """
 
 import glob
+import itertools
 import os
 import re
 import subprocess
@@ -48,12 +49,32 @@ def repeated(lines):
         if line.startswith("!times "):
             block, times = [], int(line[7:])
         elif line == "!end":
-            number = lambda at: re.sub(r"\\#(#*)", lambda it: str(at).zfill(len(it[1]) + 1), "\n".join(block))
-            out += [number(at) for at in range(1, times + 1)]
+            out += [session_with("\n".join(block), at) for at in range(1, times + 1)]
             block = None
         elif not line.startswith("!"):
             (out if block is None else block).append(line)
     return out
+
+
+def session_with(session, number):
+    """The session with a number in place of each `\\#`."""
+    return re.sub(r"\\#(#*)", lambda it: str(number).zfill(len(it[1]) + 1), session)
+
+
+def answers_by_number(first, answers, between=":\n"):
+    """What is told of answers to numbers from the first on: those that follow one another and are equal once, behind the numbers."""
+    told = ""
+    for answer, group in itertools.groupby(enumerate(answers, first), key=lambda it: it[1]):
+        numbers = [number for number, _ in group]
+        told += " to ".join(map(str, sorted({numbers[0], numbers[-1]}))) + between + answer
+    return told
+
+
+def told_by(program, options, session):
+    """What a program tells of a session."""
+    run = subprocess.run([program, *options], input=unescaped(session), capture_output=True, check=False)
+    told = run.stdout.decode("latin-1")
+    return told + f"status {run.returncode}: {run.stderr.decode()}" if run.returncode else told
 
 
 def compare_sessions(program, path):
@@ -62,15 +83,16 @@ def compare_sessions(program, path):
     for name, put_in, wanted in rows_of(path):
         lines = put_in.rstrip("\n").split("\n")
         commands = [line[1:] for line in lines if line.startswith("!")]
-        if not all(command.startswith(PLAIN) for command in commands):
+        spans = [re.fullmatch(r"each (\d+) to (\d+)", command) for command in commands]
+        if not all(span or command.startswith(PLAIN) for span, command in zip(spans, commands)):
             continue
         asked = [it.split() for it in commands if it.startswith(("risk ", "views ", "explain"))]
         options = [word for name, *values in asked for word in ("--" + name, *values)]
-        session = unescaped("\n".join(repeated(lines)) + "\n")
-        run = subprocess.run([program, *options], input=session, capture_output=True, check=False)
-        told = run.stdout.decode("latin-1")
-        if run.returncode:
-            told += f"status {run.returncode}: {run.stderr.decode()}"
+        session = "\n".join(repeated(lines)) + "\n"
+        told = told_by(program, options, session) if not any(spans) else ""
+        for first, last in (map(int, span.groups()) for span in spans if span):
+            numbers = range(first, last + 1)
+            told += answers_by_number(first, [told_by(program, options, session_with(session, number)) for number in numbers])
         count += 1
         if told != unescaped(wanted).decode("latin-1"):
             failed += 1

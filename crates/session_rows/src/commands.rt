@@ -11,6 +11,13 @@ pub(crate) enum Failing {
     Writes,
 }
 
+/// Numbers from the first to the last.
+#[derive(Clone, Copy)]
+pub(crate) struct Span {
+    pub(crate) first: u16,
+    pub(crate) last: u16,
+}
+
 /// What is asked for.
 #[derive(Clone, Copy)]
 pub(crate) struct Asked {
@@ -23,6 +30,8 @@ pub(crate) struct Asked {
     pub(crate) counts: bool,
     /// Whether the session is run for each call, which fails.
     pub(crate) failing: Option<Failing>,
+    /// The numbers for each of which the session is run.
+    pub(crate) each: Option<Span>,
     /// Whether the events are driven one after another too.
     pub(crate) driven: bool,
     /// How the text ends, where its statements are told and it is not run.
@@ -84,13 +93,15 @@ enum Numbered {
     Read,
     Write,
     Last,
+    Each,
 }
 
-const NUMBERED: [(&str, Numbered); 4] = [
+const NUMBERED: [(&str, Numbered); 5] = [
     ("views", Numbered::Views),
     ("read", Numbered::Read),
     ("write", Numbered::Write),
     ("last", Numbered::Last),
+    ("each", Numbered::Each),
 ];
 
 /// Calls of so many bytes at most, of which none fails.
@@ -115,8 +126,20 @@ pub(crate) fn asked_first() -> Asked {
         last: None,
         counts: false,
         failing: None,
+        each: None,
         driven: false,
         statements: None,
+    }
+}
+
+/// Takes the rest of a span.
+fn span_from(first: u16, words: &mut Words<'_>) -> Span {
+    if words.next_word() != b"to".as_slice() {
+        words.refuse();
+    }
+    Span {
+        first,
+        last: words.short(),
     }
 }
 
@@ -136,6 +159,7 @@ impl Asked {
             Some(Numbered::Read) => self.reads.most = usize::from(number),
             Some(Numbered::Write) => self.writes.most = usize::from(number),
             Some(Numbered::Last) => self.last = Some(usize::from(number)),
+            Some(Numbered::Each) => self.each = Some(span_from(number, words)),
             None => {}
         }
     }

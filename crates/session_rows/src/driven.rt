@@ -13,6 +13,7 @@ use plain::draft::Draft;
 use plain::listed::Listed;
 use sched_core::start::first_layout_is_for_machine;
 use sched_core::system::System;
+use session_core::{Options, RiskChoice};
 use session_text::parse::statements;
 use session_text::statement::{Ending, Says, Statement};
 use std::alloc::{AllocError, Global};
@@ -98,10 +99,25 @@ fn push_entries(text: &mut Draft, entries: &[Listed<Entry>]) -> Result<(), Alloc
 }
 
 /// Drives the events, and once more the first for which memory was wanting with those behind it.
-fn drive(alloc: Global, config: Config, events: &[Event<'_>]) -> Result<Draft, AllocError> {
+fn drive(
+    alloc: Global,
+    config: Config,
+    options: Options,
+    events: &[Event<'_>],
+) -> Result<Draft, AllocError> {
     let (store, fixed) = config.take_apart()?;
     let queue = first_queue(alloc)?;
-    let mut system = System::new(alloc, store, queue, &fixed, false, 1_024, false)?;
+    let refuses = options.risk == RiskChoice::Refuse;
+    let views = usize::from(options.views);
+    let mut system = System::new(
+        alloc,
+        store,
+        queue,
+        &fixed,
+        refuses,
+        views,
+        options.explains,
+    )?;
     let first = system.drive(events);
     let (_, rest) = events.split_at(first.done);
     let then = system.drive(rest);
@@ -113,10 +129,14 @@ fn drive(alloc: Global, config: Config, events: &[Event<'_>]) -> Result<Draft, A
 }
 
 /// The listing of a session whose events are driven one after another.
-pub(crate) fn list_driven(alloc: Global, text: &[u8]) -> Result<Draft, AllocError> {
+pub(crate) fn list_driven(
+    alloc: Global,
+    options: Options,
+    text: &[u8],
+) -> Result<Draft, AllocError> {
     let read = statements(alloc, text, Ending::Whole)?;
     let mut config = Config::new(alloc);
     let mut events = Vec::new(alloc);
     gather(&mut config, &mut events, read.into_vec())?;
-    drive(alloc, config, events.as_slice())
+    drive(alloc, config, options, events.as_slice())
 }

@@ -1,5 +1,6 @@
 //! A session run as the program `mvt` runs it.
 use crate::commands::{Asked, Failing};
+use crate::each::Answers;
 use crate::streams::{Page, Parts};
 use row_table::told::Told;
 use session_core::{SessionEnd, SessionFault, run_session};
@@ -116,15 +117,15 @@ fn list(alloc: Global, asked: &Asked, text: &[u8], told: &mut Told) {
     }
 }
 
-/// What came of a session of which a call failed: the call, how often its stream was called, how many bytes of the listing were written, and
-/// how the program ends.
+/// What came of a session of which a call failed: how often its stream was called, where that is not the call which failed, how many bytes
+/// of the listing were written, and how the program ends.
 fn tell_failed(told: &mut Told, outcome: &Outcome, call: usize, calls: usize, whole: &[u8]) {
     let held = outcome.page.held.as_slice();
-    told.numbered(b"call ", call as u64);
     if calls != call {
-        told.numbered(b" of ", calls as u64);
+        told.numbered(b"calls ", calls as u64);
+        told.word(b", ");
     }
-    told.numbered(b", bytes ", held.len() as u64);
+    told.numbered(b"bytes ", held.len() as u64);
     if !whole.starts_with(held) {
         told.word(b" that are no beginning");
     }
@@ -150,23 +151,42 @@ fn failing_at(asked: &Asked, failing: Failing, call: usize) -> Asked {
     asked
 }
 
+/// What is told of a session of which a call fails, or none where there is no such call.
+fn told_failing(
+    alloc: Global,
+    asked: &Asked,
+    text: &[u8],
+    failing: Failing,
+    call: usize,
+    whole: &[u8],
+) -> Option<Told> {
+    let mut told = Told::new(alloc);
+    let asked = failing_at(asked, failing, call);
+    if let Some(outcome) = run_whole(alloc, &asked, text, &mut told) {
+        let calls = calls_of(failing, &outcome);
+        if calls < call {
+            return None;
+        }
+        tell_failed(&mut told, &outcome, call, calls, whole);
+    }
+    Some(told)
+}
+
 /// Runs a session once for each call, which fails.
 fn list_each(alloc: Global, asked: &Asked, text: &[u8], failing: Failing, told: &mut Told) {
     let Some(whole) = run_whole(alloc, asked, text, told) else {
         return;
     };
+    let whole = whole.page.held.as_slice();
+    let mut answers = Answers::new(alloc, b": ");
     for call in 1..u16::MAX {
-        let call = usize::from(call);
-        let asked = failing_at(asked, failing, call);
-        let Some(outcome) = run_whole(alloc, &asked, text, told) else {
-            return;
+        let Some(answer) = told_failing(alloc, asked, text, failing, usize::from(call), whole)
+        else {
+            break;
         };
-        let calls = calls_of(failing, &outcome);
-        if calls < call {
-            return;
-        }
-        tell_failed(told, &outcome, call, calls, whole.page.held.as_slice());
+        answers.take(call, answer, told);
     }
+    answers.tell(told);
 }
 
 /// Runs a session as it is asked for, and tells what came.

@@ -3,6 +3,7 @@
 
 mod commands;
 mod driven;
+mod each;
 mod listing;
 mod row;
 mod statements;
@@ -10,6 +11,7 @@ mod streams;
 
 use crate::commands::Asked;
 use crate::driven::list_driven;
+use crate::each::tell_each;
 use crate::listing::tell_runs;
 use crate::row::new_row;
 use crate::statements::tell_statements;
@@ -27,10 +29,21 @@ struct Sessions;
 fn tell_listing(alloc: Global, asked: &Asked, text: &[u8], told: &mut Told) {
     tell_runs(alloc, asked, text, told);
     if asked.driven
-        && let Some(driven) = told.got(list_driven(alloc, text))
+        && let Some(driven) = told.got(list_driven(alloc, asked.options, text))
         && driven.kept() != told.as_slice()
     {
         told.line_of_two(b"DRIVEN\n", driven.kept());
+    }
+}
+
+/// Tells what is asked for of a text whose bytes are shown.
+fn tell_text(alloc: Global, asked: &Asked, shown: &[u8], told: &mut Told) {
+    let Some(text) = told.got(unescaped(alloc, shown)) else {
+        return;
+    };
+    match asked.statements {
+        Some(ending) => tell_statements(alloc, told, text.as_slice(), ending),
+        None => tell_listing(alloc, asked, text.as_slice(), told),
     }
 }
 
@@ -42,12 +55,9 @@ impl Subject for Sessions {
         if row.text.is_wanting() {
             told.want();
         }
-        let Some(text) = told.got(unescaped(alloc, row.text.as_slice())) else {
-            return;
-        };
-        match row.asked.statements {
-            Some(ending) => tell_statements(alloc, told, text.as_slice(), ending),
-            None => tell_listing(alloc, &row.asked, text.as_slice(), told),
+        match row.asked.each {
+            Some(span) => tell_each(alloc, &row.asked, row.text.as_slice(), span, told),
+            None => tell_text(alloc, &row.asked, row.text.as_slice(), told),
         }
     }
 }

@@ -63,8 +63,8 @@ fn tell_numbered(text: &mut Told, line: &[u8], number: u16) {
     text.end_line();
 }
 
-/// The lines of a block, with its running number.
-fn tell_block(text: &mut Told, block: &[u8], number: u16) {
+/// Lines in which a number stands.
+pub(crate) fn tell_block(text: &mut Told, block: &[u8], number: u16) {
     let mut lines = Lines::new(block);
     for _ in 0..block.len() {
         let Some(line) = lines.next_line() else {
