@@ -16,6 +16,7 @@ pub mod Risks
 pub mod Shows
 pub mod Machined
 pub mod Begun
+pub mod Nexts
 pub mod Driving
 pub mod RefusedGrowth
 pub mod RefusedPrimary

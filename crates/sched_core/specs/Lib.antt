@@ -14,3 +14,4 @@ pub mod Inputs
 pub mod Deciding
 pub mod Answers
 pub mod Zapping
+pub mod Views

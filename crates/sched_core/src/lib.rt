@@ -16,4 +16,5 @@ mod showing;
 pub mod start;
 pub mod state;
 pub mod system;
+pub mod views;
 mod zapping;

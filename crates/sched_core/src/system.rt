@@ -46,10 +46,10 @@ pub struct Driven {
 /// The machine between two events, over any store of records.
 pub struct System<'c, Q: RecordStore> {
     alloc: Global,
-    profile: Profile<'c>,
+    pub(crate) profile: Profile<'c>,
     units: &'c UnitNames,
     library: &'c ProcLibrary,
-    state: State<Q>,
+    pub(crate) state: State<Q>,
 }
 
 impl<'c, Q: RecordStore> Model for System<'c, Q> {
@@ -126,7 +126,7 @@ impl<'c, Q: RecordStore> System<'c, Q> {
     }
 
     /// One event, and a refusal as its line. Want of memory changes nothing.
-    fn apply_shown(&mut self, event: &Event<'_>) -> Result<Listed<Entry>, AllocError>
+    pub fn apply_shown(&mut self, event: &Event<'_>) -> Result<Listed<Entry>, AllocError>
         ensures step { IfOk result (λ lines. Steps self.old event.now lines (world_of self.new)) }
         ensures err { OnErr result (self.new ≡ self.old) }
         ensures fixed { IsSameFixed self.old self.new }

@@ -2,3 +2,4 @@ mod Keeping
 mod Entering
 mod Filled
 mod Taking
+mod Having

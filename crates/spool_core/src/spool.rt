@@ -3,6 +3,7 @@ ghost use Rattle.std.specs.Prelude.{ℕ, List, ◌≡◌, ◌+◌, ◌≤◌, �
 ghost use Rattle.machine_meaning.specs.Spools.{HasNoSet, Takes, has_lines, output_set, sets_of, with_sets};
 ghost use Rattle.spool_core.specs.declared.spool.Place.{Place};
 ghost use Rattle.spool_core.specs.Places.{AreStarts, HasRoom, IsFirst, NoneBefore, Stand, TakesRoom, filled_places, sets_at};
+ghost use Rattle.spool_core.specs.Sets.{has_set};
 
 use crate::queued::Queued;
 use jcl_meaning::state::Output;
@@ -88,6 +89,17 @@ impl Spool {
         let outputs = replace(outputs, Listed::empty(alloc));
         put_outputs(&mut self.sets, &mut self.places, job, outputs);
         Ok(())
+    }
+
+    /// Whether a class has a line.
+    pub fn has_set(&self, class: u8) -> bool
+        ensures { result ≡ has_set self.now class }
+    {
+        let from = start_of(self.starts.as_slice(), class);
+        match index_of(self.places.as_slice(), class, from) {
+            Some(_) => true,
+            None => false,
+        }
     }
 
     /// Takes the first line of a class, and tells whose it is.
