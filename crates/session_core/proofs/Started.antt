@@ -87,7 +87,7 @@ same_choice : (choice : RiskChoice) → choice_of (is_refusal choice) ≡ choice
 same_choice risk.Run = refl
 same_choice risk.Refuse = refl
 
-same_options : (o : Options) (c : Configuration) (first : Machine) → IsFirst o c first → options_in first.config ≡ o
+pub same_options : (o : Options) (c : Configuration) (first : Machine) → IsFirst o c first → options_in first.config ≡ o
 same_options o c first started =
     ap (λ (w : World). options_in w.config) started.world ∙ ap (λ (choice : RiskChoice). record { risk = choice; views = o.views; explains = o.explains }) (same_choice o.risk)
 

@@ -9,3 +9,4 @@ pub mod Running
 pub mod Failures
 pub mod Promises
 pub mod Leaving
+pub mod Opening

@@ -3,10 +3,11 @@
 
 mod configure;
 pub mod laws;
-mod listing;
-mod run;
+pub mod listing;
+pub mod open;
+pub mod run;
 pub mod stream;
-mod transfer;
+pub mod transfer;
 
 ghost use Rattle.std.specs.Prelude.{◌≡◌, ℕ, List, false};
 ghost use Rattle.session_core.specs.Failures.{AreTold, TellsCut};

@@ -21,24 +21,24 @@ use std::alloc::{AllocError, Global};
 use std::io::Write;
 
 /// So many bytes of lines are written out before the next statement runs.
-pub(crate) const MOST_HELD: usize = 65_536;
+pub const MOST_HELD: usize = 65_536;
 
 /// Where the lines of a statement begin in the held text, and its own first line.
 #[derive(Clone, Copy)]
-pub(crate) struct Mark {
-    pub(crate) line: usize,
-    pub(crate) start: usize,
+pub struct Mark {
+    pub line: usize,
+    pub start: usize,
 }
 
 /// The text that is held, and the statements that wrote it, in order.
 #[derive(Drop)]
-pub(crate) struct Listing {
-    pub(crate) text: Draft,
-    pub(crate) marks: Vec<Mark>,
+pub struct Listing {
+    pub text: Draft,
+    pub marks: Vec<Mark>,
 }
 
 impl Listing {
-    pub(crate) fn empty(alloc: Global) -> Listing
+    pub fn empty(alloc: Global) -> Listing
         ensures text { result.text.kept ≡ [] }
         ensures marks { result.marks.items ≡ [] }
     {
@@ -49,7 +49,7 @@ impl Listing {
     }
 
     /// Holds the lines too, or none of them.
-    pub(crate) fn add(&mut self, entries: &[Entry]) -> Result<(), AllocError>
+    pub fn add(&mut self, entries: &[Entry]) -> Result<(), AllocError>
         ensures ok { OnOk result (self.new.text.kept ≡ self.old.text.kept ++ flat_map text_of entries.now) }
         ensures err { OnErr result (self.new.text.kept ≡ self.old.text.kept) }
         ensures marks { self.new.marks.items ≡ self.old.marks.items }
@@ -60,7 +60,7 @@ impl Listing {
     }
 
     /// Writes what is held, and holds nothing then. An `Err` is what the session comes to where the writer takes a part of it alone.
-    pub(crate) fn write_out<W: Write>(&mut self, sink: &mut Sink<'_, W>) -> Result<(), SessionFault>
+    pub fn write_out<W: Write>(&mut self, sink: &mut Sink<'_, W>) -> Result<(), SessionFault>
         requires { sink.old.failed ≡ false }
         ensures ok { OnOk result (Appends (W.contents sink.old.writer.now) (W.contents sink.new.writer.now) self.old.text.kept) }
         ensures text { OnOk result (self.new.text.kept ≡ []) }
@@ -86,7 +86,7 @@ impl Listing {
     }
 
     /// Writes what is held, and then answers with what the session came to.
-    pub(crate) fn end<W: Write>(
+    pub fn end<W: Write>(
         &mut self,
         sink: &mut Sink<'_, W>,
         outcome: Result<SessionEnd, SessionFault>,

@@ -1,7 +1,6 @@
 //! The events of the statements, and their lines.
-ghost use Rattle.std.specs.Prelude.{◌≡◌, [], Bool, IfOk, OnErr, OnOk, drop, false, is_some, replicate, true};
+ghost use Rattle.std.specs.Prelude.{◌≡◌, [], Bool, OnErr, OnOk, drop, false, is_some, replicate, true};
 ghost use Rattle.cb_meaning.specs.declared.layout.TheConstants.{LAYOUT_1};
-ghost use Rattle.cb_queue.specs.RecordQueues.{empty_queue};
 ghost use Rattle.input_core.specs.declared.statement.ConfigStatement.{ConfigStatement};
 ghost use Rattle.config_core.specs.Configs.{Configuration};
 ghost use Rattle.session_core.specs.Configuring.{IsConfiguredBy, late_in};
@@ -11,20 +10,17 @@ ghost use Rattle.session_core.specs.Running.{AreApplied, AreAppliedInPart, IsApp
 ghost use Rattle.session_core.specs.Sessions.{refuses_in, session_behind};
 ghost use Rattle.session_core.specs.Streams.{sink_state};
 ghost use Rattle.session_text.specs.declared.statement.Says.TheVariants as says;
-ghost use Rattle.sched_core.specs.Starting.{IsForMachine, IsStarted};
+ghost use Rattle.sched_core.specs.Starting.{IsStarted};
 ghost use Rattle.sched_core.specs.Systems.{IsSameFixed};
 
-use crate::configure::{configure, late_in};
 use crate::listing::{Listing, MOST_HELD, Mark};
+use crate::open::{Opened, open, start};
 use crate::stream::Sink;
 use crate::{Options, SessionEnd, SessionFault};
-use cb_meaning::layout::LAYOUT_1;
 use cb_queue::list_store::ListStore;
-use config_core::config::Config;
 use input_core::event::Event;
 use jcl_plan::entry::Entry;
 use sched_core::fault::ApplyFault;
-use sched_core::start::first_layout_is_for_machine;
 use sched_core::system::System;
 use session_text::fault::Fault;
 use session_text::statement::{Says, Statement};
@@ -71,7 +67,7 @@ fn run_events(
 }
 
 /// Runs a statement behind the configuration, and lists its lines.
-fn run_statement(
+pub fn run_statement(
     statement: &Statement<'_>,
     late: Option<Fault>,
     system: &mut System<'_, ListStore>,
@@ -139,18 +135,8 @@ fn run_from<W: Write>(
     listing.end(sink, Ok(SessionEnd))
 }
 
-/// The queue of a machine that begins: no record is in use.
-pub(crate) fn first_queue(alloc: Global) -> Result<ListStore, AllocError>
-    ensures empty { IfOk result (λ queue. queue ≡ empty_queue LAYOUT_1) }
-    ensures layout { IfOk result (λ queue. IsForMachine queue.layout) }
-{
-    first_layout_is_for_machine();
-    let queue = ListStore::new(alloc, LAYOUT_1)?;
-    Ok(queue)
-}
-
 /// Runs the statements up to the first fault with these options, and writes their lines.
-pub(crate) fn run<W: Write>(
+pub fn run<W: Write>(
     alloc: Global,
     statements: &[Statement<'_>],
     options: Options,
@@ -161,29 +147,18 @@ pub(crate) fn run<W: Write>(
     ensures failed { sink.new.failed ≡ is_write_fault result }
     ensures same_writer { sink.new.writer.ghost_name ≡ sink.old.writer.ghost_name }
 {
-    let mut config = Config::new(alloc);
-    let from = match configure(&mut config, statements) {
-        Ok(from) => from,
+    let opened = match open(alloc, statements) {
+        Ok(opened) => opened,
         Err(fault) => return Err(fault),
     };
-    let (_, rest) = statements.split_at(from);
-    let late = late_in(&mut config, rest);
-    let Ok((store, fixed)) = config.take_apart() else {
-        return Err(SessionFault::Memory);
-    };
-    let Ok(queue) = first_queue(alloc) else {
-        return Err(SessionFault::Memory);
-    };
-    let views = usize::from(options.views);
-    let Ok(mut system) = System::new(
-        alloc,
+    let Opened {
         store,
+        fixed,
         queue,
-        &fixed,
-        options.refuses(),
-        views,
-        options.explains,
-    ) else {
+        from,
+        late,
+    } = opened;
+    let Ok(mut system) = start(alloc, store, queue, &fixed, options) else {
         return Err(SessionFault::Memory);
     };
     let outcome = run_from(alloc, statements, from, late, &mut system, sink);

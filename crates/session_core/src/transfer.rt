@@ -14,16 +14,13 @@ const MOST_OF_A_CALL: usize = 4_096;
 
 /// A text, and how it ended.
 #[derive(Drop)]
-pub(crate) struct Input {
-    pub(crate) text: Vec<u8>,
-    pub(crate) ending: Ending,
+pub struct Input {
+    pub text: Vec<u8>,
+    pub ending: Ending,
 }
 
 /// Reads to the end, to a failure, or to the first byte past the limit.
-pub(crate) fn read_text<R: Read>(
-    alloc: Global,
-    source: &mut Source<'_, R>,
-) -> Result<Input, AllocError>
+pub fn read_text<R: Read>(alloc: Global, source: &mut Source<'_, R>) -> Result<Input, AllocError>
     requires { source.old.failed ≡ false }
     ensures ok { IfOk result (λ i. IsRead (source_state R.remaining source.old) (source_state R.remaining source.new) i.text.items i.ending) }
     ensures err { OnErr result (IsReadInPart (source_state R.remaining source.old) (source_state R.remaining source.new)) }
@@ -51,7 +48,7 @@ pub(crate) fn read_text<R: Read>(
 }
 
 /// Writes the text. An `Err` tells how many of its bytes were taken before a call failed.
-pub(crate) fn write_text<W: Write>(sink: &mut Sink<'_, W>, text: &[u8]) -> Result<(), usize>
+pub fn write_text<W: Write>(sink: &mut Sink<'_, W>, text: &[u8]) -> Result<(), usize>
     requires { sink.old.failed ≡ false }
     ensures ok { OnOk result (Appends (W.contents sink.old.writer.now) (W.contents sink.new.writer.now) text.now) }
     ensures bound { IfErr result (λ taken. taken < length text.now) }
