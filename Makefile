@@ -1,6 +1,6 @@
 # Needs the Rattle toolchain (`rt` on the path).
 
-.PHONY: help test run mvt examples documents rows hostile
+.PHONY: help test run mvt tools play examples documents rows hostile
 
 # The session that `make run` runs.
 SESSION ?= examples/first.session
@@ -15,6 +15,8 @@ help:
 	@echo 'make run [SESSION=FILE]   runs a session (examples/first.session) with the program as it stands, not proved:'
 	@echo '                          a minute or two where something changed, else at once'
 	@echo 'make mvt                  proves the program and all that it stands on, and builds it to ./mvt'
+	@echo 'make tools                so for ./mvt-play, which plays a session on until nothing moves'
+	@echo 'make play                 compares the sessions of tests/play/ with ./mvt-play and ./mvt'
 	@echo 'make examples             runs each session of examples/ with ./mvt and compares the listings'
 	@echo 'make documents            compares README.md and docs/ with ./mvt: what examples print, what refusals are told'
 	@echo 'make rows                 compares the worked rows that are texts with ./mvt and with the row programs'
@@ -33,6 +35,17 @@ mvt-unproved: $(SOURCES)
 mvt:
 	cd crates/mvt_main && rt run </dev/null
 	cp crates/mvt_main/out/mvt_main mvt
+
+# The proved tools beside it.
+tools: mvt-play
+
+mvt-play: $(SOURCES)
+	cd crates/mvt_play && rt run <stdin >/dev/null
+	cp crates/mvt_play/out/mvt_play mvt-play
+
+# Compares what ./mvt-play writes with the sessions that were played on.
+play: mvt tools
+	tests/play.sh ./mvt-play ./mvt
 
 # Compares the listings of the examples with those that ./mvt writes.
 examples: mvt

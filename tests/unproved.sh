@@ -1,12 +1,13 @@
 #!/bin/sh
-# Builds the program as it stands, without a proof, and keeps it under the name that is given.
+# Builds a program as it stands, without a proof, and keeps it under the name that is given.
 # `rt try` builds a program, runs it, and takes it away. So it is given a session that runs for some seconds, and meanwhile the program
 # gets a second name.
-# Usage: tests/unproved.sh NAME
+# Usage: tests/unproved.sh NAME [CRATE], the crate mvt_main where none is given
 
 cd "$(dirname "$0")/.." || exit 2
 kept=$PWD/$1
-work=$PWD/crates/mvt_main/out/unproved
+crate=${2:-mvt_main}
+work=$PWD/crates/$crate/out/unproved
 rm -rf "$work" "$kept"
 mkdir -p "$work" || exit 2
 trap 'rm -rf "$work"' EXIT
@@ -16,7 +17,7 @@ echo 'The program is built as it stands, not proved: a minute or two.' >&2
     echo './ INIT 1 A'
     yes './ TURN 1*9999' | head -n 6
 } >"$work/session"
-(cd crates/mvt_main && TMPDIR=$work exec rt try <"$work/session" >/dev/null 2>"$work/said") &
+(cd "crates/$crate" && TMPDIR=$work exec rt try <"$work/session" >/dev/null 2>"$work/said") &
 build=$!
 while kill -0 "$build" 2>/dev/null; do
     for program in "$work"/*/*/program; do

@@ -1,0 +1,4 @@
+pub mod Adding
+pub mod Behind
+pub mod Endings
+pub mod Finding
