@@ -40,7 +40,7 @@ mvt:
 tools: mvt-play
 
 mvt-play: $(SOURCES)
-	cd crates/mvt_play && rt run <stdin >/dev/null
+	cd crates/mvt_play && rt run </dev/null
 	cp crates/mvt_play/out/mvt_play mvt-play
 
 # Compares what ./mvt-play writes with the sessions that were played on.

@@ -1,5 +1,5 @@
 -- Events that are given one behind another.
-use Rattle.std.proofs.Common.{◌≡◌, ℕ, ◌+◌, ◌≤◌, Bool, not, true, false, List, [], ◌∷◌, ◌++◌, Option, None, Some, All, take, length, get_or, refl, sym, ap, subst, ◌∙◌, append_assoc, arith, length-append}
+use Rattle.std.proofs.Common.{◌≡◌, ℕ, zero, suc, ◌+◌, ◌≤◌, Bool, not, true, false, List, [], ◌∷◌, ◌++◌, Option, None, Some, All, take, length, get_or, refl, sym, ap, subst, ◌∙◌, append_assoc, arith, length-append}
 use Rattle.std.specs.Prelude.{slice_get}
 use Rattle.std.specs.List.{Contains}
 use Rattle.std.specs.Option.{option_map}
@@ -16,8 +16,9 @@ use Rattle.world_meaning.specs.Worlds.{Initiator, Shared}
 use Rattle.play_core.specs.Given.{IsTaken, event_of}
 use Rattle.input_core.specs.declared.event.Event.{Event}
 use Rattle.session_core.proofs.Applied.{Drives-append}
-use Rattle.play_core.specs.Giving.{Adds, Gives, Leads}
+use Rattle.play_core.specs.Giving.{Adds, Gives, IsWait, Leads, Stays, StaysAt}
 use Rattle.play_core.specs.declared.given.Given.{Given}
+use Rattle.play_core.specs.declared.given.Given.TheVariants.{Turn}
 
 Gives-append : (a b c : Machine) (xs ys : List Given) → Gives a xs b → Gives b ys c → Gives a (xs ++ ys) c
 Gives-append a b c [] ys first then = subst (λ m. Gives m ys c) first then
@@ -71,6 +72,35 @@ found_at {X = X} f xs place y is = by (slice_get xs place) refl
     by : (o : Option X) → slice_get xs place ≡ o → (x : X) × (slice_get xs place ≡ Some x) × (f x ≡ y)
     by None e = let no : None ≡ Some y = ap (option_map f) (sym e) ∙ is in absurd cc
     by (Some x) e = let some : Some (f x) ≡ Some y = ap (option_map f) (sym e) ∙ is in (x, e, cc)
+
+-- the initiators act one behind another, and nothing is written but that jobs wait
+pub Stays-more : (n : ℕ) (a b c : Machine) (p : ℕ) → Stays a p n b → StaysAt b (slice_get (world_of b).initiators (p + n)) c → Stays a p (suc n) c
+Stays-more zero a b c p before at =
+    let same : p + zero ≡ p = omega arith in
+    (c, subst (λ m. StaysAt m (slice_get (world_of m).initiators p) c) before (subst (λ k. StaysAt b (slice_get (world_of b).initiators k) c) same at), refl)
+Stays-more (suc n) a b c p before at =
+    let same : p + suc n ≡ (p + 1) + n = omega arith in
+    (before.0, before.1, Stays-more n before.0 b c (p + 1) before.2 (subst (λ k. StaysAt b (slice_get (world_of b).initiators k) c) same at))
+
+pub Stays-next : (n : ℕ) (a b c : Machine) → Stays a 0 n b → StaysAt b (slice_get (world_of b).initiators n) c → Stays a 0 (n + 1) c
+Stays-next n a b c before at =
+    let next : suc n ≡ n + 1 = omega arith in
+    let here : n ≡ 0 + n = omega arith in
+    subst (λ k. Stays a 0 k c) next (Stays-more n a b c 0 before (subst (λ k. StaysAt b (slice_get (world_of b).initiators k) c) here at))
+
+pub stays_some : (b c : Machine) (place : ℕ) (y : SeenInitiator) → option_map seen_initiator (slice_get (world_of b).initiators place) ≡ Some y → (lines : List Entry) →
+    Steps b (event_of (Turn y.number)) lines (world_of c) → All IsWait lines → StaysAt b (slice_get (world_of b).initiators place) c
+stays_some b c place y is lines step waits =
+    let found = found_at seen_initiator (world_of b).initiators place y is in
+    let same = ap (λ (s : SeenInitiator). s.number) found.2 in
+    subst (λ o. StaysAt b o c) (sym found.1) (lines, subst (λ n. Steps b (event_of (Turn n)) lines (world_of c)) (sym same) step, waits)
+
+none_at : (b : Machine) (o : Option Initiator) → option_map seen_initiator o ≡ None → StaysAt b o b
+none_at b None is = refl
+none_at b (Some x) is = absurd cc
+
+pub stays_none : (b : Machine) (place : ℕ) → option_map seen_initiator (slice_get (world_of b).initiators place) ≡ None → StaysAt b (slice_get (world_of b).initiators place) b
+stays_none b place is = none_at b (slice_get (world_of b).initiators place) is
 
 contains_at : {X : Type 0} (xs : List X) (place : ℕ) (x : X) → slice_get xs place ≡ Some x → Contains xs x
 contains_at xs place x e = (place, slice_get_within xs place x e, get_or_from_slice_get xs place x x e)

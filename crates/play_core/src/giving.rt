@@ -1,9 +1,9 @@
 //! An event is given to a machine, and what it writes is looked at.
-ghost use Rattle.std.specs.Prelude.{◌≡◌, ◌+◌, ◌<◌, ◌≤◌, [], OnOk, false, length, true};
-ghost use Rattle.sched_core.specs.Systems.{IsSameFixed, world_of};
+ghost use Rattle.std.specs.Prelude.{◌≡◌, ◌+◌, ◌<◌, ◌≤◌, [], All, IfOk, IfSome, OnOk, false, length, true};
+ghost use Rattle.sched_core.specs.Systems.{IsSameFixed, Steps, world_of};
 ghost use Rattle.machine_meaning.specs.declared.machine.TheConstants.{MOST_EVENTS};
-ghost use Rattle.play_core.specs.Given.{IsTaken};
-ghost use Rattle.play_core.specs.Giving.{Adds};
+ghost use Rattle.play_core.specs.Given.{IsTaken, event_of};
+ghost use Rattle.play_core.specs.Giving.{Adds, IsWait, SaysWait};
 
 use crate::given::Given;
 use crate::waits::Waits;
@@ -49,6 +49,7 @@ pub(crate) fn give(
     requires { IsTaken (world_of system.old) next }
     ensures adds { OnOk result (Adds system.old given.old.items system.new given.new.items) }
     ensures more { OnOk result (length given.new.items ≡ length given.old.items + 1) }
+    ensures step { IfOk result (λ lines. Steps system.old (event_of next) lines (world_of system.new)) }
     ensures fixed { IsSameFixed system.old system.new }
 {
     given.reserve(1)?;
@@ -57,25 +58,42 @@ pub(crate) fn give(
     Ok(lines)
 }
 
-/// What a line says of a job that waits, or `None` where it says something else.
-fn wait_of(entry: &Entry) -> Option<Waits> {
-    match entry {
-        Entry::Job(job, JobLine::WaitNames { holder, name }) => Some(Waits::Names {
-            job: *job,
+/// What a line of a job says that waits, or `None` where it says something else.
+fn wait_in(job: u16, line: &JobLine) -> Option<Waits>
+    ensures { IfSome result (λ w. SaysWait line.now) }
+{
+    match line {
+        JobLine::WaitNames { holder, name } => Some(Waits::Names {
+            job,
             name: *name,
             holder: *holder,
         }),
-        Entry::Job(job, JobLine::WaitSpace(serial)) => Some(Waits::Space {
-            job: *job,
+        JobLine::WaitSpace(serial) => Some(Waits::Space {
+            job,
             serial: *serial,
         }),
         _ => None,
     }
 }
 
-/// Notes what waits by these lines, and tells whether they say nothing else.
-pub(crate) fn note(waits: &mut Vec<Waits>, lines: &[Entry]) -> Result<bool, AllocError> {
-    let mut all = true;
+fn wait_of(entry: &Entry) -> Option<Waits>
+    ensures { IfSome result (λ w. IsWait entry.now) }
+{
+    match entry {
+        Entry::Job(job, line) => wait_in(*job, line),
+        _ => None,
+    }
+}
+
+/// Notes what waits by these lines, and tells whether they say nothing else, and nothing else was said before.
+pub(crate) fn note(
+    waits: &mut Vec<Waits>,
+    lines: &[Entry],
+    before: bool,
+) -> Result<bool, AllocError>
+    ensures { IfOk result (λ all. all ≡ true → (before ≡ true) × All IsWait lines.now) }
+{
+    let mut all = before;
     for entry in lines {
         match wait_of(entry) {
             Some(wait) => waits.push(wait)?,

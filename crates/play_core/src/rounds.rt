@@ -2,7 +2,7 @@
 ghost use Rattle.std.specs.Prelude.{◌≡◌, ◌⊎◌, ◌<◌, ◌≤◌, IfOk, OnOk, false, length, true};
 ghost use Rattle.machine_meaning.specs.declared.machine.TheConstants.{MOST_EVENTS};
 ghost use Rattle.sched_core.specs.Systems.{world_of};
-ghost use Rattle.play_core.specs.Giving.{Adds, IsOver, IsQuiet};
+ghost use Rattle.play_core.specs.Giving.{Adds, IsOver, IsQuiet, Stays};
 
 use crate::given::Given;
 use crate::giving::{Added, give, has_room, note};
@@ -14,20 +14,22 @@ use std::alloc::AllocError;
 /// Each initiator acts once. Tells whether jobs that wait were all that was told.
 fn turn_all(system: &mut System<'_, ListStore>, added: &mut Added) -> Result<bool, AllocError>
     ensures adds { OnOk result (Adds system.old added.old.given.items system.new added.new.given.items) }
-    ensures more { IfOk result (λ still. still ≡ false → length added.old.given.items < length added.new.given.items) }
+    ensures still { IfOk result (λ still. still ≡ true → Stays system.old 0 (length (world_of system.old).initiators) system.new) }
+    ensures more { IfOk result (λ still. still ≡ false → (length added.old.given.items < length added.new.given.items)
+        ⊎ (MOST_EVENTS ≤ (world_of system.new).events)) }
 {
     let mut still = true;
     let count = system.initiator_count();
     for place in 0..count {
-        if !has_room(system) {
-            return Ok(still);
-        }
         let Some(x) = system.initiator_at(place) else {
-            return Ok(still);
+            continue;
         };
+        if !has_room(system) {
+            return Ok(false);
+        }
         let lines = give(system, &mut added.given, Given::Turn(x.number))?;
-        let waits_alone = note(&mut added.waits, lines.as_slice())?;
-        still = still && waits_alone;
+        let all = note(&mut added.waits, lines.as_slice(), still)?;
+        still = all;
     }
     Ok(still)
 }
@@ -35,7 +37,7 @@ fn turn_all(system: &mut System<'_, ListStore>, added: &mut Added) -> Result<boo
 /// Each operation under way ends. Tells whether there was none.
 fn end_all(system: &mut System<'_, ListStore>, added: &mut Added) -> Result<bool, AllocError>
     ensures adds { OnOk result (Adds system.old added.old.given.items system.new added.new.given.items) }
-    ensures quiet { IfOk result (λ quiet. quiet ≡ true → IsQuiet system.new) }
+    ensures quiet { IfOk result (λ quiet. quiet ≡ true → IsQuiet system.new × (system.new ≡ system.old)) }
     ensures more { IfOk result (λ quiet. quiet ≡ false → (length added.old.given.items < length added.new.given.items)
         ⊎ (MOST_EVENTS ≤ (world_of system.new).events)) }
 {
@@ -69,6 +71,9 @@ pub(crate) fn play_rounds(
         let _ = round;
         added.waits.clear();
         let still = turn_all(system, added)?;
+        if !has_room(system) {
+            return Ok(());
+        }
         let quiet = end_all(system, added)?;
         if !has_room(system) {
             return Ok(());

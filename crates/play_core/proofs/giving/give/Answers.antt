@@ -11,3 +11,7 @@ returns-clause-adds c =
     Adds-one old new c.args.given.now.items c.push_reserved.new.self.items c.args.next lines c.requires
     (subst (λ e. Steps old e lines (world_of new)) c.event.ensures c.in_ok-lines.ensures.step) c.apply_shown.ensures.fixed
     (c.push_reserved.ensures.items ∙ ap (λ l. l ++ c.args.next ∷ []) c.reserve.ensures.items)
+
+pub returns-clause-step : goal.returns-clause-step
+returns-clause-step c =
+    subst (λ e. Steps c.args.system.now e c.in_ok-lines.lines (world_of c.apply_shown.new.self)) c.event.ensures c.in_ok-lines.ensures.step

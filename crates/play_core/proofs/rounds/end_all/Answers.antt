@@ -15,6 +15,7 @@ loop-place-preserved-then-not-volume c =
       idle = λ quiet. idle_more (world_of now).shared now.config.volumes c.loop-place.place c.in-Some.volume (sym c.in-Some.ensures)
           (not_true c.in-Some.volume.busy c.if-not-volume.true)
           (before.idle quiet);
+      same = before.same;
       more = before.more;
     }
 
@@ -43,6 +44,7 @@ loop-place-preserved c =
       config = c.give.ensures.fixed.config ∙ before.config;
       count = before.count;
       idle = λ e. absurd cc;
+      same = λ e. absurd cc;
       more = λ e. omega (arith, long, c.in_ok-give.ensures.more);
     }
 
@@ -51,4 +53,4 @@ returns-clause-quiet c = λ quiet.
     let now = c.loop-place.system in
     let before = c.loop-place.invariant in
     let same : length now.config.volumes ≡ c.volume_count-count.result = ap (λ (k : Config). length k.volumes) before.config ∙ sym before.count in
-    idle_all (world_of now).shared now.config.volumes c.loop-place.place (omega (arith, same, c.loop-place-test.false)) (before.idle quiet)
+    (idle_all (world_of now).shared now.config.volumes c.loop-place.place (omega (arith, same, c.loop-place-test.false)) (before.idle quiet), before.same quiet)

@@ -10,5 +10,6 @@ invariant-loop-place l = record {
   config : l.system.config ≡ l.fn.system.config;
   count : l.count ≡ length l.fn.system.config.volumes;
   idle : l.quiet ≡ true → All (λ serial. is_busy (world_of l.system).shared.operations (Some serial) ≡ false) (take l.place l.system.config.volumes);
+  same : l.quiet ≡ true → l.system ≡ l.fn.system;
   more : l.quiet ≡ false → length l.fn.added.given.items < length l.added.given.items;
 }
