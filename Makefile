@@ -1,6 +1,6 @@
 # Needs the Rattle toolchain (`rt` on the path).
 
-.PHONY: help test run mvt tools play examples documents rows hostile
+.PHONY: help test run mvt tools play examples documents rows hostile bench
 
 # The session that `make run` runs.
 SESSION ?= examples/first.session
@@ -21,11 +21,15 @@ help:
 	@echo 'make documents            compares README.md and docs/ with ./mvt: what examples print, what refusals are told'
 	@echo 'make rows                 compares the worked rows that are texts with ./mvt and with the row programs'
 	@echo 'make hostile              refuses each allocation in turn and runs mutated sessions, behind make test'
+	@echo 'make bench                counts the instructions of ./mvt on the sessions of bench/, by callgrind: ten minutes'
 	@echo 'make test                 the gate: every proof from nothing, the edits that must fail, the tests, the programs'
 
-# Runs the program on a session. Nothing is proved.
-run: mvt-unproved
-	@./mvt-unproved <$(SESSION)
+# Runs the program on a session. Nothing is proved. What it needs is looked for before it is built.
+run:
+	@command -v rt >/dev/null || { echo 'make run needs the Rattle toolchain: there is no rt on the path.' >&2; exit 2; }
+	@test -r '$(SESSION)' || { echo 'make run finds no session $(SESSION).' >&2; exit 2; }
+	@$(MAKE) --no-print-directory mvt-unproved
+	@./mvt-unproved <'$(SESSION)'
 
 # The program as it stands, built and not proved.
 mvt-unproved: $(SOURCES)
@@ -67,6 +71,10 @@ rows: mvt
 hostile: mvt
 	@for it in 'tests/refused_memory.sh' 'tests/hostile.sh $(REFERENCE)'; do \
 		start=$$(date +%s); $$it || exit 1; echo "$$it: $$(($$(date +%s) - start)) s"; done
+
+# Instructions of the proved program on the sessions of bench/, each beside half its size.
+bench: mvt
+	python3 bench/instructions.py ./mvt
 
 # The gate.
 test:
