@@ -10,13 +10,20 @@ use std::alloc::{AllocError, Global};
 use std::io::{Read, Write};
 
 /// The most bytes of a call.
-const MOST_OF_A_CALL: usize = 4_096;
+const MOST_OF_A_CALL: usize = 65_536;
 
 /// A text, and how it ended.
 #[derive(Drop)]
 pub struct Input {
     pub text: Vec<u8>,
     pub ending: Ending,
+}
+
+/// So many zeros.
+fn blank(alloc: Global, count: usize) -> Result<Vec<u8>, AllocError>
+    ensures { IfOk result (λ v. length v.items ≡ count) }
+{
+    vec![in alloc; 0u8; count]
 }
 
 /// Reads to the end, to a failure, or to the first byte past the limit.
@@ -27,9 +34,10 @@ pub fn read_text<R: Read>(alloc: Global, source: &mut Source<'_, R>) -> Result<I
     ensures same_reader { source.new.reader.ghost_name ≡ source.old.reader.ghost_name }
 {
     let mut text = Vec::new(alloc);
-    let mut buffer = [0u8; MOST_OF_A_CALL];
+    let mut held = blank(alloc, MOST_OF_A_CALL)?;
+    let buffer = held.as_mut_slice();
     while text.len() <= MOST_BYTES {
-        let room = (MOST_BYTES + 1 - text.len()).min(MOST_OF_A_CALL);
+        let room = (MOST_BYTES + 1 - text.len()).min(buffer.len());
         match source.read(&mut buffer[..room]) {
             Ok(0) => {
                 let ending = Ending::Whole;
