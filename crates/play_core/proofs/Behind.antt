@@ -1,18 +1,16 @@
 -- A session with events behind its statements.
 use Rattle.std.proofs.Common.{◌≡◌, ◌⊎◌, inl, inr, ℕ, ◌+◌, Bool, true, false, ◌&&◌, ◌||◌, List, [], ◌∷◌, ◌++◌, Option, Some, None, is_some, length, refl, sym, ap, ◌∙◌, append_assoc, arith}
-use Rattle.std.specs.List.{flat_map, list_all}
+use Rattle.std.specs.List.{list_all}
 use Rattle.std.proofs.lemmas.Bool.{and_parts}
 use Rattle.std.proofs.lemmas.List.{append-nil}
-use Rattle.std.proofs.lemmas.List.Concat.{flat_map-append}
 use Rattle.config_core.specs.Configs.{Configuration, config_fault}
-use Rattle.input_core.specs.declared.event.Event.{Event}
 use Rattle.machine_meaning.specs.declared.config.ConfigFault.{ConfigFault}
 use Rattle.session_text.specs.declared.fault.Fault.{Fault}
 use Rattle.session_text.specs.declared.statement.Says.{Says}
 use Rattle.session_text.specs.declared.statement.Says.TheVariants.{Config, Events, Refused}
 use Rattle.session_text.specs.declared.statement.Statement.{Statement}
 use Rattle.session_core.specs.Configuring.{begins_with_event}
-use Rattle.session_core.specs.Sessions.{Session, configuration_of, configured_by, events_of, fault_behind, has_begun, has_events, session_behind, session_by, unless_late}
+use Rattle.session_core.specs.Sessions.{Session, configuration_of, configured_by, fault_behind, has_begun, has_events, session_behind, session_by, unless_late}
 use Rattle.session_core.proofs.Standing.{config_of-more, has_begun-more}
 use Rattle.play_core.specs.Given.{statement_at, statements_at}
 use Rattle.play_core.specs.Playing.{played}

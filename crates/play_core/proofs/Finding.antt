@@ -6,7 +6,7 @@ use Rattle.config_core.specs.Configs.{Configuration}
 use Rattle.sched_core.specs.Starting.{IsStarted}
 use Rattle.sched_core.specs.Systems.{Machine}
 use Rattle.session_core.specs.Configuring.{IsConfiguredBy}
-use Rattle.session_core.specs.Sessions.{Session, configuration_of, events_in, events_of, refuses_in, session_behind, session_of}
+use Rattle.session_core.specs.Sessions.{Session, events_in, events_of, refuses_in, session_behind, session_of}
 use Rattle.session_core.specs.declared.Options.{Options}
 use Rattle.session_core.proofs.Standing.{no_events}
 use Rattle.session_text.specs.declared.fault.Fault.{Fault}

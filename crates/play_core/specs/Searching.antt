@@ -1,5 +1,5 @@
 -- What the search for the added events finds. (This profile)
-use Rattle.std.specs.Prelude.{◌≡◌, ℕ, true, false, List, [], Option, Some, None}
+use Rattle.std.specs.Prelude.{◌≡◌, true, false, List, Option, Some, None}
 use Rattle.std.specs.List.{list_all}
 use Rattle.sched_core.specs.Systems.{Machine}
 use Rattle.session_core.specs.Sessions.{events_of, has_events}

@@ -1,4 +1,4 @@
-use Rattle.std.proofs.Common.{◌≡◌, ◌+◌, ◌∷◌, [], ◌++◌, get_or, length, sym, ap, ◌∙◌, append_assoc, take, length-take-le, arith, rules}
+use Rattle.std.proofs.Common.{◌≡◌, ◌+◌, ◌∷◌, [], ◌++◌, length, sym, ap, ◌∙◌, append_assoc, take, length-take-le, arith, rules}
 use Rattle.std.proofs.lemmas.List.{take_more}
 use Rattle.session_text.specs.declared.statement.Says.TheVariants.{Events}
 use Rattle.play_core.specs.Given.{statement_at, statements_at}

@@ -1,7 +1,7 @@
 use Rattle.std.proofs.Common.{◌≡◌, length, sym, ap, ◌∙◌, arith}
 use Rattle.sched_core.specs.Systems.{world_of}
 use Rattle.world_meaning.specs.Worlds.{Config}
-use Rattle.play_core.proofs.Adding.{Adds-length, Adds-none, Adds-then, idle_all, idle_more, not_false, not_true, volume_busy, volume_there}
+use Rattle.play_core.proofs.Adding.{Adds-length, Adds-then, idle_all, idle_more, not_false, not_true, volume_busy, volume_there}
 use Rattle.play_core.proofs.rounds.end_all.Goals as goal
 
 pub loop-place-preserved-then-not-volume : goal.loop-place-preserved-then-not-volume
