@@ -1,0 +1,4 @@
+pub mod Elements
+pub mod Pictures
+pub mod Reading
+pub mod Writing
