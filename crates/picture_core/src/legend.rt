@@ -1,0 +1,72 @@
+//! The legend: what each mark means.
+use crate::look::{Look, OF_INITIATORS, OF_NAMES, OF_VOLUMES};
+use crate::sheet::Sheet;
+use plain::short::Short;
+use std::alloc::AllocError;
+use svg_text::shape::{Point, Size};
+
+/// The pixels across an entry, from one line of entries to the next, and before the first entry of a line.
+const ENTRY: u32 = 200;
+
+const LINE: u32 = 22;
+
+const HEAD: u32 = 90;
+
+/// The place beside another.
+fn beside(at: Point, right: u32, down: u32) -> Point {
+    Point {
+        x: at.x.saturating_add(right),
+        y: at.y.saturating_add(down),
+    }
+}
+
+/// Puts the legend into this many pixels across, from a place on. The pixels above its end.
+pub(crate) fn add_legend(sheet: &mut Sheet, place: Point, width: u32) -> Result<u32, AllocError> {
+    let mut at = place;
+    at.y = add_part(sheet, at, width, b"Initiators", &OF_INITIATORS)?;
+    at.y = add_part(sheet, at, width, b"Names", &OF_NAMES)?;
+    add_part(sheet, at, width, b"Volumes", &OF_VOLUMES)
+}
+
+/// A part of the legend, of lines that begin with a word. The pixels above its end.
+fn add_part(
+    sheet: &mut Sheet,
+    place: Point,
+    width: u32,
+    word: &[u8],
+    looks: &[Look],
+) -> Result<u32, AllocError> {
+    sheet.text(Short::new(b"legend"), beside(place, 0, 11), word)?;
+    let mut right = HEAD;
+    let mut down: u32 = 0;
+    for look in looks {
+        if right > HEAD && right.saturating_add(ENTRY) > width {
+            right = HEAD;
+            down = down.saturating_add(LINE);
+        }
+        add_entry(sheet, *look, beside(place, right, down))?;
+        right = right.saturating_add(ENTRY);
+    }
+    Ok(place.y.saturating_add(down).saturating_add(LINE))
+}
+
+/// The size of a sample.
+fn size_of(look: Look) -> Size {
+    let (width, height) = match look {
+        Look::Abend | Look::Fault => (11, 14),
+        Look::Busy => (28, 5),
+        _ => (28, 14),
+    };
+    Size { width, height }
+}
+
+fn add_entry(sheet: &mut Sheet, look: Look, at: Point) -> Result<(), AllocError> {
+    match look {
+        Look::Free | Look::Kept => {
+            sheet.line(look.class(), beside(at, 0, 7), beside(at, 28, 7))?;
+        }
+        _ => sheet.rectangle(look.class(), at, size_of(look), None)?,
+    }
+    sheet.letter(look, at)?;
+    sheet.text(Short::new(b"legend"), beside(at, 36, 11), look.word())
+}

@@ -1,0 +1,68 @@
+//! The lanes of volumes: their tracks, and the operations on them.
+use crate::lane::{Lane, What};
+use crate::look::Look;
+use crate::moment::VolumeSeen;
+use jname_core::serial::Serial;
+use std::alloc::{AllocError, Global};
+
+/// The tracks of a volume from an event on.
+#[derive(Clone, Copy)]
+pub(crate) struct Level {
+    pub(crate) from: u32,
+    pub(crate) free: usize,
+    pub(crate) kept: usize,
+}
+
+#[derive(Drop)]
+pub(crate) struct VolumeLane {
+    pub(crate) serial: Serial,
+    pub(crate) levels: Vec<Level>,
+    pub(crate) busy: Lane,
+    /// The most tracks that were free or kept.
+    pub(crate) most: usize,
+}
+
+impl VolumeLane {
+    pub(crate) fn new(alloc: Global, serial: Serial) -> VolumeLane {
+        VolumeLane {
+            serial,
+            levels: Vec::new(alloc),
+            busy: Lane::empty(alloc),
+            most: 1,
+        }
+    }
+
+    fn is_at(&self, seen: &VolumeSeen) -> bool {
+        match self.levels.last() {
+            Some(level) => level.free == seen.free && level.kept == seen.kept,
+            None => false,
+        }
+    }
+
+    /// The volume after an event.
+    pub(crate) fn add(
+        &mut self,
+        alloc: Global,
+        event: u32,
+        seen: &VolumeSeen,
+    ) -> Result<(), AllocError> {
+        if !self.is_at(seen) {
+            self.most = self.most.max(seen.free).max(seen.kept);
+            self.levels.push(Level {
+                from: event,
+                free: seen.free,
+                kept: seen.kept,
+            })?;
+        }
+        let what = if seen.busy {
+            Some(What {
+                look: Look::Busy,
+                job: 0,
+                number: 0,
+            })
+        } else {
+            None
+        };
+        self.busy.set(alloc, event, what)
+    }
+}

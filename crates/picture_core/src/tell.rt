@@ -1,0 +1,151 @@
+//! What is told where the pointer is on a shape.
+use crate::cut::Piece;
+use crate::lane::{Run, What};
+use crate::look::Look;
+use plain::text::Text;
+use std::alloc::{AllocError, Global};
+
+/// A text that is written up to a limit.
+#[derive(Drop)]
+pub(crate) struct Telling {
+    bytes: Vec<u8>,
+    limit: usize,
+}
+
+impl Telling {
+    pub(crate) fn empty(alloc: Global, limit: usize) -> Telling {
+        Telling {
+            bytes: Vec::new(alloc),
+            limit,
+        }
+    }
+
+    pub(crate) fn push(&mut self, text: &[u8]) -> Result<(), AllocError> {
+        if self.bytes.len() >= self.limit {
+            return Ok(());
+        }
+        let room = self.limit - self.bytes.len();
+        if text.len() <= room {
+            self.bytes.extend_from_slice(text)
+        } else {
+            self.bytes.extend_from_slice(&text[..room])
+        }
+    }
+
+    pub(crate) fn push_number(&mut self, number: u64) -> Result<(), AllocError> {
+        let mut buffer = itoa::Buffer::new();
+        self.push(buffer.format(number).as_bytes())
+    }
+
+    /// A job's number, in four digits.
+    pub(crate) fn push_job(&mut self, job: u16) -> Result<(), AllocError> {
+        if job < 1_000 {
+            self.push(b"0")?;
+        }
+        if job < 100 {
+            self.push(b"0")?;
+        }
+        if job < 10 {
+            self.push(b"0")?;
+        }
+        self.push_number(u64::from(job))
+    }
+
+    /// Events, counted from 1, of which the last is before this one.
+    fn push_events(&mut self, from: u32, to: u32) -> Result<(), AllocError> {
+        self.push(b", events ")?;
+        self.push_number(u64::from(from).saturating_add(1))?;
+        self.push(b" to ")?;
+        self.push_number(u64::from(to))
+    }
+
+    /// What a run is.
+    fn push_what(&mut self, what: What) -> Result<(), AllocError> {
+        match what.look {
+            Look::Busy => self.push(what.look.word()),
+            Look::Several => {
+                self.push_number(what.number as u64)?;
+                self.push(b" other names")
+            }
+            Look::Alone | Look::Shared => {
+                self.push(what.look.word())?;
+                self.push(b", job ")?;
+                self.push_job(what.job)?;
+                if what.number > 1 {
+                    self.push(b" the first of ")?;
+                    self.push_number(what.number as u64)?;
+                }
+                Ok(())
+            }
+            _ => {
+                self.push(b"job ")?;
+                self.push_job(what.job)?;
+                if what.number > 0 {
+                    self.push(b" step ")?;
+                    self.push_number(what.number as u64)?;
+                }
+                self.push(b" ")?;
+                self.push(what.look.word())
+            }
+        }
+    }
+
+    pub(crate) fn into_text(self) -> Text {
+        let Telling { bytes, .. } = self;
+        Text::new(bytes)
+    }
+}
+
+/// The last event of runs: the first that is in none of them.
+fn end_of(runs: &[Run], events: u32) -> u32 {
+    match runs.last() {
+        Some(run) => run.to.min(events),
+        None => events,
+    }
+}
+
+/// The title of a run.
+fn run_title(alloc: Global, run: &Run, events: u32, limit: usize) -> Result<Text, AllocError> {
+    let mut telling = Telling::empty(alloc, limit);
+    telling.push_what(run.what)?;
+    telling.push_events(run.from, run.to.min(events))?;
+    telling.push(b"\n")?;
+    telling.push(run.lines.as_slice())?;
+    Ok(telling.into_text())
+}
+
+/// The title of several.
+fn runs_title(alloc: Global, runs: &[Run], events: u32, limit: usize) -> Result<Text, AllocError> {
+    let mut telling = Telling::empty(alloc, limit);
+    telling.push_number(runs.len() as u64)?;
+    telling.push(b" periods")?;
+    if let Some(first) = runs.first() {
+        telling.push_events(first.from, end_of(runs, events))?;
+    }
+    telling.push(b"\n")?;
+    for run in runs {
+        telling.push(run.lines.as_slice())?;
+    }
+    Ok(telling.into_text())
+}
+
+/// The runs of a piece.
+pub(crate) fn runs_in<'a>(piece: &Piece, runs: &'a [Run]) -> &'a [Run] {
+    let first = piece.first.min(runs.len());
+    let (_, rest) = runs.split_at(first);
+    let (own, _) = rest.split_at(piece.count.min(rest.len()));
+    own
+}
+
+/// The title of a piece.
+pub(crate) fn piece_title(
+    alloc: Global,
+    runs: &[Run],
+    events: u32,
+    limit: usize,
+) -> Result<Text, AllocError> {
+    match runs {
+        [run] => run_title(alloc, run, events, limit),
+        _ => runs_title(alloc, runs, events, limit),
+    }
+}
