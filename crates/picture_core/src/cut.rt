@@ -3,8 +3,8 @@ ghost use Rattle.std.specs.Prelude.{◌≡◌, ◌<◌, ◌≤◌, ◌+◌, IfOk
 ghost use Rattle.picture_core.specs.Cuts.{IsCut};
 ghost use Rattle.picture_core.specs.Scales.{last_column};
 
-use crate::lane::Run;
 use crate::scale::Scale;
+use history_core::lane::Run;
 use std::alloc::{AllocError, Global};
 
 /// Columns in which one run is drawn, or several together.

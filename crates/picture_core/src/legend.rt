@@ -1,6 +1,7 @@
 //! The legend: what each mark means.
-use crate::look::{Look, OF_INITIATORS, OF_NAMES, OF_VOLUMES};
 use crate::sheet::Sheet;
+use crate::style::{OF_INITIATORS, OF_NAMES, OF_VOLUMES, class_of, word_of};
+use history_core::look::Look;
 use plain::short::Short;
 use std::alloc::AllocError;
 use svg_text::shape::{Point, Size};
@@ -63,10 +64,10 @@ fn size_of(look: Look) -> Size {
 fn add_entry(sheet: &mut Sheet, look: Look, at: Point) -> Result<(), AllocError> {
     match look {
         Look::Free | Look::Kept => {
-            sheet.line(look.class(), beside(at, 0, 7), beside(at, 28, 7))?;
+            sheet.line(class_of(look), beside(at, 0, 7), beside(at, 28, 7))?;
         }
-        _ => sheet.rectangle(look.class(), at, size_of(look), None)?,
+        _ => sheet.rectangle(class_of(look), at, size_of(look), None)?,
     }
     sheet.letter(look, at)?;
-    sheet.text(Short::new(b"legend"), beside(at, 36, 11), look.word())
+    sheet.text(Short::new(b"legend"), beside(at, 36, 11), word_of(look))
 }

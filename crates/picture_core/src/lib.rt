@@ -1,16 +1,12 @@
-//! From the events of a session to a picture of it: lanes of initiators, of held names and of volumes over the events' numbers.
+//! A picture of a session: lanes of initiators, of held names and of volumes over the events' numbers.
 #![tactic(auto)]
 
+mod canvas;
 mod cut;
-mod draw;
-pub mod history;
-mod initiators;
-mod lane;
+pub mod draw;
 mod legend;
-mod levels;
-mod look;
-pub mod moment;
-mod names;
 mod scale;
 mod sheet;
+mod style;
 mod tell;
+mod tracks;

@@ -1,5 +1,5 @@
 //! Shapes, one after another.
-use crate::look::Look;
+use history_core::look::Look;
 use plain::listed::Listed;
 use plain::short::Short;
 use plain::text::Text;

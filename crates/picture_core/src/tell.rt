@@ -1,7 +1,8 @@
 //! What is told where the pointer is on a shape.
 use crate::cut::Piece;
-use crate::lane::{Run, What};
-use crate::look::Look;
+use crate::style::word_of;
+use history_core::lane::{Run, What};
+use history_core::look::Look;
 use plain::text::Text;
 use std::alloc::{AllocError, Global};
 
@@ -9,27 +10,37 @@ use std::alloc::{AllocError, Global};
 #[derive(Drop)]
 pub(crate) struct Telling {
     bytes: Vec<u8>,
-    limit: usize,
+    /// How many bytes of a picture's text may follow.
+    room: usize,
+}
+
+/// The most bytes that stand for a byte in a picture's text.
+fn most_written(byte: u8) -> usize {
+    match byte {
+        b'&' | b'<' | b'>' | b'"' => 6,
+        _ => 1,
+    }
 }
 
 impl Telling {
     pub(crate) fn empty(alloc: Global, limit: usize) -> Telling {
         Telling {
             bytes: Vec::new(alloc),
-            limit,
+            room: limit,
         }
     }
 
     pub(crate) fn push(&mut self, text: &[u8]) -> Result<(), AllocError> {
-        if self.bytes.len() >= self.limit {
-            return Ok(());
+        for byte in text {
+            let written = most_written(*byte);
+            if written > self.room {
+                self.room = 0;
+                return Ok(());
+            }
+            self.bytes.push(*byte)?;
+            self.room -= written;
         }
-        let room = self.limit - self.bytes.len();
-        if text.len() <= room {
-            self.bytes.extend_from_slice(text)
-        } else {
-            self.bytes.extend_from_slice(&text[..room])
-        }
+        Ok(())
     }
 
     pub(crate) fn push_number(&mut self, number: u64) -> Result<(), AllocError> {
@@ -53,8 +64,13 @@ impl Telling {
 
     /// Events, counted from 1, of which the last is before this one.
     fn push_events(&mut self, from: u32, to: u32) -> Result<(), AllocError> {
+        let first = from.saturating_add(1);
+        if to <= first {
+            self.push(b", event ")?;
+            return self.push_number(u64::from(first));
+        }
         self.push(b", events ")?;
-        self.push_number(u64::from(from).saturating_add(1))?;
+        self.push_number(u64::from(first))?;
         self.push(b" to ")?;
         self.push_number(u64::from(to))
     }
@@ -62,13 +78,13 @@ impl Telling {
     /// What a run is.
     fn push_what(&mut self, what: What) -> Result<(), AllocError> {
         match what.look {
-            Look::Busy => self.push(what.look.word()),
+            Look::Busy => self.push(word_of(what.look)),
             Look::Several => {
                 self.push_number(what.number as u64)?;
-                self.push(b" other names")
+                self.push(b" holds of other names")
             }
             Look::Alone | Look::Shared => {
-                self.push(what.look.word())?;
+                self.push(word_of(what.look))?;
                 self.push(b", job ")?;
                 self.push_job(what.job)?;
                 if what.number > 1 {
@@ -85,7 +101,7 @@ impl Telling {
                     self.push_number(what.number as u64)?;
                 }
                 self.push(b" ")?;
-                self.push(what.look.word())
+                self.push(word_of(what.look))
             }
         }
     }

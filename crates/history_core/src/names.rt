@@ -9,16 +9,16 @@ use std::alloc::{AllocError, Global};
 const MOST_NAMES: usize = 60;
 
 #[derive(Drop)]
-pub(crate) struct NameLane {
-    pub(crate) name: DsName,
-    pub(crate) lane: Lane,
+pub struct NameLane {
+    pub name: DsName,
+    pub lane: Lane,
 }
 
 /// The lanes of names, in the order in which they were first held, that of the names beyond them, and the holds that are drawn.
 #[derive(Drop)]
-pub(crate) struct Names {
-    pub(crate) lanes: Vec<NameLane>,
-    pub(crate) others: Lane,
+pub struct Names {
+    pub lanes: Vec<NameLane>,
+    pub others: Lane,
     holds: Vec<Hold>,
 }
 
@@ -53,7 +53,7 @@ fn one_more(before: Option<What>, hold: &Hold) -> What {
 }
 
 impl Names {
-    pub(crate) fn empty(alloc: Global) -> Names {
+    pub fn empty(alloc: Global) -> Names {
         Names {
             lanes: Vec::new(alloc),
             others: Lane::empty(alloc),
@@ -103,12 +103,7 @@ impl Names {
     }
 
     /// The holds after an event.
-    pub(crate) fn add(
-        &mut self,
-        alloc: Global,
-        event: u32,
-        holds: &[Hold],
-    ) -> Result<(), AllocError> {
+    pub fn add(&mut self, alloc: Global, event: u32, holds: &[Hold]) -> Result<(), AllocError> {
         if self.holds.as_slice() == holds {
             return Ok(());
         }

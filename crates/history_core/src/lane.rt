@@ -4,28 +4,28 @@ use std::alloc::{AllocError, Global};
 
 /// What is told of a run: how it is drawn, the job, and the step or the number of jobs.
 #[derive(Clone, Copy, PartialEq, Eq)]
-pub(crate) struct What {
-    pub(crate) look: Look,
-    pub(crate) job: u16,
-    pub(crate) number: usize,
+pub struct What {
+    pub look: Look,
+    pub job: u16,
+    pub number: usize,
 }
 
 /// The same from an event on, up to another: the number of the first that is not in it.
 #[derive(Drop)]
-pub(crate) struct Run {
-    pub(crate) from: u32,
-    pub(crate) to: u32,
-    pub(crate) what: What,
+pub struct Run {
+    pub from: u32,
+    pub to: u32,
+    pub what: What,
     /// Its lines, a part of them where they are long.
-    pub(crate) lines: Vec<u8>,
+    pub lines: Vec<u8>,
 }
 
 /// An ABEND or a FAULT.
 #[derive(Drop)]
-pub(crate) struct Flag {
-    pub(crate) event: u32,
-    pub(crate) look: Look,
-    pub(crate) line: Vec<u8>,
+pub struct Flag {
+    pub event: u32,
+    pub look: Look,
+    pub line: Vec<u8>,
 }
 
 /// The end of a run that goes on.
@@ -36,13 +36,13 @@ const MOST_LINES: usize = 1_000;
 
 /// Runs in their order, none over another, and flags.
 #[derive(Drop)]
-pub(crate) struct Lane {
-    pub(crate) runs: Vec<Run>,
-    pub(crate) flags: Vec<Flag>,
+pub struct Lane {
+    pub runs: Vec<Run>,
+    pub flags: Vec<Flag>,
 }
 
 impl Lane {
-    pub(crate) fn empty(alloc: Global) -> Lane {
+    pub fn empty(alloc: Global) -> Lane {
         Lane {
             runs: Vec::new(alloc),
             flags: Vec::new(alloc),
@@ -50,7 +50,7 @@ impl Lane {
     }
 
     /// What goes on.
-    pub(crate) fn now(&self) -> Option<What> {
+    pub fn now(&self) -> Option<What> {
         match self.runs.last() {
             Some(run) if run.to == OPEN => Some(run.what),
             _ => None,
@@ -58,19 +58,14 @@ impl Lane {
     }
 
     /// What goes on ends before this event.
-    pub(crate) fn close(&mut self, event: u32) {
+    pub fn close(&mut self, event: u32) {
         if let Some(run) = self.runs.last_mut() {
             run.to = run.to.min(event);
         }
     }
 
     /// From this event on there is this, or nothing.
-    pub(crate) fn set(
-        &mut self,
-        alloc: Global,
-        event: u32,
-        what: Option<What>,
-    ) -> Result<(), AllocError> {
+    pub fn set(&mut self, alloc: Global, event: u32, what: Option<What>) -> Result<(), AllocError> {
         if self.now() == what {
             return Ok(());
         }
@@ -87,7 +82,7 @@ impl Lane {
     }
 
     /// A line of what goes on.
-    pub(crate) fn tell(&mut self, line: &[u8]) -> Result<(), AllocError> {
+    pub fn tell(&mut self, line: &[u8]) -> Result<(), AllocError> {
         if let Some(run) = self.runs.last_mut() {
             let kept = run.lines.len();
             if kept < MOST_LINES {
@@ -97,7 +92,7 @@ impl Lane {
         Ok(())
     }
 
-    pub(crate) fn flag(
+    pub fn flag(
         &mut self,
         alloc: Global,
         event: u32,

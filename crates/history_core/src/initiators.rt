@@ -9,9 +9,9 @@ use std::alloc::{AllocError, Global};
 
 /// An initiator, its job if it has one, and what it does.
 #[derive(Drop)]
-pub(crate) struct InitiatorLane {
-    pub(crate) number: u8,
-    pub(crate) lane: Lane,
+pub struct InitiatorLane {
+    pub number: u8,
+    pub lane: Lane,
     doing: Option<What>,
 }
 
@@ -61,7 +61,7 @@ fn text_of(entry: &Entry, draft: &mut Draft) -> Result<(), AllocError> {
 }
 
 impl InitiatorLane {
-    pub(crate) fn new(alloc: Global, number: u8) -> InitiatorLane {
+    pub fn new(alloc: Global, number: u8) -> InitiatorLane {
         InitiatorLane {
             number,
             lane: Lane::empty(alloc),
@@ -105,7 +105,7 @@ impl InitiatorLane {
     }
 
     /// An event's lines, and the initiator after it. A job that is over at the event has the event still.
-    pub(crate) fn add(
+    pub fn add(
         &mut self,
         alloc: Global,
         event: u32,

@@ -1,86 +1,56 @@
 //! How what is told is drawn: classes, patterns and their style, which tell without colours.
+use history_core::look::Look;
 use plain::listed::Listed;
 use plain::short::Short;
 use std::alloc::{AllocError, Global};
 use svg_text::shape::{Form, Group, Head, Mark, Name, Point, Size};
 
-#[derive(Clone, Copy, PartialEq, Eq)]
-pub(crate) enum Look {
-    /// An initiator selected a job, which is not admitted yet.
-    Selected,
-    /// The job waits for names or for space.
-    Waits,
-    /// The job is admitted, and no step of it has begun.
-    Admitted,
-    Runs,
-    /// A step waits for a device.
-    Device,
-    Bypassed,
-    Flushed,
-    /// A name is held by one job alone.
-    Alone,
-    /// A name is held by jobs that share it.
-    Shared,
-    /// The free tracks of a volume.
-    Free,
-    /// The tracks that are kept on it for jobs.
-    Kept,
-    /// An operation is under way on a volume.
-    Busy,
-    /// More than one of these, too short to be drawn.
-    Several,
-    Abend,
-    Fault,
+pub(crate) fn class_of(look: Look) -> Name {
+    match look {
+        Look::Selected => Short::new(b"selected"),
+        Look::Waits => Short::new(b"waits"),
+        Look::Admitted => Short::new(b"admitted"),
+        Look::Runs => Short::new(b"runs"),
+        Look::Device => Short::new(b"device"),
+        Look::Bypassed => Short::new(b"bypassed"),
+        Look::Flushed => Short::new(b"flushed"),
+        Look::Alone => Short::new(b"alone"),
+        Look::Shared => Short::new(b"shared"),
+        Look::Free => Short::new(b"free"),
+        Look::Kept => Short::new(b"kept"),
+        Look::Busy => Short::new(b"busy"),
+        Look::Several => Short::new(b"several"),
+        Look::Abend => Short::new(b"abend"),
+        Look::Fault => Short::new(b"fault"),
+    }
 }
 
-impl Look {
-    pub(crate) fn class(self) -> Name {
-        match self {
-            Look::Selected => Short::new(b"selected"),
-            Look::Waits => Short::new(b"waits"),
-            Look::Admitted => Short::new(b"admitted"),
-            Look::Runs => Short::new(b"runs"),
-            Look::Device => Short::new(b"device"),
-            Look::Bypassed => Short::new(b"bypassed"),
-            Look::Flushed => Short::new(b"flushed"),
-            Look::Alone => Short::new(b"alone"),
-            Look::Shared => Short::new(b"shared"),
-            Look::Free => Short::new(b"free"),
-            Look::Kept => Short::new(b"kept"),
-            Look::Busy => Short::new(b"busy"),
-            Look::Several => Short::new(b"several"),
-            Look::Abend => Short::new(b"abend"),
-            Look::Fault => Short::new(b"fault"),
-        }
+/// Whether a job's number can be read on it.
+pub(crate) fn has_room(look: Look) -> bool {
+    match look {
+        Look::Selected | Look::Admitted | Look::Runs | Look::Alone | Look::Shared => true,
+        _ => false,
     }
+}
 
-    /// Whether a job's number can be read on it.
-    pub(crate) fn has_room(self) -> bool {
-        match self {
-            Look::Selected | Look::Admitted | Look::Runs | Look::Alone | Look::Shared => true,
-            _ => false,
-        }
-    }
-
-    /// What it is, in a title and in the legend.
-    pub(crate) fn word(self) -> &'static [u8] {
-        match self {
-            Look::Selected => b"selected",
-            Look::Waits => b"waits for names or space",
-            Look::Admitted => b"admitted",
-            Look::Runs => b"runs",
-            Look::Device => b"waits for a device",
-            Look::Bypassed => b"bypassed",
-            Look::Flushed => b"flushed",
-            Look::Alone => b"held alone",
-            Look::Shared => b"shared",
-            Look::Free => b"free tracks",
-            Look::Kept => b"tracks kept for jobs",
-            Look::Busy => b"operation under way",
-            Look::Several => b"several together",
-            Look::Abend => b"ABEND",
-            Look::Fault => b"FAULT",
-        }
+/// What it is, in a title and in the legend.
+pub(crate) fn word_of(look: Look) -> &'static [u8] {
+    match look {
+        Look::Selected => b"selected",
+        Look::Waits => b"waits for names or space",
+        Look::Admitted => b"admitted",
+        Look::Runs => b"runs",
+        Look::Device => b"waits for a device",
+        Look::Bypassed => b"bypassed",
+        Look::Flushed => b"flushed",
+        Look::Alone => b"held alone",
+        Look::Shared => b"shared",
+        Look::Free => b"free tracks",
+        Look::Kept => b"tracks kept for jobs",
+        Look::Busy => b"operation under way",
+        Look::Several => b"several together",
+        Look::Abend => b"ABEND",
+        Look::Fault => b"FAULT",
     }
 }
 

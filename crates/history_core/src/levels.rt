@@ -7,23 +7,23 @@ use std::alloc::{AllocError, Global};
 
 /// The tracks of a volume from an event on.
 #[derive(Clone, Copy)]
-pub(crate) struct Level {
-    pub(crate) from: u32,
-    pub(crate) free: usize,
-    pub(crate) kept: usize,
+pub struct Level {
+    pub from: u32,
+    pub free: usize,
+    pub kept: usize,
 }
 
 #[derive(Drop)]
-pub(crate) struct VolumeLane {
-    pub(crate) serial: Serial,
-    pub(crate) levels: Vec<Level>,
-    pub(crate) busy: Lane,
+pub struct VolumeLane {
+    pub serial: Serial,
+    pub levels: Vec<Level>,
+    pub busy: Lane,
     /// The most tracks that were free or kept.
-    pub(crate) most: usize,
+    pub most: usize,
 }
 
 impl VolumeLane {
-    pub(crate) fn new(alloc: Global, serial: Serial) -> VolumeLane {
+    pub fn new(alloc: Global, serial: Serial) -> VolumeLane {
         VolumeLane {
             serial,
             levels: Vec::new(alloc),
@@ -40,12 +40,7 @@ impl VolumeLane {
     }
 
     /// The volume after an event.
-    pub(crate) fn add(
-        &mut self,
-        alloc: Global,
-        event: u32,
-        seen: &VolumeSeen,
-    ) -> Result<(), AllocError> {
+    pub fn add(&mut self, alloc: Global, event: u32, seen: &VolumeSeen) -> Result<(), AllocError> {
         if !self.is_at(seen) {
             self.most = self.most.max(seen.free).max(seen.kept);
             self.levels.push(Level {

@@ -1,20 +1,18 @@
-//! What is kept of a session, event by event, and the picture of it.
-use crate::draw::draw;
+//! What is kept of a session, event by event,
 use crate::initiators::InitiatorLane;
 use crate::levels::VolumeLane;
 use crate::moment::Moment;
 use crate::names::Names;
 use plain::draft::Draft;
 use std::alloc::{AllocError, Global};
-use svg_text::shape::Picture;
 
 /// What has changed from event to event.
 #[derive(Drop)]
 pub struct History {
-    pub(crate) events: u32,
-    pub(crate) initiators: Vec<InitiatorLane>,
-    pub(crate) names: Names,
-    pub(crate) volumes: Vec<VolumeLane>,
+    pub events: u32,
+    pub initiators: Vec<InitiatorLane>,
+    pub names: Names,
+    pub volumes: Vec<VolumeLane>,
     draft: Draft,
 }
 
@@ -73,10 +71,5 @@ impl History {
         self.add_volumes(alloc, moment)?;
         self.events = self.events.saturating_add(1);
         Ok(())
-    }
-
-    /// The picture of the events that came.
-    pub fn picture(&self, alloc: Global) -> Result<Picture, AllocError> {
-        draw(alloc, self)
     }
 }
