@@ -64,20 +64,36 @@ impl Lane {
         }
     }
 
+    /// What began at this event is this. `false` where nothing began then.
+    fn replace(&mut self, event: u32, what: What) -> bool {
+        match self.runs.last_mut() {
+            Some(run) if run.from == event && run.to == OPEN => {
+                run.what = what;
+                true
+            }
+            _ => false,
+        }
+    }
+
     /// From this event on there is this, or nothing.
     pub fn set(&mut self, alloc: Global, event: u32, what: Option<What>) -> Result<(), AllocError> {
         if self.now() == what {
             return Ok(());
         }
-        self.close(event);
-        if let Some(what) = what {
-            self.runs.push(Run {
-                from: event,
-                to: OPEN,
-                what,
-                lines: Vec::new(alloc),
-            })?;
+        let Some(what) = what else {
+            self.close(event);
+            return Ok(());
+        };
+        if self.replace(event, what) {
+            return Ok(());
         }
+        self.close(event);
+        self.runs.push(Run {
+            from: event,
+            to: OPEN,
+            what,
+            lines: Vec::new(alloc),
+        })?;
         Ok(())
     }
 
