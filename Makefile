@@ -1,6 +1,6 @@
 # Needs the Rattle toolchain (`rt` on the path).
 
-.PHONY: help test run mvt tools play examples documents rows hostile bench
+.PHONY: help test run mvt tools play picture pictures examples documents rows hostile bench
 
 # The session that `make run` runs.
 SESSION ?= examples/first.session
@@ -15,7 +15,9 @@ help:
 	@echo 'make run [SESSION=FILE]   runs a session (examples/first.session) with the program as it stands, not proved:'
 	@echo '                          a minute or two where something changed, else at once'
 	@echo 'make mvt                  proves the program and all that it stands on, and builds it to ./mvt'
-	@echo 'make tools                so for ./mvt-play, which plays a session on until nothing moves'
+	@echo 'make tools                so for ./mvt-play, which plays a session on until nothing moves, and ./mvt-picture, which draws one'
+	@echo 'make picture [SESSION=FILE]  draws a session to picture.svg with the program as it stands, not proved'
+	@echo 'make pictures             draws each session of examples/ with ./mvt-picture and reads the pictures as XML'
 	@echo 'make play                 compares the sessions of tests/play/ with ./mvt-play and ./mvt'
 	@echo 'make examples             runs each session of examples/ with ./mvt and compares the listings'
 	@echo 'make documents            compares README.md and docs/ with ./mvt: what examples print, what refusals are told'
@@ -41,11 +43,26 @@ mvt:
 	cp crates/mvt_main/out/mvt_main mvt
 
 # The proved tools beside it.
-tools: mvt-play
+tools: mvt-play mvt-picture
 
 mvt-play: $(SOURCES)
 	cd crates/mvt_play && rt run </dev/null
 	cp crates/mvt_play/out/mvt_play mvt-play
+
+mvt-picture: $(SOURCES)
+	cd crates/mvt_picture && rt run </dev/null >/dev/null
+	cp crates/mvt_picture/out/mvt_picture mvt-picture
+
+# Draws a session. Nothing is proved.
+picture: mvt-picture-unproved
+	./mvt-picture-unproved <$(SESSION) >picture.svg
+
+mvt-picture-unproved: $(SOURCES)
+	tests/unproved.sh $@ mvt_picture
+
+# Draws the examples, and reads the pictures.
+pictures: mvt-picture
+	tests/pictures.sh ./mvt-picture
 
 # Compares what ./mvt-play writes with the sessions that were played on.
 play: mvt tools

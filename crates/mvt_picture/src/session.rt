@@ -1,0 +1,105 @@
+//! A session is run, and what is seen of it is kept.
+ghost use Rattle.std.specs.Prelude.{◌≡◌, false};
+
+use crate::watch::Watch;
+use cb_queue::list_store::ListStore;
+use history_core::history::History;
+use input_core::event::Event;
+use sched_core::system::System;
+use session_core::open::{Opened, open, start};
+use session_core::stream::Source;
+use session_core::transfer::read_text;
+use session_core::{Options, SessionEnd, SessionFault};
+use session_text::fault::Fault;
+use session_text::parse::statements;
+use session_text::statement::{Says, Statement};
+use std::alloc::{AllocError, Global};
+use std::io::Read;
+
+/// Applies an event so many times.
+fn run_events(
+    alloc: Global,
+    system: &mut System<'_, ListStore>,
+    event: &Event<'_>,
+    times: u16,
+    watch: &mut Watch,
+    history: &mut History,
+) -> Result<(), AllocError> {
+    for _ in 0..times {
+        let lines = system.apply_shown(event)?;
+        watch.keep(alloc, system, lines.as_slice(), history)?;
+    }
+    Ok(())
+}
+
+/// Runs the statements behind the configuration, up to the first fault.
+fn run_from(
+    alloc: Global,
+    statements: &[Statement<'_>],
+    late: Option<Fault>,
+    system: &mut System<'_, ListStore>,
+    history: &mut History,
+) -> Result<SessionEnd, SessionFault> {
+    let mut watch = Watch::new(alloc);
+    for statement in statements {
+        match &statement.says {
+            Says::Events(event, times) => {
+                let Ok(()) = run_events(alloc, system, event, *times, &mut watch, history) else {
+                    return Err(SessionFault::Memory);
+                };
+            }
+            Says::Refused(fault) => return Err(SessionFault::Stopped(*fault, statement.line)),
+            Says::Config { .. } => {
+                if let Some(fault) = late {
+                    return Err(SessionFault::Stopped(fault, statement.line));
+                }
+            }
+        }
+    }
+    Ok(SessionEnd)
+}
+
+/// Runs these statements.
+fn run(
+    alloc: Global,
+    statements: &[Statement<'_>],
+    options: Options,
+    history: &mut History,
+) -> Result<SessionEnd, SessionFault> {
+    let opened = match open(alloc, statements) {
+        Ok(opened) => opened,
+        Err(fault) => return Err(fault),
+    };
+    let Opened {
+        store,
+        fixed,
+        queue,
+        from,
+        late,
+    } = opened;
+    let Ok(mut system) = start(alloc, store, queue, &fixed, options) else {
+        return Err(SessionFault::Memory);
+    };
+    let (_, rest) = statements.split_at(from);
+    let outcome = run_from(alloc, rest, late, &mut system, history);
+    system.close();
+    outcome
+}
+
+/// Reads a session of a source, runs it with these options, and keeps what is seen of it.
+pub(crate) fn run_session<R: Read>(
+    alloc: Global,
+    source: &mut Source<'_, R>,
+    options: Options,
+    history: &mut History,
+) -> Result<SessionEnd, SessionFault>
+    requires { source.old.failed ≡ false }
+{
+    let Ok(input) = read_text(alloc, source) else {
+        return Err(SessionFault::Memory);
+    };
+    let Ok(statements) = statements(alloc, input.text.as_slice(), input.ending) else {
+        return Err(SessionFault::Memory);
+    };
+    run(alloc, statements.as_slice(), options, history)
+}
