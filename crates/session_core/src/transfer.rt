@@ -19,11 +19,19 @@ pub struct Input {
     pub ending: Ending,
 }
 
-/// So many zeros.
-fn blank(alloc: Global, count: usize) -> Result<Vec<u8>, AllocError>
-    ensures { IfOk result (λ v. length v.items ≡ count) }
+/// The bytes that are filled at once.
+const PIECE: usize = 4_096;
+
+/// A buffer of zeros, filled by pieces, as a byte alone costs an instruction.
+fn blank(alloc: Global) -> Result<Vec<u8>, AllocError>
+    ensures { IfOk result (λ v. length v.items ≡ 65536) }
 {
-    vec![in alloc; 0u8; count]
+    let piece = [0u8; PIECE];
+    let mut buffer = Vec::with_capacity(alloc, MOST_OF_A_CALL)?;
+    while buffer.len() < MOST_OF_A_CALL {
+        buffer.extend_from_slice(&piece)?;
+    }
+    Ok(buffer)
 }
 
 /// Reads to the end, to a failure, or to the first byte past the limit.
@@ -34,7 +42,7 @@ pub fn read_text<R: Read>(alloc: Global, source: &mut Source<'_, R>) -> Result<I
     ensures same_reader { source.new.reader.ghost_name ≡ source.old.reader.ghost_name }
 {
     let mut text = Vec::new(alloc);
-    let mut held = blank(alloc, MOST_OF_A_CALL)?;
+    let mut held = blank(alloc)?;
     let buffer = held.as_mut_slice();
     while text.len() <= MOST_BYTES {
         let room = (MOST_BYTES + 1 - text.len()).min(buffer.len());
