@@ -23,7 +23,7 @@ use Rattle.jcl_meaning.specs.States.{Fixed, State}
 use Rattle.jcl_meaning.specs.Stores.{store_of}
 use Rattle.jcl_meaning.specs.TakeActs.{fate_at}
 use Rattle.jcl_meaning.specs.Takes.{dd_volume}
-use Rattle.jcl_meaning.specs.Views.{kind_refers, steps_refer, view_at}
+use Rattle.jcl_meaning.specs.Views.{View, kind_refers, steps_refer, view_at}
 use Rattle.part_laws.specs.Fits.{Fits}
 use Rattle.path_meaning.specs.Paths.{fates_in}
 use Rattle.view_laws.specs.PathParts.{IsBefore, next_outcome, part_from, path_part}
@@ -34,11 +34,10 @@ use Rattle.step_laws.proofs.Showing.{step_does}
 use Rattle.step_laws.proofs.Starting.{step_passes, step_starts}
 use Rattle.view_domain.specs.declared.crossed.Stop.{Stop}
 use Rattle.view_domain.specs.Crossings.{IsStop}
-use Rattle.view_core.specs.declared.scene.PlainView.{PlainView}
 use Rattle.view_core.specs.declared.scene.Scene.{Scene}
 use Rattle.view_core.specs.Bits.{bits_ended, bits_kept, fate_shown, kept_tests}
-use Rattle.view_core.specs.Moves.{told}
-use Rattle.view_core.specs.PlainViews.{shown_by, shown_parts}
+use Rattle.view_core.specs.PlainViews.{shown_parts, shown_so}
+use Rattle.view_core.specs.Shows.{Shows}
 use Rattle.view_core.specs.Scenes.{IsBegun, state_on}
 use Rattle.view_core.specs.Walks.{LeavesScene, StopsIn}
 use Rattle.view_core.proofs.Runs.{due_there, first_fault}
@@ -51,7 +50,7 @@ not_run fate.Bypassed isnt = refl
 not_run fate.Flushed isnt = refl
 
 module _ (plan : JobPlan) (fixed : Fixed) (k : ℕ) (step : StepPlan) (after : List StepPlan) (is : drop k plan.steps ≡ step ∷ after)
-    (job_tests : fixed.job_tests ≡ plan.tests.items) (v : PlainView) where
+    (job_tests : fixed.job_tests ≡ plan.tests.items) (v : Shows) where
   abbrev pub tests : ℕ
   tests = length plan.tests.items
 
@@ -59,10 +58,10 @@ module _ (plan : JobPlan) (fixed : Fixed) (k : ℕ) (step : StepPlan) (after : L
   kept = kept_tests plan.tests.items after
 
   abbrev pub bits : List Bool
-  bits = bits_kept tests (length step.tests.items) v.met.items
+  bits = bits_kept tests (length step.tests.items) v.met
 
   abbrev IsHere : State → Type 0
-  IsHere s = shown_by plan fixed.date k v ≡ view_at plan k fixed.date s
+  IsHere s = shown_so plan fixed.date k v ≡ view_at plan k fixed.date s
 
   abbrev FitsPart : State → List Action → Type 0
   FitsPart s rest = Fits (names_of plan) fixed.meanings (path_part plan k ++ rest) s.own
@@ -82,9 +81,9 @@ module _ (plan : JobPlan) (fixed : Fixed) (k : ℕ) (step : StepPlan) (after : L
   -- the bits that are kept behind the step
   bits_here : (s : State) → IsHere s → AreBits (satisfied s.own.ended) plan.tests.items after bits
   bits_here s here =
-      kept_bits (satisfied s.own.ended) plan.tests.items step after v.met.items
-      (subst (λ (steps : List StepPlan). AreBits (satisfied s.own.ended) plan.tests.items steps v.met.items) is
-      (met_bits plan fixed.date k s v.scene.value v.abended v.met.items here))
+      kept_bits (satisfied s.own.ended) plan.tests.items step after v.met
+      (subst (λ (steps : List StepPlan). AreBits (satisfied s.own.ended) plan.tests.items steps v.met) is
+      (met_bits plan fixed.date k s v.scene v.abended v.met here))
 
   -- what later steps refer to this one and later ones refer to
   asked : (a b : ℕ) → steps_refer (drop (k + 1) plan.steps) a b ≡ true → steps_refer (drop k plan.steps) a b ≡ true
@@ -115,8 +114,8 @@ module _ (plan : JobPlan) (fixed : Fixed) (k : ℕ) (step : StepPlan) (after : L
   -- a step that does not run
   abbrev on_scene : State → State
   on_scene t = record {
-    store = store_of v.scene.value.store;
-    own = record t.own { passed = v.scene.value.passed; volumes = v.scene.value.volumes };
+    store = store_of v.scene.store;
+    own = record t.own { passed = v.scene.passed; volumes = v.scene.volumes };
     answers = t.answers;
   }
 
@@ -130,23 +129,23 @@ module _ (plan : JobPlan) (fixed : Fixed) (k : ℕ) (step : StepPlan) (after : L
     here_still : IsHere end
     here_still = here ∙ view_kept s end over.store over.passed over.volumes over.ended
 
-    passed_view : view_at plan (k + 1) fixed.date end ≡ shown_parts plan fixed.date (k + 1) v.scene.value v.abended bits
+    passed_view : view_at plan (k + 1) fixed.date end ≡ shown_parts plan fixed.date (k + 1) v.scene v.abended bits
     passed_view =
-        let came : abended end.own.ended ≡ v.abended = came_abend plan fixed.date k end v.scene.value v.abended v.met.items here_still in
-        let has : HasScene v.scene.value (on_scene end) = record { store = refl; passed = refl; volumes = refl } in
-        shown_as plan fixed.date (k + 1) end (on_scene end) v.scene.value v.abended bits
-        (shows_next end (on_scene end) (shows_scene plan fixed.date k end v.scene.value v.abended v.met.items here_still (on_scene end) has came)) has came
+        let came : abended end.own.ended ≡ v.abended = came_abend plan fixed.date k end v.scene v.abended v.met here_still in
+        let has : HasScene v.scene (on_scene end) = record { store = refl; passed = refl; volumes = refl } in
+        shown_as plan fixed.date (k + 1) end (on_scene end) v.scene v.abended bits
+        (shows_next end (on_scene end) (shows_scene plan fixed.date k end v.scene v.abended v.met here_still (on_scene end) has came)) has came
         (subst (λ (steps : List StepPlan). AreBits (satisfied end.own.ended) plan.tests.items steps bits) (sym after_is) (bits_here end here_still))
 
-    pub passes : (f : Fate) (w : PlainView) → f ≡ fate_shown tests step v → w.scene.value ≡ v.scene.value → w.abended ≡ v.abended → w.met.items ≡ bits →
+    pub passes : (f : Fate) (w : View) → f ≡ fate_shown tests step v → w ≡ shown_parts plan fixed.date (k + 1) v.scene v.abended bits →
         (fates_in (ran_from s).lines ≡ f ∷ []) × ((f ≡ fate.Run) → ⊥) × ((ran_from s).faults ≡ []) × ((ran_from s).made ≡ [])
-        × (view_at plan (k + 1) fixed.date (ran_from s).state ≡ shown_by plan fixed.date (k + 1) w)
-    passes f w told scene abend met = (
+        × (view_at plan (k + 1) fixed.date (ran_from s).state ≡ w)
+    passes f w told same = (
       over.fates ∙ ap (λ (g : Fate). g ∷ []) (fate_here s outcomes here before ∙ sym told),
       λ e. idle (sym told ∙ e),
       over.faults,
       over.made,
-      passed_view ∙ (λ i. shown_parts plan fixed.date (k + 1) (sym scene i) (sym abend i) (sym met i)),
+      passed_view ∙ sym same,
     )
 
   -- a step that runs
@@ -161,16 +160,16 @@ module _ (plan : JobPlan) (fixed : Fixed) (k : ℕ) (step : StepPlan) (after : L
     abbrev from_start : State → Ran
     from_start t = run fixed (behind_start (k + 1) step) t
 
-    module _ (own : Own) (begun : IsBegun v.scene.value v.abended own) (ps : List Outcome)
+    module _ (own : Own) (begun : IsBegun v.scene v.abended own) (ps : List Outcome)
         (alike : is_abend (next_outcome outcomes) ≡ is_abend (next_outcome ps)) where
       abbrev on : State
-      on = state_on v.scene.value own ps
+      on = state_on v.scene own ps
 
       did : DoTheSame plan fixed.date (k + 1) (from_start starts.started) (from_start on)
       did = step_does plan fixed k step after is rest starts.started on outcomes ps
           (shown_on plan fixed.date k s starts.started on starts.shows
-          (shows_scene plan fixed.date k s v.scene.value v.abended v.met.items here on (begun_has v.scene.value v.abended own ps begun) begun.abended))
-          starts.has_started (begun_started v.scene.value v.abended own ps begun) alike (starts.fits rest fits)
+          (shows_scene plan fixed.date k s v.scene v.abended v.met here on (begun_has v.scene v.abended own ps begun) begun.abended))
+          starts.has_started (begun_started v.scene v.abended own ps begun) alike (starts.fits rest fits)
 
       faults_are : (ran_from s).faults ≡ map later (from_start on).faults
       faults_are = starts.faults ∙ ap (map later) did.faults
@@ -212,13 +211,13 @@ module _ (plan : JobPlan) (fixed : Fixed) (k : ℕ) (step : StepPlan) (after : L
             ∙ shown_as plan fixed.date (k + 1) behind_it (from_start on).state scene abend met did.shows
             (record { store = leaves.store; passed = leaves.passed; volumes = leaves.volumes })
             (ap abended ended ∙ ap (λ (b : Bool). is_abend (next_outcome outcomes) || b)
-            (came_abend plan fixed.date k s v.scene.value v.abended v.met.items here) ∙ came)
+            (came_abend plan fixed.date k s v.scene v.abended v.met here) ∙ came)
             (subst (λ (steps : List StepPlan). AreBits (satisfied behind_it.own.ended) plan.tests.items steps met) (sym after_is)
             (subst (λ (es : List Ended). AreBits (satisfied es) plan.tests.items after met) (sym ended) are))
 
     -- it ended by a code
-    module _ (own : Own) (begun : IsBegun v.scene.value v.abended own) (scene : Scene) (c : ℕ) (by_c : next_outcome outcomes ≡ outcome.Code c)
-        (leaves : LeavesScene (from_start (state_on v.scene.value own (outcome.Code 0 ∷ []))) scene) where
+    module _ (own : Own) (begun : IsBegun v.scene v.abended own) (scene : Scene) (c : ℕ) (by_c : next_outcome outcomes ≡ outcome.Code c)
+        (leaves : LeavesScene (from_start (state_on v.scene own (outcome.Code 0 ∷ []))) scene) where
       pub view_by_code : view_at plan (k + 1) fixed.date (ran_from s).state
           ≡ shown_parts plan fixed.date (k + 1) scene v.abended (bits_ended (k + 1) (outcome.Code c) kept bits)
       view_by_code =
@@ -229,8 +228,8 @@ module _ (plan : JobPlan) (fixed : Fixed) (k : ℕ) (step : StepPlan) (after : L
           (ended_bits (satisfied s.own.ended) (k + 1) (outcome.Code c) plan.tests.items after bits (bits_here s here)))
 
     -- it ended by an ABEND, which meets no test
-    module _ (own : Own) (begun : IsBegun v.scene.value v.abended own) (scene : Scene) (a : Abend) (by_a : next_outcome outcomes ≡ outcome.Abend a)
-        (leaves : LeavesScene (from_start (state_on v.scene.value own (outcome.Abend (User 0) ∷ []))) scene) where
+    module _ (own : Own) (begun : IsBegun v.scene v.abended own) (scene : Scene) (a : Abend) (by_a : next_outcome outcomes ≡ outcome.Abend a)
+        (leaves : LeavesScene (from_start (state_on v.scene own (outcome.Abend (User 0) ∷ []))) scene) where
       pub view_by_abend : view_at plan (k + 1) fixed.date (ran_from s).state ≡ shown_parts plan fixed.date (k + 1) scene true bits
       view_by_abend =
           view_behind own begun (outcome.Abend (User 0) ∷ []) (ap is_abend by_a) scene leaves true bits

@@ -1,5 +1,5 @@
 -- The job's end on a scene: its actions one by one, and what it comes to.
-use Rattle.std.proofs.Common.{◌≡◌, ◌++◌, ◌∷◌, ◌∙◌, ◌+◌, ◌<◌, ℕ, suc, List, [], Option, Some, None, take, drop, length, refl, sym, ap, subst, append_assoc, get_or, arith}
+use Rattle.std.proofs.Common.{Bool, ◌≡◌, ◌++◌, ◌∷◌, ◌∙◌, ◌+◌, ◌<◌, ℕ, suc, List, [], Option, Some, None, take, drop, length, refl, sym, ap, subst, append_assoc, get_or, arith}
 use Rattle.std.specs.Prelude.{slice_get}
 use Rattle.std.proofs.lemmas.List.{append-nil, length-map, map-append}
 use Rattle.jcl_plan.specs.declared.fault.Fault.{Fault}
@@ -17,14 +17,18 @@ use Rattle.jcl_meaning.specs.Views.{View, view_at}
 use Rattle.part_laws.specs.Fits.{Fits}
 use Rattle.step_laws.proofs.Showing.{end_does}
 use Rattle.view_laws.specs.PathParts.{part_from, path_part}
+use Rattle.view_domain.specs.declared.crossed.Crossed.{Crossed}
 use Rattle.view_domain.specs.declared.crossed.Crossed.TheVariants as crossed
 use Rattle.view_domain.specs.declared.crossed.Stop.{Stop}
 use Rattle.view_domain.specs.Crossings.{IsCrossed}
 use Rattle.view_core.specs.declared.leave.LeftDd.{LeftDd}
-use Rattle.view_core.specs.declared.scene.PlainView.{PlainView}
+use Rattle.view_core.specs.declared.scene.Scene.{Scene}
 use Rattle.view_core.specs.declared.walk.Under.{Under}
+use Rattle.view_core.specs.Legs.{EndsJob}
 use Rattle.view_core.specs.Lefts.{LeavesAll, left_action, left_actions}
-use Rattle.view_core.specs.PlainViews.{shown_by}
+use Rattle.view_core.specs.PlainViews.{shown_so}
+use Rattle.view_core.specs.Shows.{Shows}
+use Rattle.view_core.specs.Legs.{EndsJob}
 use Rattle.view_core.specs.Scenes.{IsBegun, state_on}
 use Rattle.view_core.specs.Walks.{MeetsAt, RanTo, StopsAt, state_of}
 use Rattle.view_core.proofs.Runs.{due_there, first_fault, front_length, front_more, front_split, meets_before, meets_behind, meets_first, none_append, run_append}
@@ -82,17 +86,14 @@ over_meets : (fixed : Fixed) (s : State) → (run fixed (Over ∷ []) s).faults 
 unfolding run act
 over_meets fixed s = refl
 
-module _ (plan : JobPlan) (fixed : Fixed) (k : ℕ) (none : drop k plan.steps ≡ []) (v : PlainView) (u : Under)
-    (same : u.store ≡ v.scene.value.store) (begun : IsBegun v.scene.value v.abended u.course.own) (lefts : List LeftDd)
+module _ {V : Type 0} (meaning : V → View) (plan : JobPlan) (fixed : Fixed) (k : ℕ) (none : drop k plan.steps ≡ []) (v : Shows) (u : Under)
+    (same : u.store ≡ v.scene.store) (begun : IsBegun v.scene v.abended u.course.own) (lefts : List LeftDd)
     (these : left_actions lefts ≡ lefts_from 1 plan.steps) where
   abbrev here : View
-  here = shown_by plan fixed.date k v
-
-  abbrev meaning : PlainView → View
-  meaning = shown_by plan fixed.date (k + 1)
+  here = shown_so plan fixed.date k v
 
   abbrev on : State
-  on = state_on v.scene.value u.course.own []
+  on = state_on v.scene u.course.own []
 
   on_scene : state_of u (given []) ≡ on
   on_scene = ap (λ (s : SoloStore). record { store = store_of s; own = u.course.own; answers = given [] }) same
@@ -104,10 +105,10 @@ module _ (plan : JobPlan) (fixed : Fixed) (k : ℕ) (none : drop k plan.steps �
       (run fixed (path_part plan k) s).faults ≡ (run fixed (left_actions lefts ++ Over ∷ []) on).faults
   faults_are s rest seen fits =
       end_does plan fixed k rest s on none
-      (shows_scene plan fixed.date k s v.scene.value v.abended v.met.items seen on (begun_has v.scene.value v.abended u.course.own [] begun) begun.abended) fits
+      (shows_scene plan fixed.date k s v.scene v.abended v.met seen on (begun_has v.scene v.abended u.course.own [] begun) begun.abended) fits
       ∙ ap (λ (l : List Action). (run fixed l on).faults) part_is
 
-  pub crossed_end : (new : Under) → LeavesAll fixed (length plan.steps) lefts u None new → (there : List View) →
+  crossed_end : (new : Under) → LeavesAll fixed (length plan.steps) lefts u None new → (there : List View) →
       IsCrossed meaning plan fixed k there here crossed.Ends
   crossed_end new leaves there = record {
     covered = λ s outcomes rest seen before within fits. (
@@ -120,7 +121,7 @@ module _ (plan : JobPlan) (fixed : Fixed) (k : ℕ) (none : drop k plan.steps �
     founded = tt;
   }
 
-  pub crossed_stop : (stop : Stop) (new : Under) → LeavesAll fixed (length plan.steps) lefts u (Some stop) new → (there : List View) →
+  crossed_stop : (stop : Stop) (new : Under) → LeavesAll fixed (length plan.steps) lefts u (Some stop) new → (there : List View) →
       IsCrossed meaning plan fixed k there here (crossed.Stops stop)
   crossed_stop stop new leaves there =
       let stops : StopsAt fixed Left (left_actions lefts) (state_of u (given [])) stop.at stop = leaves.1 (given []) in
@@ -142,9 +143,25 @@ module _ (plan : JobPlan) (fixed : Fixed) (k : ℕ) (none : drop k plan.steps �
         founded = tt;
       }
 
+abbrev pub end_told : {V : Type 0} → Option Stop → Crossed V
+end_told None = crossed.Ends
+end_told (Some stop) = crossed.Stops stop
+
+pub crossed_at_end : {V : Type 0} (meaning : V → View) (plan : JobPlan) (fixed : Fixed) (k : ℕ) → drop k plan.steps ≡ [] → (v : Shows) (stop : Option Stop) →
+    EndsJob fixed plan v.scene v.abended stop → (there : List View) →
+    IsCrossed meaning plan fixed k there (shown_so plan fixed.date k v) (end_told stop)
+crossed_at_end meaning plan fixed k none v None h there =
+    crossed_end meaning plan fixed k none v h.old h.store h.begun h.lefts h.these h.new h.leaves there
+crossed_at_end meaning plan fixed k none v (Some stop) h there =
+    crossed_stop meaning plan fixed k none v h.old h.store h.begun h.lefts h.these stop h.new h.leaves there
+
 -- the same of what is known to be the same
 pub left_as : (fixed : Fixed) (m n : ℕ) (ls ks : List LeftDd) (u v : Under) (a b : Option Stop) → m ≡ n → ls ≡ ks → a ≡ b →
     LeavesAll fixed m ls u a v → LeavesAll fixed n ks u b v
 left_as fixed m n ls ks u v a b p q r h =
     subst (λ (x : Option Stop). LeavesAll fixed n ks u x v) r
     (subst (λ (x : List LeftDd). LeavesAll fixed n x u a v) q (subst (λ (x : ℕ). LeavesAll fixed x ls u a v) p h))
+
+pub ended_as : (fixed : Fixed) (plan : JobPlan) (a b : Scene) (abend : Bool) (x y : Option Stop) → a ≡ b → x ≡ y → EndsJob fixed plan a abend x →
+    EndsJob fixed plan b abend y
+ended_as fixed plan a b abend x y p q h = subst (λ (o : Option Stop). EndsJob fixed plan b abend o) q (subst (λ (s : Scene). EndsJob fixed plan s abend x) p h)

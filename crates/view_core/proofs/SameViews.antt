@@ -45,7 +45,7 @@ use Rattle.view_core.specs.declared.scene.Scene.{Scene}
 use Rattle.view_core.specs.PlainViews.{by_step, shown_by}
 use Rattle.view_core.specs.Same.{all_same_passed, entries_alike, entry_alike, same_bits, same_by_plan, same_by_step, same_for_kind, same_generation}
 use Rattle.view_core.specs.Same.{same_group, same_passed, same_scene, same_seen, same_serial, same_shown, same_view, same_volumes, set_alike}
-use Rattle.view_core.specs.Same.{sets_alike, shown_under}
+use Rattle.view_core.specs.Same.{sets_alike, shown_alone, shown_under}
 
 -- lists whose items are the same one by one
 module _ {A : Type 0} (same : A → A → Bool) (each : (x y : A) → Decides (same x y) (x ≡ y)) where
@@ -578,6 +578,73 @@ module _ (names : List HeldName) (date tests : ℕ) (later : List StepPlan) (a b
           (and_from (passed_alike && volumes_alike && first_sets) other_sets
           (and_from (passed_alike && volumes_alike) first_sets
           (and_from passed_alike volumes_alike h.passed h.volumes) h.sets) h.sets_too) h.entries) h.entries_too)
+
+-- scenes by themselves
+module _ (names : List HeldName) (date : ℕ) (later : List StepPlan) (A B : Scene) where
+  abbrev SceneShown : Type 0
+  SceneShown = shown_alone names date later A ≡ shown_alone names date later B
+
+  pub scenes_decide : Decides (same_scene names date later A B) SceneShown
+  scenes_decide = (λ h. shown (six h), λ e. whole e)
+    where
+      six : same_scene names date later A B ≡ true → (((((all_same_passed A.passed B.passed ≡ true) × (same_volumes A.volumes B.volumes later ≡ true))
+          × (sets_alike names date A.store B.store A.store.sets ≡ true)) × (sets_alike names date A.store B.store B.store.sets ≡ true))
+          × (entries_alike names A.store B.store A.store.catalog ≡ true)) × (entries_alike names A.store B.store B.store.catalog ≡ true)
+      six h =
+          let five : ((all_same_passed A.passed B.passed && same_volumes A.volumes B.volumes later && sets_alike names date A.store B.store A.store.sets
+          && sets_alike names date A.store B.store B.store.sets && entries_alike names A.store B.store A.store.catalog) ≡ true)
+          × (entries_alike names A.store B.store B.store.catalog ≡ true) = and_parts (all_same_passed A.passed B.passed && same_volumes A.volumes B.volumes later
+          && sets_alike names date A.store B.store A.store.sets && sets_alike names date A.store B.store B.store.sets
+          && entries_alike names A.store B.store A.store.catalog) (entries_alike names A.store B.store B.store.catalog) h in
+          let four : ((all_same_passed A.passed B.passed && same_volumes A.volumes B.volumes later && sets_alike names date A.store B.store A.store.sets
+          && sets_alike names date A.store B.store B.store.sets) ≡ true) × (entries_alike names A.store B.store A.store.catalog ≡ true) =
+          and_parts (all_same_passed A.passed B.passed && same_volumes A.volumes B.volumes later && sets_alike names date A.store B.store A.store.sets
+          && sets_alike names date A.store B.store B.store.sets) (entries_alike names A.store B.store A.store.catalog) five.0 in
+          let three : ((all_same_passed A.passed B.passed && same_volumes A.volumes B.volumes later && sets_alike names date A.store B.store A.store.sets) ≡ true)
+          × (sets_alike names date A.store B.store B.store.sets ≡ true) = and_parts (all_same_passed A.passed B.passed && same_volumes A.volumes B.volumes later
+          && sets_alike names date A.store B.store A.store.sets) (sets_alike names date A.store B.store B.store.sets) four.0 in
+          let two : ((all_same_passed A.passed B.passed && same_volumes A.volumes B.volumes later) ≡ true)
+          × (sets_alike names date A.store B.store A.store.sets ≡ true) = and_parts (all_same_passed A.passed B.passed && same_volumes A.volumes B.volumes later)
+          (sets_alike names date A.store B.store A.store.sets) three.0 in
+          (((((and_parts (all_same_passed A.passed B.passed) (same_volumes A.volumes B.volumes later) two.0), two.1), three.1), four.1), five.1)
+
+      shown : (((((all_same_passed A.passed B.passed ≡ true) × (same_volumes A.volumes B.volumes later ≡ true))
+          × (sets_alike names date A.store B.store A.store.sets ≡ true)) × (sets_alike names date A.store B.store B.store.sets ≡ true))
+          × (entries_alike names A.store B.store A.store.catalog ≡ true)) × (entries_alike names A.store B.store B.store.catalog ≡ true) → SceneShown
+      shown h = λ i. record {
+        sets = λ key serial. sets_same names date A.store B.store h.0.0.0.1 h.0.0.1 key serial i;
+        catalog = λ name. entries_same names A.store B.store h.0.1 h.1 name i;
+        passed = (all_passed_decide A.passed B.passed).0 h.0.0.0.0.0 i;
+        volumes = λ step dd. volume_shown (steps_refer later step dd) (dd_volume A.volumes step dd) (dd_volume B.volumes step dd)
+            (volumes_same A.volumes B.volumes later h.0.0.0.0.1 step dd) i;
+        abended = false;
+        job_tests = [];
+        step_tests = [];
+      }
+
+      whole : SceneShown → same_scene names date later A B ≡ true
+      whole e =
+          let sets_at : (key : Key) (serial : List ℕ) →
+          shown_in names date A.store B.store A.store key serial ≡ shown_in names date A.store B.store B.store key serial =
+          λ key serial. ap (λ (v : View). v.sets key serial) e in
+          let entries_at : (name : List ℕ) → seen_in names A.store B.store A.store name ≡ seen_in names A.store B.store B.store name =
+          λ name. ap (λ (v : View). v.catalog name) e in
+          and_from (all_same_passed A.passed B.passed && same_volumes A.volumes B.volumes later && sets_alike names date A.store B.store A.store.sets
+          && sets_alike names date A.store B.store B.store.sets && entries_alike names A.store B.store A.store.catalog)
+          (entries_alike names A.store B.store B.store.catalog)
+          (and_from (all_same_passed A.passed B.passed && same_volumes A.volumes B.volumes later && sets_alike names date A.store B.store A.store.sets
+          && sets_alike names date A.store B.store B.store.sets) (entries_alike names A.store B.store A.store.catalog)
+          (and_from (all_same_passed A.passed B.passed && same_volumes A.volumes B.volumes later && sets_alike names date A.store B.store A.store.sets)
+          (sets_alike names date A.store B.store B.store.sets)
+          (and_from (all_same_passed A.passed B.passed && same_volumes A.volumes B.volumes later) (sets_alike names date A.store B.store A.store.sets)
+          (and_from (all_same_passed A.passed B.passed) (same_volumes A.volumes B.volumes later)
+          ((all_passed_decide A.passed B.passed).1 (ap (λ (v : View). v.passed) e))
+          (volumes_told A.volumes B.volumes later (λ step dd r. volume_told (steps_refer later step dd) (dd_volume A.volumes step dd)
+          (dd_volume B.volumes step dd) r (ap (λ (v : View). v.volumes step dd) e))))
+          (sets_told names date A.store B.store sets_at A.store.sets))
+          (sets_told names date A.store B.store sets_at B.store.sets))
+          (entries_told names A.store B.store entries_at A.store.catalog))
+          (entries_told names A.store B.store entries_at B.store.catalog)
 
 -- among several
 module _ (names : List HeldName) (date tests : ℕ) (later : List StepPlan) (view : PlainView) where

@@ -21,10 +21,10 @@ use Rattle.jcl_meaning.specs.Takes.{dd_volume}
 use Rattle.jcl_meaning.specs.Views.{View, shown_set, steps_refer, view_at}
 use Rattle.step_laws.specs.Steps.{HasStarted, ShowTheSame}
 use Rattle.view_laws.specs.PathParts.{IsBefore}
-use Rattle.view_core.specs.declared.scene.PlainView.{PlainView}
 use Rattle.view_core.specs.declared.scene.Scene.{Scene}
 use Rattle.view_core.specs.Bits.{fate_shown, kept_tests, some_met}
-use Rattle.view_core.specs.PlainViews.{shown_by, shown_parts}
+use Rattle.view_core.specs.PlainViews.{shown_parts, shown_so}
+use Rattle.view_core.specs.Shows.{Shows}
 use Rattle.view_core.specs.Scenes.{IsBegun, state_on}
 use Rattle.view_core.proofs.TestBits.{AreBits, bits_shown, job_bits, own_bits, shown_bits, some_bit}
 
@@ -98,20 +98,20 @@ shown_on plan date k s t u p q = record {
 
 -- a step's fate, by what is shown before it
 module _ (plan : JobPlan) (fixed : Fixed) (k : ℕ) (step : StepPlan) (after : List StepPlan) (is : drop k plan.steps ≡ step ∷ after)
-    (job_tests : fixed.job_tests ≡ plan.tests.items) (v : PlainView) (s : State) (outcomes : List Outcome) where
-  pub fate_is : shown_by plan fixed.date k v ≡ view_at plan k fixed.date s → IsBefore s outcomes →
+    (job_tests : fixed.job_tests ≡ plan.tests.items) (v : Shows) (s : State) (outcomes : List Outcome) where
+  pub fate_is : shown_so plan fixed.date k v ≡ view_at plan k fixed.date s → IsBefore s outcomes →
       fate_at fixed step s.own ≡ fate_shown (length plan.tests.items) step v
   fate_is same before =
-      let met : AreBits (satisfied s.own.ended) plan.tests.items (step ∷ after) v.met.items =
-      subst (λ (steps : List StepPlan). AreBits (satisfied s.own.ended) plan.tests.items steps v.met.items) is
-      (met_bits plan fixed.date k s v.scene.value v.abended v.met.items same) in
-      let job : some_satisfied s.own.ended fixed.job_tests ≡ some_met (take (length plan.tests.items) v.met.items) =
+      let met : AreBits (satisfied s.own.ended) plan.tests.items (step ∷ after) v.met =
+      subst (λ (steps : List StepPlan). AreBits (satisfied s.own.ended) plan.tests.items steps v.met) is
+      (met_bits plan fixed.date k s v.scene v.abended v.met same) in
+      let job : some_satisfied s.own.ended fixed.job_tests ≡ some_met (take (length plan.tests.items) v.met) =
       ap (some_satisfied s.own.ended) job_tests ∙ sym (some_bit (satisfied s.own.ended) plan.tests.items)
-      ∙ ap some_met (sym (job_bits (satisfied s.own.ended) plan.tests.items (step ∷ after) v.met.items met)) in
-      let own : some_satisfied s.own.ended step.tests.items ≡ some_met (take (length step.tests.items) (drop (length plan.tests.items) v.met.items)) =
+      ∙ ap some_met (sym (job_bits (satisfied s.own.ended) plan.tests.items (step ∷ after) v.met met)) in
+      let own : some_satisfied s.own.ended step.tests.items ≡ some_met (take (length step.tests.items) (drop (length plan.tests.items) v.met)) =
       sym (some_bit (satisfied s.own.ended) step.tests.items)
-      ∙ ap some_met (sym (own_bits (satisfied s.own.ended) plan.tests.items step after v.met.items met)) in
-      λ i. fate_of (before.unfaulted i) (job i) step.after_abend (came_abend plan fixed.date k s v.scene.value v.abended v.met.items same i) (own i)
+      ∙ ap some_met (sym (own_bits (satisfied s.own.ended) plan.tests.items step after v.met met)) in
+      λ i. fate_of (before.unfaulted i) (job i) step.after_abend (came_abend plan fixed.date k s v.scene v.abended v.met same i) (own i)
 
 -- before the first step no test is met
 pub none_met : (tests : List Test) → map (satisfied []) tests ≡ replicate (length tests) false

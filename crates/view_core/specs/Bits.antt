@@ -6,7 +6,7 @@ use Rattle.jcl_plan.specs.declared.outcome.Outcome.{Outcome}
 use Rattle.jcl_plan.specs.declared.plan.StepPlan.{StepPlan}
 use Rattle.jcl_plan.specs.declared.plan.Test.{Test}
 use Rattle.jcl_meaning.specs.History.{fate_of, looks_at, met_by}
-use Rattle.view_core.specs.declared.scene.PlainView.{PlainView}
+use Rattle.view_core.specs.Shows.{Shows}
 
 -- the tests that are kept before these steps
 abbrev pub kept_tests : List Test → List StepPlan → List Test
@@ -28,6 +28,6 @@ looking n tests = filter (λ test. looks_at test.step n) tests
 abbrev pub some_met : List Bool → Bool
 some_met bits = list_any (λ b. b) bits
 
-abbrev pub fate_shown : ℕ → StepPlan → PlainView → Fate
-fate_shown tests step v = fate_of false (some_met (take tests v.met.items)) step.after_abend v.abended
-    (some_met (take (length step.tests.items) (drop tests v.met.items)))
+abbrev pub fate_shown : ℕ → StepPlan → Shows → Fate
+fate_shown tests step v = fate_of false (some_met (take tests v.met)) step.after_abend v.abended
+    (some_met (take (length step.tests.items) (drop tests v.met)))

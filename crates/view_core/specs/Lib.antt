@@ -1,8 +1,10 @@
 pub mod Bits
 pub mod Domains
 pub mod Lefts
+pub mod Legs
 pub mod Moves
 pub mod PlainViews
 pub mod Same
 pub mod Scenes
+pub mod Shows
 pub mod Walks

@@ -9,6 +9,7 @@ use Rattle.jcl_meaning.specs.Takes.{dd_volume}
 use Rattle.jcl_meaning.specs.Views.{View, shown_set, steps_refer}
 use Rattle.view_core.specs.declared.scene.PlainView.{PlainView}
 use Rattle.view_core.specs.declared.scene.Scene.{Scene}
+use Rattle.view_core.specs.Shows.{Shows, shows}
 
 -- which tests of each of these steps are met, where all stand in one list
 abbrev pub by_step : List StepPlan → List Bool → List (List Bool)
@@ -27,8 +28,11 @@ shown_parts plan date k scene abend met = record {
   step_tests = by_step (drop k plan.steps) (drop (length plan.tests.items) met);
 }
 
+abbrev pub shown_so : JobPlan → ℕ → ℕ → Shows → View
+shown_so plan date k v = shown_parts plan date k v.scene v.abended v.met
+
 abbrev pub shown_by : JobPlan → ℕ → ℕ → PlainView → View
-shown_by plan date k v = shown_parts plan date k v.scene.value v.abended v.met.items
+shown_by plan date k v = shown_so plan date k (shows v)
 
 -- bits of tests that are not met
 abbrev pub no_bits : ℕ → List Bool

@@ -45,6 +45,18 @@ shown_under names date tests later v = record {
   step_tests = by_step later (drop tests v.met.items);
 }
 
+-- what a scene shows by itself
+abbrev pub shown_alone : List HeldName → ℕ → List StepPlan → Scene → View
+shown_alone names date later s = record {
+  sets = λ key serial. shown_set ((part_of names (store_of s.store)).set key serial) date;
+  catalog = (part_of names (store_of s.store)).catalog;
+  passed = s.passed;
+  volumes = λ step dd. if steps_refer later step dd then dd_volume s.volumes step dd else None;
+  abended = false;
+  job_tests = [];
+  step_tests = [];
+}
+
 -- sets
 abbrev pub same_shown : Option Bool → Option Bool → Bool
 same_shown None None = true

@@ -4,6 +4,7 @@ ghost use Rattle.std.specs.List.{flat_map};
 ghost use Rattle.cond_core.specs.Classes.{AreClasses};
 ghost use Rattle.jcl_meaning.specs.History.{looks_at, met_by};
 ghost use Rattle.view_core.specs.Bits.{bits_ended, bits_kept, fate_shown, kept_tests, looking, some_met};
+ghost use Rattle.view_core.specs.Shows.{shows};
 
 use crate::same::{drop_first, take_first};
 use crate::scene::PlainView;
@@ -22,7 +23,7 @@ fn some_met(bits: &[bool]) -> bool
 
 /// What becomes of a step, by what a view shows before it, where so many tests stand in the JOB statement.
 pub(crate) fn fate_of(tests: usize, step: &StepPlan, view: &PlainView) -> Fate
-    ensures { result ≡ fate_shown tests step.now view.now }
+    ensures { result ≡ fate_shown tests step.now (shows view.now) }
 {
     let bits = view.met.as_slice();
     let own = take_first(drop_first(bits, tests), step.tests.as_slice().len());
@@ -50,11 +51,7 @@ pub(crate) fn bits_kept(
 }
 
 /// The tests that are kept before these steps.
-pub(crate) fn kept_tests(
-    alloc: Global,
-    job: &[Test],
-    later: &[StepPlan],
-) -> Result<Vec<Test>, AllocError>
+pub fn kept_tests(alloc: Global, job: &[Test], later: &[StepPlan]) -> Result<Vec<Test>, AllocError>
     ensures { IfOk result (λ kept. kept.items ≡ kept_tests job.now later.now) }
 {
     let mut kept = Vec::from_slice(alloc, job)?;
@@ -84,7 +81,7 @@ fn tests_at(alloc: Global, n: usize, tests: &[Test]) -> Result<Vec<Test>, AllocE
 }
 
 /// Classes of codes that the tests which look at step n cannot tell apart.
-pub(crate) fn codes_at(alloc: Global, n: usize, tests: &[Test]) -> Result<CodeClasses, AllocError>
+pub fn codes_at(alloc: Global, n: usize, tests: &[Test]) -> Result<CodeClasses, AllocError>
     ensures { IfOk result (λ codes. AreClasses (looking n tests.now) codes) }
 {
     let found = tests_at(alloc, n, tests)?;
@@ -92,7 +89,7 @@ pub(crate) fn codes_at(alloc: Global, n: usize, tests: &[Test]) -> Result<CodeCl
 }
 
 /// Step n, which ended so, meets a test.
-fn met_by(test: &Test, n: usize, outcome: Outcome) -> bool
+pub fn met_by(test: &Test, n: usize, outcome: Outcome) -> bool
     ensures { result ≡ met_by test.now n outcome }
 {
     satisfied(&[Ended { step: n, outcome }], test)

@@ -3,15 +3,15 @@ ghost use Rattle.std.specs.Prelude.{◌≡◌, ◌<◌, ◌≤◌, ◌∷◌, []
 ghost use Rattle.jcl_plan.specs.declared.outcome.Fate.TheVariants as fate;
 ghost use Rattle.view_core.specs.Bits.{bits_kept, fate_shown};
 ghost use Rattle.view_core.specs.Domains.{IsLedOver};
+ghost use Rattle.view_core.specs.Shows.{shows};
 
 use crate::bits::{bits_kept, fate_of, kept_tests};
 use crate::domain::PlainDomain;
-use crate::leave::{leave_all, lefts_of};
+use crate::legs::{Legs, legs_of};
 use crate::moves::{by_abend, by_code};
 use crate::same::drop_first;
 use crate::scene::PlainView;
-use crate::walk::{Walked, under_of, walk};
-use jcl_plan::outcome::{Abend, Code, Fate, Outcome};
+use jcl_plan::outcome::Fate;
 use jcl_plan::plan::StepPlan;
 use std::alloc::{AllocError, Global};
 use view_domain::crossed::Crossed;
@@ -29,36 +29,25 @@ impl<'a> PlainDomain<'a> {
     ) -> Result<Crossed<PlainView>, AllocError>
         requires part { part < usize.MAX }
         requires step { drop part self.now.plan.now.steps ≡ step.now ∷ later.now }
-        requires runs { fate_shown (length self.now.plan.now.tests.items) step.now view.now ≡ fate.Run }
+        requires runs { fate_shown (length self.now.plan.now.tests.items) step.now (shows view.now) ≡ fate.Run }
         requires bits { bits.items ≡ bits_kept (length self.now.plan.now.tests.items) (length step.now.tests.items) view.now.met.items }
         ensures { IfOk result (IsLedOver self.now part view.now) }
     {
         let n = part + 1;
-        let code = Outcome::Code(Code::zero());
-        let (made, end) = match walk(
+        let (made, end, abend_end) = match legs_of(
             alloc,
             &self.given,
             n,
             step,
             &view.scene,
             view.abended,
-            &code,
         )? {
-            Walked::Refused(stop) => return Ok(Crossed::Stops(stop)),
-            Walked::Ended { made, end } => (made, end),
-        };
-        let abend = Outcome::Abend(Abend::User(Code::zero()));
-        let abend_end = match walk(
-            alloc,
-            &self.given,
-            n,
-            step,
-            &view.scene,
-            view.abended,
-            &abend,
-        )? {
-            Walked::Refused(stop) => return Ok(Crossed::Stops(stop)),
-            Walked::Ended { made: _, end } => end,
+            Legs::Refused(stop) => return Ok(Crossed::Stops(stop)),
+            Legs::Ended {
+                made,
+                by_code,
+                by_abend,
+            } => (made, by_code, by_abend),
         };
         let kept = kept_tests(alloc, self.plan.tests.as_slice(), later)?;
         let by_code = by_code(
@@ -117,10 +106,7 @@ impl<'a> PlainDomain<'a> {
         requires { drop part self.now.plan.now.steps ≡ [] }
         ensures { IfOk result (IsLedOver self.now part view.now) }
     {
-        let steps = self.plan.steps.as_slice();
-        let lefts = lefts_of(alloc, steps)?;
-        let mut under = under_of(alloc, &view.scene, view.abended)?;
-        match leave_all(&self.given, steps.len(), lefts.as_slice(), &mut under)? {
+        match self.end_on(alloc, &view.scene, view.abended)? {
             Some(stop) => Ok(Crossed::Stops(stop)),
             None => Ok(Crossed::Ends),
         }

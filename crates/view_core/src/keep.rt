@@ -1,5 +1,6 @@
 //! The plain domain meets what a search asks of a way to keep views.
-ghost use Rattle.std.specs.Prelude.{◌≡◌, IfOk, map};
+ghost use Rattle.std.specs.Prelude.{◌≡◌, [], IfOk, map};
+ghost use Rattle.jcl_meaning.specs.Stores.{store_of};
 ghost use Rattle.view_core.specs.PlainViews.{no_bits};
 
 use crate::bits::kept_tests;
@@ -10,6 +11,7 @@ use crate::scene::{PlainView, PlainViews, Scene};
 use plain::listed::Listed;
 use seen_store::store::SeenStore;
 use std::alloc::{AllocError, Global};
+use std::rc::Rc;
 use view_domain::crossed::Crossed;
 use view_domain::domain::ViewDomain;
 
@@ -18,6 +20,21 @@ fn no_bits(alloc: Global, count: usize) -> Result<Vec<bool>, AllocError>
     ensures { IfOk result (λ bits. bits.items ≡ no_bits count) }
 {
     vec![in alloc; false; count]
+}
+
+impl<'a> PlainDomain<'a> {
+    /// The scene before the first step.
+    pub fn first_scene(&self, alloc: Global) -> Result<Rc<Scene>, AllocError>
+        ensures store { IfOk result (λ scene. store_of scene.value.store ≡ store_of self.now.store.now) }
+        ensures nothing { IfOk result (λ scene. (scene.value.passed ≡ []) × (scene.value.volumes ≡ [])) }
+    {
+        let scene = Scene {
+            store: SeenStore::of_solo(alloc, self.store)?,
+            passed: Listed::empty(alloc),
+            volumes: Listed::empty(alloc),
+        };
+        shared(alloc, scene)
+    }
 }
 
 impl<'a> ViewDomain for PlainDomain<'a> {
@@ -45,14 +62,9 @@ impl<'a> ViewDomain for PlainDomain<'a> {
     fn start(&self, alloc: Global) -> Result<PlainViews, AllocError> {
         let job = self.plan.tests.as_slice();
         let tests = kept_tests(alloc, job, self.plan.steps.as_slice())?;
-        let scene = Scene {
-            store: SeenStore::of_solo(alloc, self.store)?,
-            passed: Listed::empty(alloc),
-            volumes: Listed::empty(alloc),
-        };
         let mut views = Vec::new(alloc);
         views.push(PlainView {
-            scene: shared(alloc, scene)?,
+            scene: self.first_scene(alloc)?,
             abended: false,
             met: no_bits(alloc, tests.as_slice().len())?,
         })?;

@@ -1,5 +1,6 @@
 //! The views behind a step that ends without a fault.
 ghost use Rattle.std.specs.Prelude.{◌≡◌, ◌∷◌, [], IfOk, map};
+ghost use Rattle.view_core.specs.Legs.{end_of};
 ghost use Rattle.view_core.specs.Moves.{BranchesByAbend, BranchesByCode, told, told_abend, told_code};
 
 use crate::bits::{bits_ended, codes_at};
@@ -69,15 +70,14 @@ pub(crate) fn by_code(
     tests: &[Test],
     bits: &[bool],
     abended: bool,
-    end: Result<Scene, Stop>,
+    end: Result<Rc<Scene>, Stop>,
 ) -> Result<Branch<PlainView>, AllocError>
-    ensures { IfOk result (λ branch. BranchesByCode n tests.now bits.now abended end branch) }
+    ensures { IfOk result (λ branch. BranchesByCode n tests.now bits.now abended (end_of (λ scene. scene.value) end) branch) }
 {
     match end {
         Err(stop) => Ok(Branch::Stops(stop)),
         Ok(scene) => {
             let codes = codes_at(alloc, n, tests)?;
-            let scene = shared(alloc, scene)?;
             let moves = moves_by_code(
                 alloc,
                 n,
@@ -96,9 +96,9 @@ pub(crate) fn by_code(
 pub(crate) fn by_abend(
     alloc: Global,
     bits: Vec<bool>,
-    end: Result<Scene, Stop>,
+    end: Result<Rc<Scene>, Stop>,
 ) -> Result<Branch<PlainView>, AllocError>
-    ensures { IfOk result (λ branch. BranchesByAbend bits.items end branch) }
+    ensures { IfOk result (λ branch. BranchesByAbend bits.items (end_of (λ scene. scene.value) end) branch) }
 {
     match end {
         Err(stop) => Ok(Branch::Stops(stop)),
@@ -107,7 +107,7 @@ pub(crate) fn by_abend(
             moves.push(Move {
                 outcome: Outcome::Abend(Abend::User(Code::zero())),
                 view: PlainView {
-                    scene: shared(alloc, scene)?,
+                    scene,
                     abended: true,
                     met: bits,
                 },

@@ -12,7 +12,7 @@ ghost use Rattle.view_core.specs.Same.{all_same_passed, entries_alike, entry_ali
 ghost use Rattle.view_core.specs.Same.{sets_alike, shown_alike};
 ghost use Rattle.view_core.specs.Same.{same_bits, same_by_step, same_for_dds, same_for_kind, same_met, same_scene, same_shown, same_view, same_volume};
 ghost use Rattle.view_core.specs.Same.{same_volumes};
-ghost use Rattle.view_core.specs.Same.{shown_under};
+ghost use Rattle.view_core.specs.Same.{shown_alone, shown_under};
 
 use crate::scene::{PlainView, Scene};
 use group_core::entry::CatEntry;
@@ -353,20 +353,21 @@ fn same_volumes(a: &[DdVolume], b: &[DdVolume], later: &[StepPlan]) -> bool
         .all(|step| same_for_dds(a, b, step.dds.as_slice()))
 }
 
-/// Two scenes show a job with these names the same, before these steps.
-pub(crate) fn same_scene(
-    names: &[HeldName],
-    date: Day,
-    later: &[StepPlan],
-    a: &Scene,
-    b: &Scene,
-) -> bool
+/// The scenes are alike in all that shows, before these steps.
+fn scene_alike(names: &[HeldName], date: Day, later: &[StepPlan], a: &Scene, b: &Scene) -> bool
     ensures { result ≡ same_scene names.now date later.now a.now b.now }
 {
     all_same_passed(a.passed.as_slice(), b.passed.as_slice())
         && same_volumes(a.volumes.as_slice(), b.volumes.as_slice(), later)
         && sets_alike(names, date, &a.store, &b.store)
         && entries_alike(names, &a.store, &b.store)
+}
+
+/// Two scenes show a job with these names the same, before these steps.
+pub fn same_scene(names: &[HeldName], date: Day, later: &[StepPlan], a: &Scene, b: &Scene) -> bool
+    ensures { Decides result (shown_alone names.now date later.now a.now ≡ shown_alone names.now date later.now b.now) }
+{
+    scene_alike(names, date, later, a, b)
 }
 
 fn same_bits(a: &[bool], b: &[bool]) -> bool
@@ -376,7 +377,7 @@ fn same_bits(a: &[bool], b: &[bool]) -> bool
 }
 
 /// The first of a list, so many.
-pub(crate) fn take_first<T>(list: &[T], count: usize) -> &[T]
+pub fn take_first<T>(list: &[T], count: usize) -> &[T]
     ensures { result.now ≡ take count list.now }
 {
     if count < list.len() {
@@ -387,7 +388,7 @@ pub(crate) fn take_first<T>(list: &[T], count: usize) -> &[T]
 }
 
 /// Those behind them.
-pub(crate) fn drop_first<T>(list: &[T], count: usize) -> &[T]
+pub fn drop_first<T>(list: &[T], count: usize) -> &[T]
     ensures { result.now ≡ drop count list.now }
 {
     if count < list.len() {
@@ -437,7 +438,7 @@ fn same_view(
 {
     a.abended == b.abended
         && same_met(tests, later, a.met.as_slice(), b.met.as_slice())
-        && same_scene(names, date, later, &a.scene, &b.scene)
+        && scene_alike(names, date, later, &a.scene, &b.scene)
 }
 
 fn any_same(
