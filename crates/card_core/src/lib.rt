@@ -3,10 +3,10 @@
 #![tactic(auto)]
 
 mod begun;
-mod card;
-mod data;
+pub mod card;
+pub mod data;
 pub mod fault;
-mod field;
-mod operand;
+pub mod field;
+pub mod operand;
 pub mod read;
 pub mod statement;
