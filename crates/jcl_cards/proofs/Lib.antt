@@ -7,3 +7,4 @@ pub mod ExecNames
 pub mod Five
 pub mod Conditions
 pub mod DdWords
+pub mod WordCards

@@ -1,10 +1,10 @@
 //! The DD statement. (GC28-6704, "DD statement")
-ghost use Rattle.std.specs.Prelude.{◌≡◌, count_by, nat_lt};
+ghost use Rattle.std.specs.Prelude.{◌≡◌, count_by, nat_lt, true};
 ghost use Rattle.std.specs.Option.{option_copied};
 ghost use Rattle.operand_core.specs.Faults.{told};
 ghost use Rattle.operand_core.specs.Operands.{operand_of};
 ghost use Rattle.value_core.specs.Reads.{Gives, IsRead, answer};
-ghost use Rattle.jcl_cards.specs.DdCards.{behind_period, dd_card, dd_name_faults, dd_with, has_data, is_read_word};
+ghost use Rattle.jcl_cards.specs.DdCards.{behind_period, dd_card, dd_name_faults, dd_with, has_data, is_read_word, is_word};
 ghost use Rattle.jcl_cards.specs.DdCards.{known_on_dd, left_out_on_dd, positional_faults, word_of};
 ghost use Rattle.jcl_cards.specs.Dds.{blocks_in, dd_names, dd_values, dd_words, excluded_faults, qualified_names};
 ghost use Rattle.jcl_cards.specs.Reading.{ReadsOperand};
@@ -326,6 +326,38 @@ fn own_dd_card(
     Ok(dd_of(alloc, name, &operand, cards, blocks)?)
 }
 
+/// The card of a DD that says `*`, DATA or DUMMY and nothing more: no keyword is looked for.
+fn word_card(
+    alloc: Global,
+    name: &[u8],
+    operand: &[u8],
+    cards: Option<Listed<DataCard>>,
+) -> Result<DdCard, ReadError>
+    requires { is_word operand.now ≡ true }
+    ensures { Gives result (answer (dd_card name.now operand.now cards)) }
+{
+    match dd_names(name) {
+        Ok((qualifier, name)) => Ok(DdCard {
+            qualifier,
+            name,
+            word: word_of(alloc, Some(operand), cards),
+            set_name: Coded::NotGiven,
+            disposition: Coded::NotGiven,
+            unit: Coded::NotGiven,
+            volume: Coded::NotGiven,
+            space: Coded::NotGiven,
+            sysout: Coded::NotGiven,
+            dd_name: Coded::NotGiven,
+            label: Coded::NotGiven,
+            control_blocks: Coded::NotGiven,
+            character_set: Coded::NotGiven,
+            forms_control: Coded::NotGiven,
+            output_limit: Coded::NotGiven,
+        }),
+        Err(fault) => Err(ReadError::Refused(fault)),
+    }
+}
+
 /// The card that a DD statement is, with the data cards behind it.
 pub fn dd_card(
     alloc: Global,
@@ -335,6 +367,9 @@ pub fn dd_card(
 ) -> Result<DdCard, ReadError>
     ensures { Gives result (answer (dd_card name.now operand.now cards)) }
 {
+    if is_word(operand) {
+        return word_card(alloc, name, operand, cards);
+    }
     if is_long(operand) {
         return Err(ReadError::Refused(long_operand(dd_name_fault(name))));
     }
