@@ -4,3 +4,4 @@ pub mod Lent
 pub mod Parts
 pub mod Storing
 pub mod Uses
+pub mod Zeros

@@ -63,6 +63,22 @@ fn all_numbers(alloc: Global, count: u32) -> Result<Vec<u32>, AllocError>
     Ok(numbers)
 }
 
+/// How many records are filled at once.
+const PIECE: usize = 16;
+
+/// As many records of zeros, filled by pieces, as a byte alone costs an instruction.
+fn blank_records(alloc: Global, count: usize) -> Result<Vec<Rec>, AllocError>
+    ensures { IfOk result (λ v. v.items ≡ replicate count (replicate RECORD_BYTES 0)) }
+{
+    let piece = [Rec::zeroed(); PIECE];
+    let mut records = Vec::with_capacity(alloc, count)?;
+    while records.len() < count {
+        let some = (count - records.len()).min(PIECE);
+        records.extend_from_slice(&piece[..some])?;
+    }
+    Ok(records)
+}
+
 /// A record of zeros but for its owner.
 fn zero_record(owner: u16) -> Rec
     ensures value { result ≡ zero_record owner }
@@ -97,7 +113,7 @@ impl ListStore {
         let count = layout.most_records as usize;
         Ok(ListStore {
             layout,
-            records: vec![in alloc; Rec::zeroed(); count]?,
+            records: blank_records(alloc, count)?,
             owners: vec![in alloc; 0; count]?,
             free: all_numbers(alloc, layout.most_records)?,
             free_count: layout.most_records,
