@@ -1,6 +1,5 @@
 -- what a DD statement codes, word by word
-use Rattle.std.proofs.Common.{◌≡◌, ℕ, Bool, true, false, cond, not, ◌&&◌, ◌||◌, List, [], ◌∷◌, ◌++◌, codes, Option, Some, None, Result, refl, ap}
-use Rattle.std.specs.List.{flat_map}
+use Rattle.std.proofs.Common.{◌≡◌, ℕ, Bool, true, false, cond, not, ◌&&◌, ◌||◌, List, [], ◌∷◌, ◌++◌, codes, Option, Some, None, refl, ap}
 use Rattle.std.specs.Str.{bytes_eq}
 use Rattle.jcl_plan.specs.declared.fault.Cause.{Cause}
 use Rattle.jcl_plan.specs.declared.fault.Cause.TheVariants.{P}
@@ -8,53 +7,18 @@ use Rattle.jcl_plan.specs.declared.fault.StatementFault.TheVariants.{ExcludeOneA
 use Rattle.operand_core.specs.Faults.{told, when}
 use Rattle.operand_core.specs.Operands.{Keyword, Operand, first_of}
 use Rattle.value_core.specs.Dispositions.{disposition}
-use Rattle.value_core.specs.Reads.{IsRead, Read, and_faults, both, with_fault}
+use Rattle.value_core.specs.Reads.{Read}
 use Rattle.value_core.specs.SetNames.{set_name}
 use Rattle.value_core.specs.Spaces.{space}
 use Rattle.value_core.specs.Units.{unit}
 use Rattle.value_core.specs.VolumeNames.{volume_name}
-use Rattle.value_core.proofs.Both.{both_is, pair_of, with_fault_is}
 use Rattle.jcl_cards.specs.declared.coded.Coded.{Coded}
-use Rattle.jcl_cards.specs.declared.dd.DdValues.{DdValues}
 use Rattle.jcl_cards.specs.declared.dd.Word.{Word}
 use Rattle.jcl_cards.specs.declared.dd.Word.TheVariants.{Cards, Dummy}
 use Rattle.jcl_cards.specs.declared.given.Given.{Given}
 use Rattle.jcl_cards.specs.DdCards.{any_text, card_of, dd_name, dd_name_faults, dd_with, excludes, has_two_words, is_key, is_read_word, keyword_faults, label, positional_faults, spelled, sysout, unknown_on_dd, word_of}
-use Rattle.jcl_cards.specs.Dds.{dd_names, dd_values, dd_words, excluded_faults, given_in, given_on, is_coded, is_data_word, is_excluded}
+use Rattle.jcl_cards.specs.Dds.{excluded_faults, given_in, given_on, is_coded, is_data_word, is_excluded}
 use Rattle.jcl_cards.specs.Keywords.{and_later, coded_in, coded_text, is_given, twice_faults}
-
-abbrev Names : Type 0
-Names = Option (List ℕ) × Option (List ℕ)
-
-abbrev named : List ℕ → Operand → Read Names
-named name operand = and_faults (dd_names name) operand.faults
-
-abbrev placed : List ℕ → Operand → Read Names
-placed name operand = and_faults (named name operand) (positional_faults (first_of operand.positional))
-
-abbrev known : Operand → Read DdValues
-known operand = and_faults (dd_values operand.keywords) (flat_map unknown_on_dd operand.keywords)
-
-abbrev words : List ℕ → Operand → Read (Names × DdValues)
-words name operand = pair_of (placed name operand) (known operand)
-
-pub words_are : (name : List ℕ) (operand : Operand) {n n_own n_placed : Result Names Cause} {own at unknown twice excluded : Option Cause}
-    {v v_known : Result DdValues Cause}
-    {both_of with_twice all : Result (Names × DdValues) Cause} →
-    IsRead n (dd_names name) → own ≡ told operand.faults → n_own ≡ with_fault n own →
-    at ≡ told (positional_faults (first_of operand.positional)) → n_placed ≡ with_fault n_own at →
-    IsRead v (dd_values operand.keywords) → unknown ≡ told (flat_map unknown_on_dd operand.keywords) → v_known ≡ with_fault v unknown →
-    both_of ≡ both n_placed v_known →
-    twice ≡ told (twice_faults spelled operand.keywords) → with_twice ≡ with_fault both_of twice →
-    excluded ≡ told (excluded_faults operand.positional operand.keywords) → all ≡ with_fault with_twice excluded → IsRead all (dd_words name operand)
-words_are name operand n_is own_is n_own_is at_is n_placed_is v_is unknown_is v_known_is both_of_is twice_is with_twice_is excluded_is all_is =
-    let ks = operand.keywords in
-    let one = with_fault_is (dd_names name) operand.faults n_is own_is n_own_is in
-    let two = with_fault_is (named name operand) (positional_faults (first_of operand.positional)) one at_is n_placed_is in
-    let three = with_fault_is (dd_values ks) (flat_map unknown_on_dd ks) v_is unknown_is v_known_is in
-    let four = both_is (placed name operand) (known operand) two three both_of_is in
-    let five = with_fault_is (words name operand) (twice_faults spelled ks) four twice_is with_twice_is in
-    with_fault_is (and_faults (words name operand) (twice_faults spelled ks)) (excluded_faults operand.positional ks) five excluded_is all_is
 
 -- whether a value is given does not depend on what reads it
 text_same : {A : Type 0} (read : List ℕ → Read A) (text : Option (List ℕ)) → is_given (coded_text read text).value ≡ is_given (coded_text any_text text).value
@@ -142,8 +106,13 @@ excludes_is : (name : List ℕ) (operand : Operand) (cards : Option (List (List 
     excludes (card_of name operand cards) ≡ is_excluded (given_in (first_of operand.positional) operand.keywords)
 excludes_is name operand cards = ap is_excluded (given_is name operand cards)
 
-pub faults_same : (name : List ℕ) (operand : Operand) (cards : Option (List (List ℕ))) → told (dd_with name operand cards).faults ≡ told
-    (dd_words name operand).faults
+-- the faults of a DD, of which those of what excludes one another are told by its operand
+abbrev pub dd_faults : List ℕ → Operand → List Cause
+dd_faults name operand =
+    dd_name_faults name ++ operand.faults ++ positional_faults (first_of operand.positional) ++ keyword_faults operand.keywords
+    ++ twice_faults spelled operand.keywords ++ excluded_faults operand.positional operand.keywords
+
+pub faults_same : (name : List ℕ) (operand : Operand) (cards : Option (List (List ℕ))) → told (dd_with name operand cards).faults ≡ told (dd_faults name operand)
 faults_same name operand cards =
     let front = dd_name_faults name ++ operand.faults ++ positional_faults (first_of operand.positional) ++ keyword_faults operand.keywords
     ++ twice_faults spelled operand.keywords in

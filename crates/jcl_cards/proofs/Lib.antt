@@ -4,7 +4,8 @@ pub mod Symbols
 pub mod Later
 pub mod JobWords
 pub mod ExecNames
-pub mod Five
 pub mod Conditions
 pub mod DdWords
 pub mod WordCards
+pub mod Beside
+pub mod Absent

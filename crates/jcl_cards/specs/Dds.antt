@@ -16,9 +16,7 @@ use Rattle.value_core.specs.Spaces.{space}
 use Rattle.value_core.specs.Units.{unit}
 use Rattle.value_core.specs.VolumeNames.{volume_name}
 use Rattle.jcl_cards.specs.declared.coded.Coded.{Coded}
-use Rattle.jcl_cards.specs.declared.dd_value.SetValues.{SetValues}
 use Rattle.jcl_cards.specs.declared.dd.DdCard.{DdCard}
-use Rattle.jcl_cards.specs.declared.dd.DdValues.{DdValues}
 use Rattle.jcl_cards.specs.declared.given.Given.{Given}
 use Rattle.jcl_cards.specs.DdCards.{any_text, behind_period, dd_name, dd_name_faults, dd_name_of, has_data, has_set_keyword, has_word, is_key, keyword_faults, positional_faults, spelled, is_read_word, is_word, label, qualifier_of, sysout}
 use Rattle.jcl_cards.specs.Keywords.{coded_in, is_given, twice_faults}
@@ -26,23 +24,6 @@ use Rattle.jcl_cards.specs.Keywords.{coded_in, is_given, twice_faults}
 -- whether a keyword is coded
 abbrev pub coding : List ℕ → List Keyword → Coded (Unit {0})
 coding key keywords = (coded_in (is_key key) any_text keywords).value
-
--- the keywords of a data set
-abbrev pub set_values : List Keyword → Read SetValues
-set_values keywords = record {
-  value = record {
-    set_name = (coded_in (is_key (codes "DSNAME")) set_name keywords).value;
-    disposition = (coded_in (is_key (codes "DISP")) disposition keywords).value;
-    unit = (coded_in (is_key (codes "UNIT")) unit keywords).value;
-    volume = (coded_in (is_key (codes "VOLUME")) volume_name keywords).value;
-    space = (coded_in (is_key (codes "SPACE")) space keywords).value;
-  };
-  faults = (coded_in (is_key (codes "DSNAME")) set_name keywords).faults
-      ++ (coded_in (is_key (codes "DISP")) disposition keywords).faults
-      ++ (coded_in (is_key (codes "UNIT")) unit keywords).faults
-      ++ (coded_in (is_key (codes "VOLUME")) volume_name keywords).faults
-      ++ (coded_in (is_key (codes "SPACE")) space keywords).faults;
-}
 
 -- DCB
 abbrev pub blocks_in : List Keyword → Read (Coded (List DdReference))
@@ -97,33 +78,7 @@ qualified_names name = record {
 abbrev pub dd_names : List ℕ → Read (Option (List ℕ) × Option (List ℕ))
 dd_names name = record { value = (qualifier_of name, dd_name_of name); faults = dd_name_faults name }
 
--- keywords whose values are looked at
-abbrev pub dd_values : List Keyword → Read DdValues
-dd_values keywords = record {
-  value = record {
-    set = (set_values keywords).value;
-    sysout = (coded_in (is_key (codes "SYSOUT")) sysout keywords).value;
-    dd_name = (coded_in (is_key (codes "DDNAME")) dd_name keywords).value;
-    label = (coded_in (is_key (codes "LABEL")) label keywords).value;
-    control_blocks = (blocks_in keywords).value;
-  };
-  faults = (set_values keywords).faults
-      ++ (coded_in (is_key (codes "SYSOUT")) sysout keywords).faults
-      ++ (coded_in (is_key (codes "DDNAME")) dd_name keywords).faults
-      ++ (coded_in (is_key (codes "LABEL")) label keywords).faults
-      ++ (blocks_in keywords).faults;
-}
-
 -- words and keywords that exclude one another
 abbrev pub excluded_faults : List (Option (List ℕ)) → List Keyword → List Cause
 excluded_faults positional keywords =
     when (nat_lt 1 (count_by is_read_word positional) || is_excluded (given_in (first_of positional) keywords)) (P ExcludeOneAnother)
-
--- the names of a DD and the values of its keywords, with all its faults
-abbrev pub dd_words : List ℕ → Operand → Read ((Option (List ℕ) × Option (List ℕ)) × DdValues)
-dd_words name operand = record {
-  value = ((dd_names name).value, (dd_values operand.keywords).value);
-  faults = dd_name_faults name ++ operand.faults ++ positional_faults (first_of operand.positional) ++ keyword_faults operand.keywords
-      ++ twice_faults spelled operand.keywords
-      ++ excluded_faults operand.positional operand.keywords;
-}

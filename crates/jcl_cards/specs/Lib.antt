@@ -8,4 +8,5 @@ pub mod Merging
 pub mod Dds
 pub mod Execs
 pub mod Reading
+pub mod Beside
 pub mod Examples

@@ -8,6 +8,7 @@ ghost use Rattle.jcl_cards.specs.Dds.{blocks_in};
 ghost use Rattle.jcl_cards.specs.Reading.{IsReadBefore};
 
 use crate::coded::Coded;
+use crate::rules::{Spelling, has_spelled};
 use crate::value_in::and_later;
 use jcl_plan::fault::Cause;
 use list_values::control_blocks::control_blocks;
@@ -49,6 +50,9 @@ fn blocks_before(alloc: Global, keyword: &Keyword<'_>, later: Blocks) -> Result<
 pub(crate) fn blocks_in(alloc: Global, keywords: &[Keyword<'_>]) -> Result<Blocks, AllocError>
     ensures { IfOk result (λ blocks. IsRead blocks (blocks_in keywords.now)) }
 {
+    if !has_spelled(Spelling::Two, keywords, b"DCB") {
+        return Ok(Ok(Coded::NotGiven));
+    }
     let mut found = Ok(Coded::NotGiven);
     let mut at = keywords.len();
     while at > 0 {

@@ -1,18 +1,22 @@
 //! The DD statement. (GC28-6704, "DD statement")
-ghost use Rattle.std.specs.Prelude.{◌≡◌, count_by, nat_lt, true};
+ghost use Rattle.std.specs.Prelude.{◌≡◌, ◌++◌, None, IfOk, count_by, nat_lt, true};
+ghost use Rattle.std.specs.List.{flat_map};
 ghost use Rattle.std.specs.Option.{option_copied};
-ghost use Rattle.operand_core.specs.Faults.{told};
+ghost use Rattle.operand_core.specs.Faults.{earlier, told};
 ghost use Rattle.operand_core.specs.Operands.{operand_of};
 ghost use Rattle.value_core.specs.Reads.{Gives, IsRead, answer};
-ghost use Rattle.jcl_cards.specs.DdCards.{behind_period, dd_card, dd_name_faults, dd_with, has_data, is_read_word, is_word};
-ghost use Rattle.jcl_cards.specs.DdCards.{known_on_dd, left_out_on_dd, positional_faults, word_of};
-ghost use Rattle.jcl_cards.specs.Dds.{blocks_in, dd_names, dd_values, dd_words, excluded_faults, qualified_names};
-ghost use Rattle.jcl_cards.specs.Reading.{ReadsOperand};
+ghost use Rattle.jcl_cards.specs.Beside.{GivesOperand, fault_of};
+ghost use Rattle.jcl_cards.specs.DdCards.{behind_period, dd_card, dd_name_faults, dd_name_of, dd_with, has_data, is_read_word, is_word};
+ghost use Rattle.jcl_cards.specs.DdCards.{known_on_dd, left_out_on_dd, positional_faults, qualifier_of, spelled, unknown_on_dd, word_of};
+ghost use Rattle.jcl_cards.specs.Dds.{blocks_in, dd_names, excluded_faults, qualified_names};
+ghost use Rattle.jcl_cards.specs.Keywords.{twice_faults};
 
 use crate::blocks_in::{Blocks, blocks_in};
 use crate::coded::Coded;
-use crate::dd_value::{OfDdName, OfLabel, OfSysout, SetValues, coding, set_values};
-use crate::given::{given_in, is_excluded, is_read_word, is_word};
+use crate::dd_value::{
+    OfDdName, OfDisposition, OfLabel, OfSetName, OfSpace, OfSysout, OfUnit, OfVolume, coding,
+};
+use crate::given::{excludes_in, is_read_word, is_word};
 use crate::rules::{KeywordRule, Spelling, each_fault, long_operand, spelled_by, twice_fault};
 use crate::value_in::coded_in;
 use card_core::statement::DataCard;
@@ -25,7 +29,7 @@ use operand_core::operand::{Keyword, Operand, Positional, first_of, operand_of};
 use operand_core::qualified::{head_len, head_of, is_qualified};
 use plain::listed::Listed;
 use std::alloc::Global;
-use value_core::reads::{both, name as read_name, with_fault};
+use value_core::reads::{both, name as read_name};
 use value_core::reference::DdReference;
 use value_core::refusal::ReadError;
 use value_core::set::{Disposition, SetName, VolumeName};
@@ -209,64 +213,65 @@ fn has_two_words(positional: &[Positional<'_>]) -> bool
     words > 1
 }
 
-/// What a DD codes of keywords whose values are looked at.
-#[derive(Drop)]
-pub(crate) struct DdValues {
-    set: SetValues,
-    sysout: Coded<u8>,
-    dd_name: Coded<Name8>,
-    label: Coded<()>,
-    control_blocks: Coded<Listed<DdReference>>,
-}
-
-/// The names of a DD, and what it codes of keywords whose values are looked at.
-type DdWords = ((Option<Name8>, Option<Name8>), DdValues);
-
-fn dd_values(keywords: &[Keyword<'_>], blocks: Blocks) -> Result<DdValues, Cause>
-    ensures { IsRead blocks (blocks_in keywords.now) → IsRead result (dd_values keywords.now) }
-{
-    let with_sysout = both(
-        set_values(keywords),
-        coded_in::<OfSysout>(keywords, b"SYSOUT"),
-    );
-    let with_dd_name = both(with_sysout, coded_in::<OfDdName>(keywords, b"DDNAME"));
-    let with_label = both(with_dd_name, coded_in::<OfLabel>(keywords, b"LABEL"));
-    let all = both(with_label, blocks);
-    let ((((set, sysout), dd_name), label), control_blocks) = all?;
-    Ok(DdValues {
-        set,
-        sysout,
-        dd_name,
-        label,
-        control_blocks,
-    })
-}
-
 /// The fault of words and keywords that exclude one another.
 fn excluded_fault(positional: &[Positional<'_>], keywords: &[Keyword<'_>]) -> Option<Cause>
     ensures { result ≡ told (excluded_faults positional.now keywords.now) }
 {
-    let given = given_in(first_of(positional), keywords);
     when(
-        has_two_words(positional) || is_excluded(given),
+        has_two_words(positional) || excludes_in(first_of(positional), keywords),
         Cause::P(StatementFault::ExcludeOneAnother),
     )
 }
 
-/// The names of a DD and the values of its keywords, or of all of its faults the one that is told.
-fn dd_words(name: &[u8], operand: &Operand<'_>, blocks: Blocks) -> Result<DdWords, Cause>
-    ensures { IsRead blocks (blocks_in operand.now.keywords.items) → ReadsOperand (dd_words name.now) operand.now result }
+/// The names of a DD, which count where no fault is told of them.
+#[derive(Drop)]
+struct Names {
+    qualifier: Option<Name8>,
+    name: Option<Name8>,
+    fault: Option<Cause>,
+}
+
+fn names_of(name: &[u8]) -> Names
+    ensures told { result.fault ≡ told (dd_name_faults name.now) }
+    ensures qualifier { result.fault ≡ None → result.qualifier ≡ qualifier_of name.now }
+    ensures name { result.fault ≡ None → result.name ≡ dd_name_of name.now }
 {
-    let positional = operand.positional.as_slice();
-    let keywords = operand.keywords.as_slice();
-    let first = first_of(positional);
-    let named = with_fault(dd_names(name), operand.fault);
-    let placed = with_fault(named, positional_fault(first));
-    let values = dd_values(keywords, blocks);
-    let known = with_fault(values, each_fault(&KnownOnDd, keywords));
-    let words = both(placed, known);
-    let spelled = with_fault(words, twice_fault(Spelling::Two, keywords));
-    with_fault(spelled, excluded_fault(positional, keywords))
+    match dd_names(name) {
+        Ok((qualifier, name)) => Names {
+            qualifier,
+            name,
+            fault: None,
+        },
+        Err(fault) => Names {
+            qualifier: None,
+            name: None,
+            fault: Some(fault),
+        },
+    }
+}
+
+/// The fault of keywords that a DD does not take, that stand twice, or that exclude one another.
+#[tactic(auto, using(operand_core::proofs::Told::told_append))]
+fn keywords_fault(positional: &[Positional<'_>], keywords: &[Keyword<'_>]) -> Option<Cause>
+    ensures { result ≡ told (flat_map unknown_on_dd keywords.now ++ twice_faults spelled keywords.now ++ excluded_faults positional.now keywords.now) }
+{
+    let known = each_fault(&KnownOnDd, keywords);
+    let once = earlier(known, twice_fault(Spelling::Two, keywords));
+    earlier(once, excluded_fault(positional, keywords))
+}
+
+/// What is coded, and its fault with those before it. What is coded counts where there is no fault.
+fn beside<T: Drop>(read: Result<Coded<T>, Cause>, fault: &mut Option<Cause>) -> Coded<T>
+    ensures told { fault.new ≡ earlier fault.old (fault_of read) }
+    ensures value { IfOk read (λ coded. result ≡ coded) }
+{
+    match read {
+        Ok(coded) => coded,
+        Err(own) => {
+            *fault = earlier(*fault, Some(own));
+            Coded::NotGiven
+        }
+    }
 }
 
 fn dd_of(
@@ -275,42 +280,45 @@ fn dd_of(
     operand: &Operand<'_>,
     cards: Option<Listed<DataCard>>,
     blocks: Blocks,
-) -> Result<DdCard, Cause>
-    ensures { IsRead blocks (blocks_in operand.now.keywords.items) → ReadsOperand (λ denoted. dd_with name.now denoted cards) operand.now result }
+) -> Result<DdCard, ReadError>
+    ensures { IsRead blocks (blocks_in operand.now.keywords.items) → GivesOperand (λ denoted. dd_with name.now denoted cards) operand.now result }
 {
     let keywords = operand.keywords.as_slice();
-    let ((qualifier, dd), values) = dd_words(name, operand, blocks)?;
-    let DdValues {
-        set,
-        sysout,
-        dd_name,
-        label,
-        control_blocks,
-    } = values;
-    let SetValues {
-        set_name,
-        disposition,
-        unit,
-        volume,
-        space,
-    } = set;
-    Ok(DdCard {
-        qualifier,
-        name: dd,
-        word: word_of(alloc, first_of(operand.positional.as_slice()), cards),
-        set_name,
-        disposition,
-        unit,
-        volume,
-        space,
-        sysout,
-        dd_name,
-        label,
-        control_blocks,
-        character_set: coding(keywords, b"UCS"),
-        forms_control: coding(keywords, b"FCB"),
-        output_limit: coding(keywords, b"OUTLIM"),
-    })
+    let positional = operand.positional.as_slice();
+    let first = first_of(positional);
+    let names = names_of(name);
+    let formed = earlier(names.fault, operand.fault);
+    let mut fault = earlier(formed, positional_fault(first));
+    let set_name = beside(coded_in::<OfSetName>(keywords, b"DSNAME"), &mut fault);
+    let disposition = beside(coded_in::<OfDisposition>(keywords, b"DISP"), &mut fault);
+    let unit = beside(coded_in::<OfUnit>(keywords, b"UNIT"), &mut fault);
+    let volume = beside(coded_in::<OfVolume>(keywords, b"VOLUME"), &mut fault);
+    let space = beside(coded_in::<OfSpace>(keywords, b"SPACE"), &mut fault);
+    let sysout = beside(coded_in::<OfSysout>(keywords, b"SYSOUT"), &mut fault);
+    let dd_name = beside(coded_in::<OfDdName>(keywords, b"DDNAME"), &mut fault);
+    let label = beside(coded_in::<OfLabel>(keywords, b"LABEL"), &mut fault);
+    let control_blocks = beside(blocks, &mut fault);
+    let last = earlier(fault, keywords_fault(positional, keywords));
+    match last {
+        Some(fault) => Err(ReadError::Refused(fault)),
+        None => Ok(DdCard {
+            qualifier: names.qualifier,
+            name: names.name,
+            word: word_of(alloc, first, cards),
+            set_name,
+            disposition,
+            unit,
+            volume,
+            space,
+            sysout,
+            dd_name,
+            label,
+            control_blocks,
+            character_set: coding(keywords, b"UCS"),
+            forms_control: coding(keywords, b"FCB"),
+            output_limit: coding(keywords, b"OUTLIM"),
+        }),
+    }
 }
 
 fn own_dd_card(
@@ -323,7 +331,7 @@ fn own_dd_card(
 {
     let operand = operand_of(alloc, 1, operand)?;
     let blocks = blocks_in(alloc, operand.keywords.as_slice())?;
-    Ok(dd_of(alloc, name, &operand, cards, blocks)?)
+    dd_of(alloc, name, &operand, cards, blocks)
 }
 
 /// The card of a DD that says `*`, DATA or DUMMY and nothing more: no keyword is looked for.

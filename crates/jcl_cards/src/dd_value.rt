@@ -3,14 +3,13 @@ ghost use Rattle.std.specs.Prelude.{◌≡◌};
 ghost use Rattle.std.specs.Option.{option_copied};
 ghost use Rattle.operand_core.specs.Subparameters.{first_place, subparameters_of};
 ghost use Rattle.operand_core.specs.Values.{class_of};
-ghost use Rattle.value_core.specs.Reads.{IsRead};
-ghost use Rattle.jcl_cards.specs.DdCards.{any_text, is_key, is_sysout};
-ghost use Rattle.jcl_cards.specs.Dds.{coding, set_values};
-ghost use Rattle.jcl_cards.specs.Keywords.{coded_in, coded_text, is_given};
+ghost use Rattle.jcl_cards.specs.DdCards.{any_text, is_sysout};
+ghost use Rattle.jcl_cards.specs.Dds.{coding};
+ghost use Rattle.jcl_cards.specs.Keywords.{coded_text};
 
 use crate::coded::Coded;
 use crate::rules::{Spelling, spelled_by};
-use crate::value_in::{ValueReader, coded_in};
+use crate::value_in::ValueReader;
 use jcl_plan::fault::{Cause, StatementFault};
 use jcl_plan::plan::Space;
 use jname_core::name8::{Name8, UnitName};
@@ -19,7 +18,7 @@ use operand_core::subparameter::{first_subparameter, subparameter_count};
 use operand_core::value::{class_of, is_output_class};
 use value_core::disposition::disposition;
 use value_core::label_fault::label_fault;
-use value_core::reads::{both, name as read_name};
+use value_core::reads::name as read_name;
 use value_core::set::{Disposition, SetName, VolumeName};
 use value_core::set_name::set_name;
 use value_core::space::space;
@@ -27,7 +26,7 @@ use value_core::unit::unit;
 use value_core::volume_name::volume_name;
 
 /// DSNAME.
-struct OfSetName;
+pub(crate) struct OfSetName;
 
 impl ValueReader for OfSetName {
     ghost use Rattle.value_core.specs.SetNames.{set_name};
@@ -42,7 +41,7 @@ impl ValueReader for OfSetName {
 }
 
 /// DISP.
-struct OfDisposition;
+pub(crate) struct OfDisposition;
 
 impl ValueReader for OfDisposition {
     ghost use Rattle.value_core.specs.Dispositions.{disposition};
@@ -57,7 +56,7 @@ impl ValueReader for OfDisposition {
 }
 
 /// UNIT.
-struct OfUnit;
+pub(crate) struct OfUnit;
 
 impl ValueReader for OfUnit {
     ghost use Rattle.value_core.specs.Units.{unit};
@@ -72,7 +71,7 @@ impl ValueReader for OfUnit {
 }
 
 /// VOLUME.
-struct OfVolume;
+pub(crate) struct OfVolume;
 
 impl ValueReader for OfVolume {
     ghost use Rattle.value_core.specs.VolumeNames.{volume_name};
@@ -87,7 +86,7 @@ impl ValueReader for OfVolume {
 }
 
 /// SPACE.
-struct OfSpace;
+pub(crate) struct OfSpace;
 
 impl ValueReader for OfSpace {
     ghost use Rattle.value_core.specs.Spaces.{space};
@@ -181,33 +180,4 @@ pub(crate) fn coding(keywords: &[Keyword<'_>], key: &[u8]) -> Coded<()>
         }
     }
     Coded::NotGiven
-}
-
-/// What a DD codes of a data set.
-#[derive(Drop)]
-pub(crate) struct SetValues {
-    pub(crate) set_name: Coded<SetName>,
-    pub(crate) disposition: Coded<Disposition>,
-    pub(crate) unit: Coded<UnitName>,
-    pub(crate) volume: Coded<VolumeName>,
-    pub(crate) space: Coded<Space>,
-}
-
-/// The keywords of a data set.
-pub(crate) fn set_values(keywords: &[Keyword<'_>]) -> Result<SetValues, Cause>
-    ensures { IsRead result (set_values keywords.now) }
-{
-    let named = coded_in::<OfSetName>(keywords, b"DSNAME");
-    let disposed = both(named, coded_in::<OfDisposition>(keywords, b"DISP"));
-    let on_unit = both(disposed, coded_in::<OfUnit>(keywords, b"UNIT"));
-    let on_volume = both(on_unit, coded_in::<OfVolume>(keywords, b"VOLUME"));
-    let all = both(on_volume, coded_in::<OfSpace>(keywords, b"SPACE"));
-    let ((((set_name, disposition), unit), volume), space) = all?;
-    Ok(SetValues {
-        set_name,
-        disposition,
-        unit,
-        volume,
-        space,
-    })
 }

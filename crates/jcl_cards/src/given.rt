@@ -1,5 +1,5 @@
 //! Which keywords and words of a DD exclude one another. (GC28-6704, "DD statement")
-ghost use Rattle.std.specs.Prelude.{◌≡◌};
+ghost use Rattle.std.specs.Prelude.{◌≡◌, ◌||◌, codes};
 ghost use Rattle.std.specs.Option.{option_copied};
 ghost use Rattle.jcl_cards.specs.DdCards.{is_read_word, is_word};
 ghost use Rattle.jcl_cards.specs.Dds.{any_given, given_in, is_coded, is_data_word, is_excluded};
@@ -94,7 +94,7 @@ fn is_data_word(part: Option<&[u8]>) -> bool
 }
 
 /// What stands on a DD, by its first positional part and its keywords.
-pub(crate) fn given_in(first: Option<&[u8]>, keywords: &[Keyword<'_>]) -> Given
+fn given_in(first: Option<&[u8]>, keywords: &[Keyword<'_>]) -> Given
     ensures { result ≡ given_in (option_copied first.entry) keywords.now }
 {
     Given {
@@ -105,4 +105,21 @@ pub(crate) fn given_in(first: Option<&[u8]>, keywords: &[Keyword<'_>]) -> Given
         sysout: is_coded(keywords, b"SYSOUT"),
         dd_name: is_coded(keywords, b"DDNAME"),
     }
+}
+
+/// Whether a word, SYSOUT or DDNAME stands on a DD.
+fn may_exclude(first: Option<&[u8]>, keywords: &[Keyword<'_>]) -> bool
+    ensures { result ≡ (is_read_word (option_copied first.entry) || is_coded (codes "SYSOUT") keywords.now || is_coded (codes "DDNAME") keywords.now) }
+{
+    is_read_word(first) || is_coded(keywords, b"SYSOUT") || is_coded(keywords, b"DDNAME")
+}
+
+/// Whether what stands on a DD excludes one another. Without a word, SYSOUT or DDNAME nothing does.
+pub(crate) fn excludes_in(first: Option<&[u8]>, keywords: &[Keyword<'_>]) -> bool
+    ensures { result ≡ is_excluded (given_in (option_copied first.entry) keywords.now) }
+{
+    if !may_exclude(first, keywords) {
+        return false;
+    }
+    is_excluded(given_in(first, keywords))
 }

@@ -21,11 +21,14 @@ fn overridden<T: Drop>(there: Coded<T>, over: Coded<T>) -> Coded<T>
     }
 }
 
-/// What one keyword codes on a DD of its own.
-fn settled<T: Drop>(there: Coded<T>) -> Coded<T>
-    ensures { result ≡ settled there }
+/// What one keyword codes on a DD of its own, left where it is.
+fn settle<T: Drop>(there: &mut Coded<T>)
+    ensures { there.new ≡ settled there.old }
 {
-    overridden(Coded::NotGiven, there)
+    match there {
+        Coded::Nullified => *there = Coded::NotGiven,
+        Coded::NotGiven | Coded::Value(_) => {}
+    }
 }
 
 /// The word, as a data set's name that is given leaves it.
@@ -45,27 +48,32 @@ fn without_sysout(named: bool, class: Coded<u8>) -> Coded<u8>
     if named { Coded::NotGiven } else { class }
 }
 
+/// Makes a DD one of its own: what is nullified is not given, and it has no step's name. What is given stays where it is.
+pub fn settle_dd(dd: &mut DdCard)
+    ensures { dd.new ≡ by_itself dd.old }
+{
+    dd.qualifier = None;
+    settle(&mut dd.set_name);
+    settle(&mut dd.disposition);
+    settle(&mut dd.unit);
+    settle(&mut dd.volume);
+    settle(&mut dd.space);
+    settle(&mut dd.sysout);
+    settle(&mut dd.dd_name);
+    settle(&mut dd.label);
+    settle(&mut dd.control_blocks);
+    settle(&mut dd.character_set);
+    settle(&mut dd.forms_control);
+    settle(&mut dd.output_limit);
+}
+
 /// A DD of its own: what is nullified is not given, and it has no step's name.
 pub fn by_itself(dd: DdCard) -> DdCard
     ensures { result ≡ by_itself dd }
 {
-    DdCard {
-        qualifier: None,
-        name: dd.name,
-        word: dd.word,
-        set_name: settled(dd.set_name),
-        disposition: settled(dd.disposition),
-        unit: settled(dd.unit),
-        volume: settled(dd.volume),
-        space: settled(dd.space),
-        sysout: settled(dd.sysout),
-        dd_name: settled(dd.dd_name),
-        label: settled(dd.label),
-        control_blocks: settled(dd.control_blocks),
-        character_set: settled(dd.character_set),
-        forms_control: settled(dd.forms_control),
-        output_limit: settled(dd.output_limit),
-    }
+    let mut dd = dd;
+    settle_dd(&mut dd);
+    dd
 }
 
 fn has_word(dd: &DdCard) -> bool

@@ -39,7 +39,7 @@ pub(crate) fn spelled_by<'a>(spelling: Spelling, key: &'a [u8]) -> &'a [u8]
 }
 
 /// Whether a keyword has this key, however it is spelled.
-fn has_spelled(spelling: Spelling, keywords: &[Keyword<'_>], key: &[u8]) -> bool
+pub(crate) fn has_spelled(spelling: Spelling, keywords: &[Keyword<'_>], key: &[u8]) -> bool
     ensures { result ≡ has_spelled spelling key.now keywords.now }
 {
     keywords

@@ -8,7 +8,7 @@ ghost use Rattle.jcl_cards.specs.JobCards.{is_key as is_key_of_job};
 ghost use Rattle.jcl_cards.specs.Reading.{IsReadBefore, and_later};
 
 use crate::coded::Coded;
-use crate::rules::{Spelling, spelled_by};
+use crate::rules::{Spelling, has_spelled, spelled_by};
 use jcl_plan::fault::Cause;
 use operand_core::fault::lower;
 use operand_core::operand::Keyword;
@@ -86,6 +86,9 @@ pub(crate) fn coded_in<R: ValueReader>(
 ) -> Result<Coded<R::Value>, Cause>
     ensures { IsRead result (coded_in (is_key key.now) R.reads keywords.now) }
 {
+    if !has_spelled(Spelling::Two, keywords, key) {
+        return Ok(Coded::NotGiven);
+    }
     let mut found = Ok(Coded::NotGiven);
     let mut at = keywords.len();
     while at > 0 {
