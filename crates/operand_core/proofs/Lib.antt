@@ -3,3 +3,4 @@ pub mod Faultless
 pub mod Keys
 pub mod SameOperand
 pub mod Told
+pub mod Calm

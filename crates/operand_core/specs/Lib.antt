@@ -1,3 +1,4 @@
+pub mod Calm
 pub mod Faults
 pub mod Keywords
 pub mod Operands

@@ -7,8 +7,8 @@ ghost use Rattle.operand_core.specs.Operands.{first_of, is_positional, is_crowde
 ghost use Rattle.operand_core.specs.Reading.{IsOperand};
 
 use crate::fault::{earlier, when};
-use crate::parts::{Part, keyword_of, parts_of};
-use crate::scan::{is_balanced, is_closed, is_read};
+use crate::parts::{Part, parts_of};
+use crate::scan::{is_balanced, is_calm, is_closed, is_read};
 use jcl_plan::fault::{Cause, StatementFault};
 use std::alloc::{AllocError, Global};
 use std::marker::Model;
@@ -82,7 +82,9 @@ pub struct Operand<'a> {
 fn part_fault(part: &[u8]) -> Option<Cause>
     ensures { result ≡ told (part_faults part.now) }
 {
-    if is_balanced(part) {
+    if is_calm(part) {
+        None
+    } else if is_balanced(part) {
         when(!is_closed(part), Cause::P(StatementFault::BadValue))
     } else {
         Some(Cause::P(StatementFault::UnbalancedParentheses))
@@ -146,11 +148,10 @@ fn keywords_of<'a>(alloc: Global, parts: &[Part<'a>]) -> Result<Vec<Keyword<'a>>
 {
     let mut keywords = Vec::new(alloc);
     for part in parts {
-        let text = part.text();
-        if let Some((key, value)) = keyword_of(text) {
+        if let Some((key, value)) = part.keyword() {
             keywords.push(Keyword {
                 key,
-                value: read_of(text, value),
+                value: read_of(part.text(), value),
             })?;
         }
     }

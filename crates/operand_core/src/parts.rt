@@ -1,9 +1,10 @@
 //! The parts of an operand.
 ghost use Rattle.std.specs.Prelude.{◌≡◌, ◌∷◌, [], take_while, ◌<◌, ◌≤◌, ◌||◌, ◌==◌, length, Some, None, IfOk, IfSome, IfNone, MatchOption};
+ghost use Rattle.std.specs.List.{position};
 ghost use Rattle.std.specs.Option.{option_copied};
 ghost use Rattle.operand_core.specs.Operands.{places_of, parts_of, keyword_of, is_key_character, is_positional};
 
-use crate::scan::{depth_after, ends_part, quoted_after};
+use crate::scan::{depth_after, ends_part, is_calm, quoted_after};
 use jname_core::name8::is_name_character;
 use std::alloc::{AllocError, Global};
 use std::marker::Model;
@@ -12,6 +13,9 @@ use std::marker::Model;
 #[derive(Drop)]
 pub struct Part<'a> {
     text: &'a [u8],
+    /// Its keyword and what stands behind its `=`, both or neither.
+    key: Option<&'a [u8]>,
+    value: Option<&'a [u8]>,
 }
 
 impl<'a> Model for Part<'a> {
@@ -20,9 +24,34 @@ impl<'a> Model for Part<'a> {
     ghost Value = { List ℕ };
 
     ghost view = { λ p. p.text.now };
+
+    ghost use Rattle.std.specs.Prelude.{◌≡◌};
+    ghost use Rattle.std.specs.Option.{option_copied};
+    ghost use Rattle.operand_core.specs.Calm.{pair_of};
+    ghost use Rattle.operand_core.specs.Operands.{keyword_of};
+
+    ghost invariant = { λ p. pair_of (option_copied p.key) (option_copied p.value) ≡ keyword_of p.text.now };
 }
 
 impl<'a> Part<'a> {
+    /// The part of these characters, whose keyword is looked for once.
+    fn new(text: &'a [u8]) -> Part<'a>
+        ensures { result ≡ text.entry.now }
+    {
+        match keyword_of(text) {
+            Some((key, value)) => Part {
+                text,
+                key: Some(key),
+                value: Some(value),
+            },
+            None => Part {
+                text,
+                key: None,
+                value: None,
+            },
+        }
+    }
+
     /// Its characters.
     pub fn text(&self) -> &'a [u8]
         ensures { result.now ≡ self.now }
@@ -34,12 +63,47 @@ impl<'a> Part<'a> {
     pub fn is_positional(&self) -> bool
         ensures { result ≡ is_positional self.now }
     {
-        keyword_of(self.text).is_none()
+        self.keyword().is_none()
+    }
+
+    /// Its keyword and what stands behind its `=`.
+    pub fn keyword(&self) -> Option<(&'a [u8], &'a [u8])>
+        ensures { MatchOption result (keyword_of self.now ≡ None) (λ r. keyword_of self.now ≡ Some (r.0.now, r.1.now)) }
+    {
+        match (self.key, self.value) {
+            (Some(key), Some(value)) => Some((key, value)),
+            _ => None,
+        }
     }
 }
 
-/// The first of several parts, and what stands behind its comma.
+fn first_comma(text: &[u8]) -> Option<usize>
+    ensures first { result ≡ position (λ c. c == 44) text.now }
+    ensures within { IfSome result (λ at. at < length text.now) }
+{
+    text.iter().position(|c| *c == b',')
+}
+
+/// The first of several parts, and what stands behind its comma. Most have neither parentheses nor apostrophes before it.
 pub(crate) fn first_part(text: &[u8]) -> Option<(&[u8], &[u8])>
+    ensures some { IfSome result (λ r. places_of text.now ≡ r.0.now ∷ places_of r.1.now) }
+    ensures shorter { IfSome result (λ r. length r.1.now < length text.now) }
+    ensures none { IfNone result (places_of text.now ≡ text.now ∷ []) }
+{
+    let comma = match first_comma(text) {
+        None => return None,
+        Some(comma) => comma,
+    };
+    let (front, _) = text.split_at(comma);
+    if is_calm(front) {
+        let (_, behind) = text.split_at(comma + 1);
+        return Some((front, behind));
+    }
+    part_by_characters(text)
+}
+
+/// The same, character by character.
+fn part_by_characters(text: &[u8]) -> Option<(&[u8], &[u8])>
     ensures some { IfSome result (λ r. places_of text.now ≡ r.0.now ∷ places_of r.1.now) }
     ensures shorter { IfSome result (λ r. length r.1.now < length text.now) }
     ensures none { IfNone result (places_of text.now ≡ text.now ∷ []) }
@@ -65,10 +129,10 @@ pub(crate) fn places_of<'a>(alloc: Global, text: &'a [u8]) -> Result<Vec<Part<'a
     let mut parts = Vec::new(alloc);
     let mut rest = text;
     while let Some((part, behind)) = first_part(rest) {
-        parts.push(Part { text: part })?;
+        parts.push(Part::new(part))?;
         rest = behind;
     }
-    parts.push(Part { text: rest })?;
+    parts.push(Part::new(rest))?;
     Ok(parts)
 }
 

@@ -1,6 +1,8 @@
 //! An operand's characters: apostrophes, parentheses and commas.
 ghost use Rattle.std.specs.Prelude.{◌≡◌, ◌≤◌, ◌<◌, length, false};
+ghost use Rattle.std.specs.List.{list_any};
 ghost use Rattle.card_core.specs.Fields.{quoted_after};
+ghost use Rattle.operand_core.specs.Calm.{is_calm, is_mark};
 ghost use Rattle.operand_core.specs.Operands.{depth_after, ends_part, closes_nothing, is_balanced, is_closed, is_read};
 
 /// Whether an apostrophe is open behind a character.
@@ -39,6 +41,25 @@ fn closes_nothing(quoted: bool, depth: usize, c: u8) -> bool
     !quoted && depth == 0 && c == b')'
 }
 
+fn is_mark(c: u8) -> bool
+    ensures { result ≡ is_mark c }
+{
+    c == b'(' || c == b')' || c == b'\''
+}
+
+fn has_mark(text: &[u8]) -> bool
+    ensures { result ≡ list_any is_mark text.now }
+{
+    text.iter().any(|c| is_mark(*c))
+}
+
+/// Whether a text has no parenthesis and no apostrophe, as most have.
+pub(crate) fn is_calm(text: &[u8]) -> bool
+    ensures { result ≡ is_calm text.now }
+{
+    !has_mark(text)
+}
+
 /// Whether each parenthesis outside apostrophes has its other.
 pub(crate) fn is_balanced(text: &[u8]) -> bool
     ensures { result ≡ is_balanced text.now }
@@ -67,8 +88,9 @@ pub(crate) fn is_closed(text: &[u8]) -> bool
 }
 
 /// Whether a part's parentheses balance and its apostrophes close.
+#[tactic(auto, using(crate::proofs::Calm::calm_or_read))]
 pub(crate) fn is_read(part: &[u8]) -> bool
     ensures { result ≡ is_read part.now }
 {
-    is_balanced(part) && is_closed(part)
+    is_calm(part) || is_balanced(part) && is_closed(part)
 }
