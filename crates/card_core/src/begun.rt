@@ -1,6 +1,6 @@
 //! A statement, and the cards that it takes.
 ghost use Rattle.std.specs.Prelude.{◌≡◌, ◌≤◌, ◌<◌, ◌+◌, ◌^◌, ◌∷◌, length, IfOk};
-ghost use Rattle.card_core.specs.Fields.{name_of, operation_of, operand_behind};
+ghost use Rattle.card_core.specs.Fields.{operand_behind};
 ghost use Rattle.card_core.specs.Deck.{comment_cards, data_cards, with_data, with_operand, loose};
 ghost use Rattle.card_core.specs.Reading.{Begins};
 ghost use Rattle.card_core.specs.declared.data.Opens.TheVariants.{ToStatement};
@@ -8,7 +8,7 @@ ghost use Rattle.card_core.specs.declared.data.Opens.TheVariants.{ToStatement};
 use crate::card::{is_marked, may_continue};
 use crate::data::{Opens, data_count, data_of, is_early, opened_by, used_by_data};
 use crate::fault::CardFault;
-use crate::field::{name_of, operation_of};
+use crate::field::{Fields, fields_of};
 use crate::operand::operand_behind;
 use crate::read::ReadError;
 use crate::statement::{DataCard, Statement};
@@ -37,20 +37,20 @@ fn comment_cards(last: &DataCard, cards: &[DataCard]) -> usize
     }
 }
 
-/// The statement of this card with this operand, which takes so many cards before the data.
+/// The statement of these fields with this operand, which takes so many cards before the data.
 fn with_data(
     alloc: Global,
     called: bool,
-    card: &DataCard,
+    fields: &Fields<'_>,
     operand: Text,
     used: usize,
     behind: &[DataCard],
 ) -> Result<Begun, ReadError>
     requires { used + length behind.now < 2 ^ 64 }
-    ensures begins { Begins result (with_data called (name_of card.now) (operation_of card.now) operand used behind.now) }
+    ensures begins { Begins result (with_data called fields.now.name.now fields.now.operation.now operand used behind.now) }
     ensures bound { IfOk result (λ begun. begun.used ≤ used + length behind.now) }
 {
-    let operation = operation_of(card);
+    let operation = fields.operation;
     let opens = opened_by(operation, operand.as_slice());
     let found = data_of(alloc, opens, behind)?;
     if is_early(called, &found) {
@@ -60,7 +60,7 @@ fn with_data(
         called: called || operation == b"EXEC".as_slice(),
         used: used + used_by_data(opens, behind),
         statement: Statement {
-            name: Text::copy_of(alloc, name_of(card))?,
+            name: Text::copy_of(alloc, fields.name)?,
             operation: Text::copy_of(alloc, operation)?,
             operand,
             cards: found,
@@ -78,11 +78,12 @@ pub fn jcl_statement(
     ensures begins { Begins result (with_operand called card.now cards.now (operand_behind card.now cards.now)) }
     ensures bound { IfOk result (λ begun. begun.used ≤ length cards.now) }
 {
-    let operand = operand_behind(alloc, card, cards)?;
+    let fields = fields_of(card);
+    let operand = operand_behind(alloc, &fields, card, cards)?;
     let (_, behind) = cards.split_at(operand.cards);
     let used = operand.cards + comment_cards(&operand.last, behind);
     let (_, behind) = cards.split_at(used);
-    with_data(alloc, called, card, operand.text, used, behind)
+    with_data(alloc, called, &fields, operand.text, used, behind)
 }
 
 /// The data that begin with this card, which no statement opens.

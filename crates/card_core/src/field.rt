@@ -2,7 +2,7 @@
 ghost use Rattle.std.specs.Prelude.{◌≡◌, ◌≤◌, length, false};
 ghost use Rattle.std.specs.Option.{option_copied};
 ghost use Rattle.card_core.specs.Cards.{is_blank, columns};
-ghost use Rattle.card_core.specs.Fields.{front, behind, is_not_blank, without_blanks, operand_text, quoted_after, ends_with_comma, resumes_outside, name_of, behind_name, operation_of, behind_operation};
+ghost use Rattle.card_core.specs.Fields.{front, behind, is_not_blank, without_blanks, operand_text, quoted_after, ends_with_comma, resumes_outside, name_of, operation_of, behind_operation};
 
 use crate::card::{columns, is_blank};
 use crate::statement::DataCard;
@@ -32,42 +32,36 @@ fn without_blanks(text: &[u8]) -> &[u8]
     behind
 }
 
-fn word(text: &[u8]) -> &[u8]
-    ensures { result.now ≡ front is_not_blank text.now }
+/// The characters before the first blank, and what is behind them.
+fn word_and_behind(text: &[u8]) -> (&[u8], &[u8])
+    ensures word { result.0.now ≡ front is_not_blank text.now }
+    ensures behind { result.1.now ≡ behind is_not_blank text.now }
 {
-    let (word, _) = text.split_at(word_len(text));
-    word
+    text.split_at(word_len(text))
 }
 
-fn behind_word(text: &[u8]) -> &[u8]
-    ensures { result.now ≡ behind is_not_blank text.now }
-{
-    let (_, behind) = text.split_at(word_len(text));
-    behind
+/// The fields of a statement's first card.
+#[derive(Clone, Copy)]
+pub struct Fields<'a> {
+    pub name: &'a [u8],
+    pub operation: &'a [u8],
+    /// What stands behind the operation: the operand, and comment.
+    pub behind: &'a [u8],
 }
 
-pub fn name_of(card: &DataCard) -> &[u8]
-    ensures { result.now ≡ name_of card.now }
+/// The fields of a card, in one walk over its columns.
+pub fn fields_of(card: &DataCard) -> Fields<'_>
+    ensures name { result.name.now ≡ name_of card.now }
+    ensures operation { result.operation.now ≡ operation_of card.now }
+    ensures behind { result.behind.now ≡ behind_operation card.now }
 {
-    word(columns(card, 3, 71))
-}
-
-fn behind_name(card: &DataCard) -> &[u8]
-    ensures { result.now ≡ behind_name card.now }
-{
-    without_blanks(behind_word(columns(card, 3, 71)))
-}
-
-pub fn operation_of(card: &DataCard) -> &[u8]
-    ensures { result.now ≡ operation_of card.now }
-{
-    word(behind_name(card))
-}
-
-pub fn behind_operation(card: &DataCard) -> &[u8]
-    ensures { result.now ≡ behind_operation card.now }
-{
-    without_blanks(behind_word(behind_name(card)))
+    let (name, behind) = word_and_behind(columns(card, 3, 71));
+    let (operation, rest) = word_and_behind(without_blanks(behind));
+    Fields {
+        name,
+        operation,
+        behind: without_blanks(rest),
+    }
 }
 
 /// The operand's text on one card: to a blank outside apostrophes, or to the end. With `None` apostrophes are open at the end.

@@ -1,13 +1,11 @@
 //! An operand over its cards.
 ghost use Rattle.std.specs.Prelude.{◌≡◌, ◌≤◌, length, IfOk};
-ghost use Rattle.card_core.specs.Fields.{goes_on, continued, operand_of, operand_behind};
+ghost use Rattle.card_core.specs.Fields.{behind_operation, continued, operand_of, operand_behind, operation_of};
 ghost use Rattle.card_core.specs.Deck.{Gives};
 
 use crate::card::may_continue;
 use crate::fault::CardFault;
-use crate::field::{
-    behind_operation, continuation_of, ends_with_comma, operand_text, operation_of, resumes_outside,
-};
+use crate::field::{Fields, continuation_of, ends_with_comma, operand_text, resumes_outside};
 use crate::read::ReadError;
 use crate::statement::DataCard;
 use plain::text::Text;
@@ -51,13 +49,20 @@ fn continued(before: Vec<u8>, cards: &[DataCard]) -> Result<Operand, ReadError>
     Err(ReadError::Fault(CardFault::NotContinued))
 }
 
-fn operand_of(alloc: Global, card: &DataCard, cards: &[DataCard]) -> Result<Operand, ReadError>
+fn operand_of(
+    alloc: Global,
+    fields: &Fields<'_>,
+    card: &DataCard,
+    cards: &[DataCard],
+) -> Result<Operand, ReadError>
+    requires operation { fields.now.operation.now ≡ operation_of card.now }
+    requires behind { fields.now.behind.now ≡ behind_operation card.now }
     ensures value { Gives (λ o. o) result (operand_of card.now cards.now) }
     ensures bound { IfOk result (λ o. o.cards ≤ length cards.now) }
 {
     let mut text = Vec::new(alloc);
-    if operation_of(card) != b"PEND".as_slice() {
-        let Some(piece) = operand_text(behind_operation(card)) else {
+    if fields.operation != b"PEND".as_slice() {
+        let Some(piece) = operand_text(fields.behind) else {
             return Err(ReadError::Fault(CardFault::OpenApostrophe));
         };
         text.extend_from_slice(piece)?;
@@ -72,17 +77,20 @@ fn operand_of(alloc: Global, card: &DataCard, cards: &[DataCard]) -> Result<Oper
     })
 }
 
-/// The operand of the statement that begins on this card, with these cards behind it.
+/// The operand of the statement that begins on this card with these fields, with these cards behind it.
 pub fn operand_behind(
     alloc: Global,
+    fields: &Fields<'_>,
     card: &DataCard,
     cards: &[DataCard],
 ) -> Result<Operand, ReadError>
+    requires operation { fields.now.operation.now ≡ operation_of card.now }
+    requires behind { fields.now.behind.now ≡ behind_operation card.now }
     ensures value { Gives (λ o. o) result (operand_behind card.now cards.now) }
     ensures bound { IfOk result (λ o. o.cards ≤ length cards.now) }
 {
-    if operation_of(card).is_empty() {
+    if fields.operation.is_empty() {
         return Err(ReadError::Fault(CardFault::NoOperation));
     }
-    operand_of(alloc, card, cards)
+    operand_of(alloc, fields, card, cards)
 }

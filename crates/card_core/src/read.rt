@@ -41,7 +41,7 @@ struct Place {
 fn cards_of(alloc: Global, lines: &[Card<'_>]) -> Result<Vec<DataCard>, ReadError>
     ensures { Gives (λ v. v.items) result (cards_of lines.now) }
 {
-    let mut cards = Vec::new(alloc);
+    let mut cards = Vec::with_capacity(alloc, lines.len())?;
     for line in lines {
         match card_of(line.as_slice()) {
             Ok(card) => put(&mut cards, card)?,
@@ -95,7 +95,7 @@ fn push_statement(
 fn statements(alloc: Global, cards: &[DataCard]) -> Result<Vec<Statement>, ReadError>
     ensures { Gives (λ v. v.items) result (statements_behind false 0 cards.now) }
 {
-    let mut out = Vec::new(alloc);
+    let mut out = Vec::with_capacity(alloc, cards.len())?;
     let mut called = false;
     let mut rest = cards;
     while let Some((card, behind)) = rest.split_first() {
