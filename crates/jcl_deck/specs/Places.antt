@@ -1,10 +1,10 @@
 -- The place in a deck as it is kept, and what changes it.
-use Rattle.std.specs.Prelude.{◌≡◌, ℕ, Bool, not, ◌&&◌, ◌||◌, ◌==◌, true, nat_le, List, [], ◌∷◌, ◌++◌, length, codes, Option, Result, Ok, Err, if◌then◌else◌}
+use Rattle.std.specs.Prelude.{◌≡◌, ℕ, Bool, not, ◌&&◌, ◌||◌, ◌==◌, true, nat_le, List, [], ◌∷◌, ◌++◌, length, codes, Option, Some, None, Result, Ok, Err, if◌then◌else◌}
 use Rattle.std.specs.Str.{bytes_eq}
 use Rattle.jcl_plan.specs.declared.fault.Cause.{Cause}
 use Rattle.jcl_plan.specs.declared.fault.Cause.TheVariants.{P}
 use Rattle.jcl_plan.specs.declared.fault.StatementFault.TheVariants.{DdBeforeExec, NothingToContinue, TooManyProcedures}
-use Rattle.operand_core.specs.Faults.{when}
+use Rattle.operand_core.specs.Faults.{lower, when}
 use Rattle.value_core.specs.declared.refusal.ReadError.{ReadError}
 use Rattle.value_core.specs.declared.refusal.ReadError.TheVariants.{Refused, Memory}
 use Rattle.value_core.specs.Reads.{Gives, with_fault}
@@ -32,6 +32,12 @@ Moves (Err Memory) place moved = Unit {0}
 -- a card that was read is answered with one more fault, which may be absent
 abbrev pub GivesWith : {A : Type 0} → Option Cause → Result A ReadError → Result A ReadError → Type 0
 GivesWith {A} fault card result = (given : Result A Cause) → Gives card given → Gives result (with_fault given fault)
+
+-- why no card was read, with one more fault, which may be absent
+abbrev pub error_with : ReadError → Option Cause → ReadError
+error_with Memory fault = Memory
+error_with (Refused own) None = Refused own
+error_with (Refused own) (Some other) = Refused (lower own other)
 
 -- the faults of a DD of this name by its place: whether a JOBLIB stands before the first step, whether no step does, and whether the last has a DD
 abbrev pub faults_where : Bool → Bool → Bool → List ℕ → List Cause

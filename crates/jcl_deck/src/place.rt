@@ -1,10 +1,10 @@
 //! The place in a deck: what was read of it so far.
 ghost use Rattle.std.specs.Prelude.{◌≡◌, [], ◌∷◌, ◌++◌, map, None, Some, OnOk, IsSome, if◌then◌else◌};
-ghost use Rattle.operand_core.specs.Faults.{told, written_name_faults};
+ghost use Rattle.operand_core.specs.Faults.{or_fault, told, written_name_faults};
 ghost use Rattle.operand_core.specs.Keywords.{is_long};
 ghost use Rattle.jcl_deck.specs.Decks.{behind, dd_place_faults, ended_with, keeps, last_has_dd, not_first, outside, procedure_with, start};
 ghost use Rattle.jcl_deck.specs.Decks.{takes_dd, takes_exec, takes_job, takes_proc, within};
-ghost use Rattle.jcl_deck.specs.Places.{GivesWith, Moves, denoted, procedure_place_faults, with_dd, with_procedure, with_step};
+ghost use Rattle.jcl_deck.specs.Places.{GivesWith, Moves, denoted, error_with, procedure_place_faults, with_dd, with_procedure, with_step};
 
 use crate::dd_place::dd_place_fault;
 use crate::deck::{Deck, DeckStep, Procedure};
@@ -48,7 +48,14 @@ fn with_fault<A: Drop>(card: Result<A, ReadError>, fault: Option<Cause>) -> Resu
     }
 }
 
-/// A card with the fault of its statement's place, which is not told of an operand that is too long.
+/// The fault of a statement's place, which is not told of an operand that is too long.
+fn unless_long(operand: &[u8], fault: Option<Cause>) -> Option<Cause>
+    ensures { result ≡ (if is_long operand.now then None else fault) }
+{
+    if is_long(operand) { None } else { fault }
+}
+
+/// A card with the fault of its statement's place.
 fn at_place<A: Drop>(
     operand: &[u8],
     card: Result<A, ReadError>,
@@ -56,10 +63,17 @@ fn at_place<A: Drop>(
 ) -> Result<A, ReadError>
     ensures { GivesWith (if is_long operand.now then None else fault) card result }
 {
-    if is_long(operand) {
-        card
-    } else {
-        with_fault(card, fault)
+    with_fault(card, unless_long(operand, fault))
+}
+
+/// Why no card was read, with one more fault of its statement, which may be absent.
+fn error_with(error: ReadError, fault: Option<Cause>) -> ReadError
+    ensures { result ≡ error_with error fault }
+{
+    match (error, fault) {
+        (ReadError::Memory, _) => ReadError::Memory,
+        (ReadError::Refused(own), None) => ReadError::Refused(own),
+        (ReadError::Refused(own), Some(other)) => ReadError::Refused(lower(own, other)),
     }
 }
 
@@ -191,6 +205,19 @@ impl Place {
         self.steps[last].dds.push(dd)
     }
 
+    /// Adds a DD, unless its place has a fault.
+    fn add_placed(&mut self, dd: DdCard, fault: Option<Cause>) -> Result<(), ReadError>
+        ensures { Moves result self.new (or_fault fault (with_dd (denoted self.old) dd)) }
+    {
+        match fault {
+            None => {
+                self.add_dd(dd)?;
+                Ok(())
+            }
+            Some(fault) => Err(ReadError::Refused(fault)),
+        }
+    }
+
     fn take_dd(&mut self, alloc: Global, statement: Statement) -> Result<(), ReadError>
         ensures { Moves result self.new (takes_dd (denoted self.old) statement) }
     {
@@ -202,10 +229,11 @@ impl Place {
             ..
         } = statement;
         let text = operand.as_slice();
-        let card = dd_card(alloc, name.as_slice(), text, cards);
-        let dd = at_place(text, card, fault)?;
-        self.add_dd(dd)?;
-        Ok(())
+        let at = unless_long(text, fault);
+        match dd_card(alloc, name.as_slice(), text, cards) {
+            Ok(dd) => self.add_placed(dd, at),
+            Err(error) => Err(error_with(error, at)),
+        }
     }
 
     /// The fault of a statement with another operation.
