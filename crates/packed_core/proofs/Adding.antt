@@ -1,0 +1,45 @@
+-- A scene more among those of views.
+use Rattle.std.proofs.Common.{◌≡◌, inl, inr, ◌++◌, ◌∷◌, ◌∙◌, ◌<◌, ◌≤◌, ℕ, List, [], Some, length, sym, ap, arith, length-append}
+use Rattle.std.specs.Prelude.{slice_get, slice_index_or}
+use Rattle.std.proofs.lemmas.Bool.{cases_lt}
+use Rattle.std.proofs.lemmas.List.{map-append}
+use Rattle.std.proofs.lemmas.Option.{same_Some}
+use Rattle.jcl_plan.specs.declared.plan.JobPlan.{JobPlan}
+use Rattle.view_core.specs.declared.scene.Scene.{Scene}
+use Rattle.packed_core.specs.Entries.{AreBefore, Entry, scenes_of}
+use Rattle.packed_core.specs.Rows.{row_at}
+use Rattle.packed_core.specs.Shown.{AreApart, alone}
+use Rattle.packed_core.specs.Views.{AreRows}
+use Rattle.packed_core.proofs.Places.{got_back, got_below, got_last}
+
+pub scenes_more : (entries : List Entry) (e : Entry) → scenes_of (entries ++ e ∷ []) ≡ scenes_of entries ++ e.scene ∷ []
+scenes_more entries e = map-append (λ (x : Entry). x.scene) entries (e ∷ [])
+
+pub before_more : (part : ℕ) (entries : List Entry) (e : Entry) → e.part ≡ part → AreBefore part entries → AreBefore part (entries ++ e ∷ [])
+before_more part entries e here before i x at =
+    elim (cases_lt i (length entries)) [
+      | inl h ↦ before i x (got_back entries e i x h at)
+      | inr h ↦
+          let below : i < length (entries ++ e ∷ []) = got_below (entries ++ e ∷ []) i x at in
+          let is : i ≡ length entries = omega (arith, length-append entries (e ∷ [])) in
+          let same : e ≡ x = same_Some e x (sym (got_last entries e) ∙ ap (slice_get (entries ++ e ∷ [])) (sym is) ∙ at) in
+          ap (λ (y : Entry). y.part) (sym same) ∙ here
+    ]
+
+pub apart_more : (plan : JobPlan) (date k : ℕ) (scenes : List Scene) (s : Scene) → AreApart plan date k scenes →
+    ((i : ℕ) (w : Scene) → slice_get scenes i ≡ Some w → alone plan date k w ≡ alone plan date k s → ⊥) → AreApart plan date k (scenes ++ s ∷ [])
+apart_more plan date k scenes s apart none i j a b below at to same =
+    elim (cases_lt j (length scenes)) [
+      | inl h ↦ apart i j a b below (got_back scenes s i a (omega arith) at) (got_back scenes s j b h to) same
+      | inr h ↦
+          let within : j < length (scenes ++ s ∷ []) = got_below (scenes ++ s ∷ []) j b to in
+          let is : j ≡ length scenes = omega (arith, length-append scenes (s ∷ [])) in
+          let one : s ≡ b = same_Some s b (sym (got_last scenes s) ∙ ap (slice_get (scenes ++ s ∷ [])) (sym is) ∙ to) in
+          none i a (got_back scenes s i a (omega arith) at) (same ∙ ap (alone plan date k) (sym one))
+    ]
+
+pub rows_more : (plan : JobPlan) (part n m : ℕ) (rows : List (List ℕ)) → n ≤ m → AreRows plan part n rows → AreRows plan part m rows
+rows_more plan part n m rows h are = record {
+  numbered = λ i below. let l : slice_index_or (row_at rows i) 0 0 < n = are.numbered i below in omega arith;
+  packed = are.packed;
+}

@@ -1,0 +1,17 @@
+pub mod SameRows
+pub mod Bits
+pub mod Rows
+pub mod JoinedRows
+pub mod Telling
+pub mod Places
+pub mod Standing
+pub mod Adding
+pub mod TestBits
+pub mod ShownRows
+pub mod Distinct
+pub mod Passing
+pub mod Moves
+pub mod Led
+pub mod Putting
+pub mod Kept
+pub mod Leading

@@ -1,0 +1,83 @@
+-- Elements of a list by their places.
+use Rattle.std.proofs.Common.{◌≡◌, inl, inr, ◌++◌, ◌∷◌, ◌∙◌, ◌+◌, ◌-◌, ◌<◌, ℕ, zero, suc, Bool, true, false, List, [], Some, length, take, drop, refl, sym}
+use Rattle.std.proofs.Common.{ap, subst, arith, get_or, map}
+use Rattle.std.specs.Prelude.{Contains, Decides, slice_get}
+use Rattle.std.proofs.lemmas.Bool.{cases_lt}
+use Rattle.std.proofs.lemmas.Bool.Decides.{not_from_Decides}
+use Rattle.std.proofs.lemmas.Option.{same_Some}
+
+pub got_below : {X : Type 0} (xs : List X) (i : ℕ) (x : X) → slice_get xs i ≡ Some x → i < length xs
+got_below [] i x e = absurd cc
+got_below (y ∷ xs) zero x e = omega arith
+got_below (y ∷ xs) (suc i) x e = let h : i < length xs = got_below xs i x e in omega arith
+
+pub got_there : {X : Type 0} (xs : List X) (i : ℕ) → i < length xs → (x : X) × (slice_get xs i ≡ Some x)
+got_there [] i h = absurd (omega arith)
+got_there (x ∷ xs) zero h = (x, refl)
+got_there (x ∷ xs) (suc i) h = got_there xs i (omega arith)
+
+pub got_from : {X Y : Type 0} (f : X → Y) (xs : List X) (i : ℕ) (x : X) (d : Y) → slice_get xs i ≡ Some x → get_or (map f xs) i d ≡ f x
+got_from f [] i x d e = absurd cc
+got_from f (y ∷ xs) zero x d e = ap f (same_Some y x e)
+got_from f (y ∷ xs) (suc i) x d e = got_from f xs i x d e
+
+pub got_front : {X : Type 0} (xs ys : List X) (i : ℕ) (x : X) → slice_get xs i ≡ Some x → slice_get (xs ++ ys) i ≡ Some x
+got_front [] ys i x e = absurd cc
+got_front (y ∷ xs) ys zero x e = e
+got_front (y ∷ xs) ys (suc i) x e = got_front xs ys i x e
+
+pub got_last : {X : Type 0} (xs : List X) (y : X) → slice_get (xs ++ y ∷ []) (length xs) ≡ Some y
+got_last [] y = refl
+got_last (x ∷ xs) y = got_last xs y
+
+-- in a list with one more it is one of the others, or the last
+pub got_back : {X : Type 0} (xs : List X) (y : X) (i : ℕ) (x : X) → i < length xs → slice_get (xs ++ y ∷ []) i ≡ Some x → slice_get xs i ≡ Some x
+got_back [] y i x h e = absurd (omega arith)
+got_back (z ∷ xs) y zero x h e = e
+got_back (z ∷ xs) y (suc i) x h e = got_back xs y i x (omega arith) e
+
+one_of : {X : Type 0} (xs : List X) (i : ℕ) (x : X) → slice_get xs i ≡ Some x → take 1 (drop i xs) ≡ x ∷ []
+one_of [] i x e = absurd cc
+one_of (y ∷ xs) zero x e = ap (λ z. z ∷ []) (same_Some y x e)
+one_of (y ∷ xs) (suc i) x e = one_of xs i x e
+
+contained : {Y : Type 0} (y v : Y) (k : ℕ) → k < 1 → get_or (y ∷ []) k v ≡ v → y ≡ v
+contained y v zero h e = e
+contained y v (suc k) h e = absurd (omega arith)
+
+-- a test of one element of a list
+module _ {X Y : Type 0} (f : X → Y) (xs : List X) (i : ℕ) (x : X) (v : Y) (there : slice_get xs i ≡ Some x) (b : Bool)
+    (tells : Decides b (Contains (map f (take (i + 1 - i) (drop i xs))) v)) where
+  alone : map f (take (i + 1 - i) (drop i xs)) ≡ f x ∷ []
+  alone = ap (λ n. map f (take n (drop i xs))) (let e : i + 1 - i ≡ 1 = omega arith in e) ∙ ap (map f) (one_of xs i x there)
+
+  pub same_there : b ≡ true → f x ≡ v
+  same_there e = let c : Contains (f x ∷ []) v = subst (λ l. Contains l v) alone (tells.0 e) in contained (f x) v c.0 c.1 c.2
+
+  pub other_there : b ≡ false → f x ≡ v → ⊥
+  other_there e same = not_from_Decides b tells e (subst (λ l. Contains l v) (sym alone) (let c : Contains (f x ∷ []) v = (0, omega arith, same) in c))
+
+-- and of all up to it
+pub none_upto : {X : Type 0} (xs : List X) (P : X → Type 0) (i : ℕ) (x : X) → slice_get xs i ≡ Some x →
+    ((k : ℕ) (w : X) → k < i → slice_get xs k ≡ Some w → P w) →
+    P x → (k : ℕ) (w : X) → k < i + 1 → slice_get xs k ≡ Some w → P w
+none_upto xs P i x there before here k w below at =
+    elim (cases_lt k i) [
+      | inl h ↦ before k w h at
+      | inr h ↦ subst P (same_Some x w (sym there ∙ ap (slice_get xs) (let e : i ≡ k = omega arith in e) ∙ at)) here
+    ]
+
+pub got_read : {X : Type 0} (xs : List X) (n : ℕ) (x : X) → n < length xs → x ≡ get_or xs n x → slice_get xs n ≡ Some x
+got_read [] n x h e = absurd (omega arith)
+got_read (y ∷ xs) zero x h e = ap Some (sym e)
+got_read (y ∷ xs) (suc n) x h e = got_read xs n x (omega arith) e
+
+pub got_image : {X Y : Type 0} (f : X → Y) (xs : List X) (i : ℕ) (x : X) → slice_get xs i ≡ Some x → slice_get (map f xs) i ≡ Some (f x)
+got_image f [] i x e = absurd cc
+got_image f (y ∷ xs) zero x e = ap (λ z. Some (f z)) (same_Some y x e)
+got_image f (y ∷ xs) (suc i) x e = got_image f xs i x e
+
+pub got_past : {X Y : Type 0} (f : X → Y) (xs : List X) (i : ℕ) (y : Y) → slice_get (map f xs) i ≡ Some y → i < length xs
+got_past f [] i y e = absurd cc
+got_past f (x ∷ xs) zero y e = omega arith
+got_past f (x ∷ xs) (suc i) y e = let h : i < length xs = got_past f xs i y e in omega arith

@@ -1,0 +1,72 @@
+use Rattle.std.proofs.Common.{◌≡◌, ◌∙◌, ◌+◌, ℕ, Bool, List, ap, drop, get_or, subst, sym}
+use Rattle.std.specs.Prelude.{Result, slice_get}
+use Rattle.jcl_plan.specs.declared.plan.JobPlan.{JobPlan}
+use Rattle.jcl_plan.specs.declared.plan.StepPlan.{StepPlan}
+use Rattle.jcl_meaning.specs.States.{Fixed}
+use Rattle.view_domain.specs.declared.crossed.Stop.{Stop}
+use Rattle.view_core.specs.declared.legs.Legs.{Legs}
+use Rattle.view_core.specs.declared.legs.Legs.TheVariants as legs
+use Rattle.view_core.specs.declared.scene.Scene.{Scene}
+use Rattle.view_core.specs.Legs.{AreLegs, end_of}
+use Rattle.packed_core.specs.Views.{Views}
+use Rattle.packed_core.specs.Words.{bit}
+use Rattle.packed_core.proofs.Led.{abend_as, led_ended, led_refused, placed_still}
+use Rattle.packed_core.proofs.Passing.{after_is}
+use Rattle.packed_core.proofs.domain.PackedDomain.cross_running.Goals as goal
+
+pub take_classes-requires-clause-later : goal.take_classes-requires-clause-later
+take_classes-requires-clause-later g c =
+    let plan : JobPlan = g.J.Job.plan in
+    ap (λ (v : Views). drop (v.part + 1) plan.steps) c.legs.ensures.same ∙ after_is plan c.args.before.now.part c.args.step.now c.args.later.now c.requires.step
+
+pub returns-in-Refused-clause-crossed : goal.returns-in-Refused-clause-crossed
+returns-in-Refused-clause-crossed g c v names passed runs =
+    let plan : JobPlan = g.J.Job.plan in
+    let fixed : Fixed = g.J.Job.fixed in
+    let before : Views = c.args.before.now in
+    let step : StepPlan = c.args.step.now in
+    let row : List ℕ = c.args.row.items in
+    let job_tests : fixed.job_tests ≡ plan.tests.items =
+    sym (ap (λ (f : Fixed). f.job_tests) c.args.self.now.so_fixed) ∙ c.args.self.now.plain.tested
+    ∙ ap (λ (p : JobPlan). p.tests.items) c.args.self.now.planned in
+    let n_is : c.number_in-n.result ≡ get_or row 0 0 = c.number_in-n.ensures ∙ ap (λ (l : List ℕ). get_or l 0 0) c.as_slice.ensures.value in
+    let abended : c.bit_of-abended.result ≡ v.abended = c.bit_of-abended.ensures ∙ ap (λ (l : List ℕ). bit l 0) c.as_slice-2.ensures.value ∙ passed.abended in
+    let said : AreLegs fixed (before.part + 1) step v.scene c.bit_of-abended.result c.in_ok-legs.legs =
+    c.in_ok-legs.ensures.legs v.scene (ap (slice_get before.scenes) n_is ∙ names) in
+    let legs_are : AreLegs fixed (before.part + 1) step v.scene v.abended (legs.Refused c.in-Refused.stop) =
+    subst (λ (l : Legs). AreLegs fixed (before.part + 1) step v.scene v.abended l) c.in-Refused.is
+    (subst (λ (b : Bool). AreLegs fixed (before.part + 1) step v.scene b c.in_ok-legs.legs) abended said) in
+    led_refused _ plan fixed before.part step c.args.later.now c.requires.step job_tests v c.args.behind.now c.requires.behind runs c.in-Refused.stop legs_are
+
+pub returns-in_ok-by_abend-in-Ended-clause-crossed : goal.returns-in_ok-by_abend-in-Ended-clause-crossed
+returns-in_ok-by_abend-in-Ended-clause-crossed g c v names passed runs =
+    let plan : JobPlan = g.J.Job.plan in
+    let fixed : Fixed = g.J.Job.fixed in
+    let date : ℕ = fixed.date in
+    let before : Views = c.args.before.now in
+    let step : StepPlan = c.args.step.now in
+    let row : List ℕ = c.args.row.items in
+    let job_tests : fixed.job_tests ≡ plan.tests.items =
+    sym (ap (λ (f : Fixed). f.job_tests) c.args.self.now.so_fixed) ∙ c.args.self.now.plain.tested
+    ∙ ap (λ (p : JobPlan). p.tests.items) c.args.self.now.planned in
+    let n_is : c.number_in-n.result ≡ get_or row 0 0 = c.number_in-n.ensures ∙ ap (λ (l : List ℕ). get_or l 0 0) c.as_slice.ensures.value in
+    let abended : c.bit_of-abended.result ≡ v.abended = c.bit_of-abended.ensures ∙ ap (λ (l : List ℕ). bit l 0) c.as_slice-2.ensures.value ∙ passed.abended in
+    let said : AreLegs fixed (before.part + 1) step v.scene c.bit_of-abended.result c.in_ok-legs.legs =
+    c.in_ok-legs.ensures.legs v.scene (ap (slice_get before.scenes) n_is ∙ names) in
+    let legs_are : AreLegs fixed (before.part + 1) step v.scene v.abended (legs.Ended c.in-Ended.made c.in-Ended.by_code c.in-Ended.by_abend) =
+    subst (λ (l : Legs). AreLegs fixed (before.part + 1) step v.scene v.abended l) c.in-Ended.is
+    (subst (λ (b : Bool). AreLegs fixed (before.part + 1) step v.scene b c.in_ok-legs.legs) abended said) in
+    let between : Views = c.place_end.new.behind in
+    let behind : Views = c.place_end-in-Ended.new.behind in
+    let more = c.in_ok-abend-in-Ended.ensures.more in
+    let at : behind.part ≡ before.part + 1 = more.part ∙ c.in_ok-code-in-Ended.ensures.more.part ∙ c.requires.behind in
+    let end : Result Scene Stop = end_of (λ s. s.value) c.in-Ended.by_code in
+    let abend_end : Result Scene Stop = end_of (λ s. s.value) c.in-Ended.by_abend in
+    let by_code = c.in_ok-by_code-in-Ended.by_code in
+    let by_abend = c.in_ok-by_abend-in-Ended.by_abend in
+    led_ended _ plan fixed before.part step c.args.later.now c.requires.step job_tests v behind at row passed runs c.in-Ended.made end abend_end
+    by_code by_abend legs_are.0 legs_are.1 legs_are.2
+    (c.in_ok-by_code-in-Ended.ensures.leads end
+    (placed_still plan date between behind end c.in_ok-code-in-Ended.code more c.in_ok-code-in-Ended.ensures.placed))
+    (abend_as (λ w. w.row.items) plan date behind row c.in_ok-by_code-in-Ended.row.items c.in_ok-by_code-in-Ended.ensures.row.1 abend_end by_abend
+    (c.in_ok-by_abend-in-Ended.ensures.leads abend_end c.in_ok-abend-in-Ended.ensures.placed))

@@ -1,0 +1,37 @@
+-- Classes of codes by which a step may end, as they are kept.
+use Rattle.std.specs.Global.{Global}
+use Rattle.std.specs.Prelude.{◌≡◌, ℕ, ◌+◌, nat_lt, false, if◌then◌else◌, All, List, Vec, Option, IfSome, drop, map, slice_index_or}
+use Rattle.cond_core.specs.Classes.{AreClasses}
+use Rattle.jcl_plan.specs.declared.outcome.Outcome.TheVariants as outcome
+use Rattle.jcl_plan.specs.declared.plan.JobPlan.{JobPlan}
+use Rattle.jcl_plan.specs.declared.plan.Test.{Test}
+use Rattle.jcl_meaning.specs.History.{met_by}
+use Rattle.view_core.specs.Bits.{kept_tests, looking}
+use Rattle.packed_core.specs.declared.classes.Class.{Class}
+use Rattle.packed_core.specs.declared.room.Room.{Room}
+use Rattle.packed_core.specs.Rooms.{room_at}
+use Rattle.packed_core.specs.Words.{IsRow, bit, met_of}
+
+-- the bit of a test that is kept, by its place among them
+abbrev pub bit_at : Room → ℕ → ℕ
+bit_at room i = if nat_lt i room.job then i + 1 else i + room.passed + 1
+
+-- the tests that step n meets, which ends by a code, as bits
+pub record IsMask (n : ℕ) (tests : List Test) (room : Room) (code : ℕ) (mask : List ℕ) : Type 0 where
+  pub row : IsRow room mask
+  pub unnumbered : slice_index_or mask 0 0 ≡ 0
+  pub calm : bit mask 0 ≡ false
+  pub met : met_of room mask ≡ map (λ t. met_by t n (outcome.Code code)) tests
+
+-- a class for each that these tests cannot tell apart
+pub record AreMasks (n : ℕ) (tests : List Test) (room : Room) (classes : List Class) : Type 0 where
+  pub codes : AreClasses (looking n tests) (map (λ c. c.code) classes)
+  pub masks : All (λ c. IsMask n tests room c.code c.mask.items) classes
+
+-- the tests that are kept before a part
+abbrev pub tests_before : JobPlan → ℕ → List Test
+tests_before plan k = kept_tests plan.tests.items (drop k plan.steps)
+
+-- those of the step of a part, where they were found
+abbrev pub AreFound : JobPlan → ℕ → Option (Vec Class Global) → Type 0
+AreFound plan k classes = IfSome classes (λ cs. AreMasks (k + 1) (tests_before plan (k + 1)) (room_at plan (k + 1)) cs.items)

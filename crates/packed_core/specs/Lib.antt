@@ -1,0 +1,13 @@
+pub mod Classes
+pub mod Crossing
+pub mod Entries
+pub mod Jobs
+pub mod Moving
+pub mod Notes
+pub mod Rooms
+pub mod Rows
+pub mod Scenes
+pub mod Shown
+pub mod Starting
+pub mod Views
+pub mod Words

@@ -1,0 +1,306 @@
+//! A view led over a part.
+ghost use Rattle.std.specs.Prelude.{◌≡◌, ◌<◌, ◌≤◌, ◌+◌, ◌∷◌, [], IfOk, OnOk, Result, drop, length, slice_index_or};
+ghost use Rattle.jcl_plan.specs.declared.outcome.Fate.TheVariants as fates;
+ghost use Rattle.view_domain.specs.declared.crossed.Stop.{Stop};
+ghost use Rattle.view_domain.specs.Crossings.{IsCrossed};
+ghost use Rattle.view_core.specs.declared.scene.Scene.{Scene};
+ghost use Rattle.view_core.specs.Bits.{fate_shown};
+ghost use Rattle.view_core.specs.Legs.{end_of};
+ghost use Rattle.view_core.specs.Shows.{Shows};
+ghost use Rattle.packed_core.specs.Classes.{AreMasks, tests_before};
+ghost use Rattle.packed_core.specs.Crossing.{HasSameBits, IsLedTo, IsPassed, IsPlaced, IsRenumbered, IsStep, LeadsByAbend, LeadsByCode, NamesScene, row_shows};
+ghost use Rattle.packed_core.specs.Moving.{all_shown, shown_among};
+ghost use Rattle.packed_core.specs.Rooms.{room_at};
+ghost use Rattle.packed_core.specs.Rows.{row_at};
+ghost use Rattle.packed_core.specs.Scenes.{HasMoreScenes};
+ghost use Rattle.packed_core.specs.Words.{IsRow};
+
+use crate::classes::Class;
+use crate::domain::PackedDomain;
+use crate::job::Job;
+use crate::rooms::next_bit;
+use crate::view::PackedView;
+use crate::views::PackedViews;
+use crate::words::{bit_of, clear, number_in, some_bit};
+use jcl_meaning::history::fate;
+use jcl_plan::outcome::Fate;
+use jcl_plan::plan::StepPlan;
+use std::alloc::{AllocError, Global};
+use std::marker::PhantomData;
+use std::rc::Rc;
+use view_core::legs::Legs;
+use view_core::same::drop_first;
+use view_core::scene::Scene;
+use view_domain::crossed::{Branch, Crossed, Stop};
+
+/// A row with another scene's number.
+pub(crate) fn renumbered(row: Vec<u64>, number: usize) -> Vec<u64>
+    requires { 0 < length row.items }
+    ensures { IsRenumbered row.items number result.items }
+{
+    let mut row = row;
+    row[0] = number as u64;
+    row
+}
+
+/// A view by its row.
+pub(crate) fn view_of<J: Job>(part: usize, row: Vec<u64>) -> PackedView<J>
+    requires { IsRow (room_at J.plan part) row.items }
+    ensures part { result.part ≡ part }
+    ensures row { result.row ≡ row }
+{
+    PackedView {
+        part,
+        row,
+        job: PhantomData,
+    }
+}
+
+impl<'a, J: Job + Drop> PackedDomain<'a, J> {
+    /// What becomes of the part's step, by a row before it.
+    fn fate_of(&self, views: &PackedViews<J>, step: &StepPlan, row: &[u64]) -> Fate
+        requires step { IsStep J.plan views.now.part step.now }
+        requires row { IsRow (room_at J.plan views.now.part) row.now }
+        ensures { (scene : Scene) → result ≡ fate_shown (length J.plan.tests.items) step.now (row_shows J.plan views.now.part scene row.now) }
+    {
+        fate(
+            false,
+            some_bit(row, 1, views.room.job),
+            step.after_abend,
+            bit_of(row, 0),
+            some_bit(row, next_bit(views.room), step.tests.as_slice().len()),
+        )
+    }
+
+    /// A row behind the part's step, which meets no test: the bits of the step's own tests are cleared.
+    fn passed(&self, views: &PackedViews<J>, step: &StepPlan, row: Vec<u64>) -> Vec<u64>
+        requires step { IsStep J.plan views.now.part step.now }
+        requires row { IsRow (room_at J.plan views.now.part) row.items }
+        ensures row { IsRow (room_at J.plan (views.now.part + 1)) result.items }
+        ensures first { slice_index_or result.items 0 0 ≡ slice_index_or row.items 0 0 }
+        ensures passed { (scene : Scene) → IsPassed J.plan step.now views.now.part (row_shows J.plan views.now.part scene row.items) result.items }
+    {
+        let mut row = row;
+        clear(
+            row.as_mut_slice(),
+            next_bit(views.room),
+            step.tests.as_slice().len(),
+        );
+        row
+    }
+
+    /// The number of the scene that a step leaves, or the fault that it meets.
+    fn place_end(
+        &self,
+        behind: &mut PackedViews<J>,
+        end: Result<Rc<Scene>, Stop>,
+        hint: usize,
+    ) -> Result<Result<usize, Stop>, AllocError>
+        ensures more { OnOk result (HasMoreScenes behind.old behind.new) }
+        ensures placed { IfOk result (IsPlaced J.plan J.fixed.date behind.new (end_of (λ scene. scene.value) end)) }
+    {
+        match end {
+            Err(stop) => Ok(Err(stop)),
+            Ok(scene) => Ok(Ok(self.put_scene(behind, &scene, hint)?)),
+        }
+    }
+
+    /// Where the step's end by a code leads.
+    fn branch_by_code(
+        &self,
+        alloc: Global,
+        classes: &[Class],
+        end: Result<usize, Stop>,
+        row: Vec<u64>,
+        behind: &PackedViews<J>,
+    ) -> Result<(Branch<PackedView<J>>, Vec<u64>), AllocError>
+        requires classes { AreMasks behind.now.part (tests_before J.plan behind.now.part) (room_at J.plan behind.now.part) classes.now }
+        requires row { IsRow (room_at J.plan behind.now.part) row.items }
+        ensures leads { IfOk result (λ r. (left : Result Scene Stop) → IsPlaced J.plan J.fixed.date behind.now left end →
+            LeadsByCode (λ v. v.row.items) J.plan J.fixed.date behind.now row.items left r.0) }
+        ensures row { IfOk result (λ r. IsRow (room_at J.plan behind.now.part) r.1.items × HasSameBits row.items r.1.items) }
+    {
+        match end {
+            Err(stop) => Ok((Branch::Stops(stop), row)),
+            Ok(number) => {
+                let row = renumbered(row, number);
+                let moves = self.moves_by_code(alloc, row.as_slice(), classes, behind)?;
+                Ok((Branch::Leads(moves), row))
+            }
+        }
+    }
+
+    /// Where its end by an ABEND leads.
+    fn branch_by_abend(
+        &self,
+        alloc: Global,
+        end: Result<usize, Stop>,
+        row: Vec<u64>,
+        behind: &PackedViews<J>,
+    ) -> Result<Branch<PackedView<J>>, AllocError>
+        requires row { IsRow (room_at J.plan behind.now.part) row.items }
+        ensures leads { IfOk result (λ told. (left : Result Scene Stop) → IsPlaced J.plan J.fixed.date behind.now left end →
+            LeadsByAbend (λ v. v.row.items) J.plan J.fixed.date behind.now row.items left told) }
+    {
+        match end {
+            Err(stop) => Ok(Branch::Stops(stop)),
+            Ok(number) => {
+                let row = renumbered(row, number);
+                Ok(Branch::Leads(self.moves_by_abend(alloc, row, behind)?))
+            }
+        }
+    }
+
+    /// The part's step, which runs.
+    fn cross_running(
+        &self,
+        alloc: Global,
+        before: &mut PackedViews<J>,
+        step: &StepPlan,
+        later: &[StepPlan],
+        row: Vec<u64>,
+        behind: &mut PackedViews<J>,
+    ) -> Result<Crossed<PackedView<J>>, AllocError>
+        requires part { before.old.part < usize.MAX }
+        requires step { drop before.old.part J.plan.steps ≡ step.now ∷ later.now }
+        requires behind { behind.old.part ≡ before.old.part + 1 }
+        requires row { IsRow (room_at J.plan (before.old.part + 1)) row.items }
+        requires numbered { slice_index_or row.items 0 0 < length before.old.scenes }
+        ensures before { OnOk result (before.new ≡ before.old) }
+        ensures behind { OnOk result (HasMoreScenes behind.old behind.new) }
+        ensures crossed { IfOk result (λ crossed. (v : Shows) → NamesScene before.old row.items v.scene → IsPassed J.plan step.now before.old.part v row.items →
+            fate_shown (length J.plan.tests.items) step.now v ≡ fates.Run →
+            IsLedTo (λ w. w.row.items) J.plan J.fixed before.old.part v behind.new crossed) }
+    {
+        let n = number_in(row.as_slice());
+        let abended = bit_of(row.as_slice(), 0);
+        let legs = before.legs(alloc, &self.plain, n, step, later, abended)?;
+        match legs {
+            Legs::Refused(stop) => Ok(Crossed::Stops(stop)),
+            Legs::Ended {
+                made,
+                by_code,
+                by_abend,
+            } => {
+                let classes = self.take_classes(alloc, before, behind, later)?;
+                let hint = before.hint(n);
+                let code = self.place_end(behind, by_code, hint.by_code)?;
+                let abend = self.place_end(behind, by_abend, hint.by_abend)?;
+                before.keep_hint(n, code, abend)?;
+                let (by_code, row) = self.branch_by_code(
+                    alloc,
+                    classes.as_slice(),
+                    code,
+                    row,
+                    behind,
+                )?;
+                before.keep_classes(classes);
+                let by_abend = self.branch_by_abend(alloc, abend, row, behind)?;
+                Ok(Crossed::Runs {
+                    made,
+                    by_code,
+                    by_abend,
+                })
+            }
+        }
+    }
+
+    /// The part's step, which does not run.
+    fn cross_idle(
+        &self,
+        before: &mut PackedViews<J>,
+        fate: Fate,
+        row: Vec<u64>,
+        behind: &mut PackedViews<J>,
+    ) -> Result<Crossed<PackedView<J>>, AllocError>
+        requires behind { behind.old.part ≡ before.old.part + 1 }
+        requires row { IsRow (room_at J.plan (before.old.part + 1)) row.items }
+        requires numbered { slice_index_or row.items 0 0 < length before.old.scenes }
+        requires idle { fate ≡ fates.Run → ⊥ }
+        ensures before { OnOk result (before.new ≡ before.old) }
+        ensures behind { OnOk result (HasMoreScenes behind.old behind.new) }
+        ensures crossed { IfOk result (λ crossed. (step : StepPlan) → IsStep J.plan before.old.part step → (v : Shows) →
+            NamesScene before.old row.items v.scene → IsPassed J.plan step before.old.part v row.items → fate ≡ fate_shown (length J.plan.tests.items) step v →
+            IsLedTo (λ w. w.row.items) J.plan J.fixed before.old.part v behind.new crossed) }
+    {
+        let n = number_in(row.as_slice());
+        let number = self.put_scene(behind, before.scene(n), n)?;
+        let view = view_of(behind.part, renumbered(row, number));
+        Ok(Crossed::Passes { fate, view })
+    }
+
+    /// The part's step.
+    fn cross_step(
+        &self,
+        alloc: Global,
+        before: &mut PackedViews<J>,
+        step: &StepPlan,
+        later: &[StepPlan],
+        row: Vec<u64>,
+        behind: &mut PackedViews<J>,
+    ) -> Result<Crossed<PackedView<J>>, AllocError>
+        requires part { before.old.part < usize.MAX }
+        requires step { drop before.old.part J.plan.steps ≡ step.now ∷ later.now }
+        requires behind { behind.old.part ≡ before.old.part + 1 }
+        requires row { IsRow (room_at J.plan before.old.part) row.items }
+        requires numbered { slice_index_or row.items 0 0 < length before.old.scenes }
+        ensures before { OnOk result (before.new ≡ before.old) }
+        ensures behind { OnOk result (HasMoreScenes behind.old behind.new) }
+        ensures crossed { IfOk result (λ crossed. (scene : Scene) → NamesScene before.old row.items scene →
+            IsLedTo (λ w. w.row.items) J.plan J.fixed before.old.part (row_shows J.plan before.old.part scene row.items) behind.new crossed) }
+    {
+        let fate = self.fate_of(before, step, row.as_slice());
+        let row = self.passed(before, step, row);
+        match fate {
+            Fate::Run => self.cross_running(alloc, before, step, later, row, behind),
+            _ => self.cross_idle(before, fate, row, behind),
+        }
+    }
+
+    /// The job's end.
+    fn cross_end(
+        &self,
+        alloc: Global,
+        before: &mut PackedViews<J>,
+        row: &[u64],
+        behind: &PackedViews<J>,
+    ) -> Result<Crossed<PackedView<J>>, AllocError>
+        requires end { drop before.old.part J.plan.steps ≡ [] }
+        requires row { IsRow (room_at J.plan before.old.part) row.now }
+        requires numbered { slice_index_or row.now 0 0 < length before.old.scenes }
+        ensures before { OnOk result (before.new ≡ before.old) }
+        ensures crossed { IfOk result (λ crossed. (scene : Scene) → NamesScene before.old row.now scene →
+            IsLedTo (λ w. w.row.items) J.plan J.fixed before.old.part (row_shows J.plan before.old.part scene row.now) behind.now crossed) }
+    {
+        let n = number_in(row);
+        let abended = bit_of(row, 0);
+        match before.end(alloc, &self.plain, n, abended)? {
+            None => Ok(Crossed::Ends),
+            Some(stop) => Ok(Crossed::Stops(stop)),
+        }
+    }
+
+    /// The part, from the view of this number.
+    pub(crate) fn cross(
+        &self,
+        alloc: Global,
+        before: &mut PackedViews<J>,
+        number: usize,
+        behind: &mut PackedViews<J>,
+    ) -> Result<Crossed<PackedView<J>>, AllocError>
+        requires part { before.old.part ≤ length J.plan.steps }
+        requires behind { behind.old.part ≡ before.old.part + 1 }
+        requires number { number < length before.old.rows }
+        ensures before { OnOk result (before.new ≡ before.old) }
+        ensures behind { OnOk result (HasMoreScenes behind.old behind.new) }
+        ensures crossed { IfOk result (IsCrossed (λ w. shown_among J.plan J.fixed.date behind.new w.row.items) J.plan J.fixed before.old.part
+            (all_shown J.plan J.fixed.date behind.new) (shown_among J.plan J.fixed.date before.old (row_at before.old.rows number))) }
+    {
+        let row = Vec::from_slice(alloc, before.row(number))?;
+        let left = drop_first(self.plain.plan.steps.as_slice(), before.part);
+        match left.split_first() {
+            Some((step, later)) => self.cross_step(alloc, before, step, later, row, behind),
+            None => self.cross_end(alloc, before, row.as_slice(), behind),
+        }
+    }
+}

@@ -1,0 +1,16 @@
+//! The packed domain: the plain one, of a job that a type tells.
+ghost use Rattle.std.specs.Prelude.{◌≡◌};
+ghost use Rattle.disp_core.specs.Courses.{fixed_by};
+
+use crate::job::Job;
+use std::marker::PhantomData;
+use view_core::domain::PlainDomain;
+
+/// A job that is analysed, as the plain domain has it, and as a type tells it.
+#[derive(Drop)]
+pub struct PackedDomain<'a, J: Job> {
+    pub plain: PlainDomain<'a>,
+    pub job: PhantomData<J>,
+    pub ghost planned: { plain.plan.now ≡ J.plan },
+    pub ghost so_fixed: { fixed_by plain.given ≡ J.fixed },
+}

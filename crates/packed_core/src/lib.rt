@@ -1,0 +1,22 @@
+//! A packed way to keep views: a view is a row of words, the number of its scene and then bits, and rows are found by their hash.
+#![tactic(auto)]
+
+mod before;
+mod branches;
+mod classes;
+mod cross;
+pub mod domain;
+mod entries;
+mod find;
+mod hints;
+pub mod job;
+mod keep;
+mod masks;
+mod notes;
+mod room;
+mod rooms;
+pub mod row_list;
+mod scenes;
+pub mod view;
+pub mod views;
+mod words;

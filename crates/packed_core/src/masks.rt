@@ -1,0 +1,75 @@
+//! The tests that a step meets, by the code with which it ends.
+ghost use Rattle.std.specs.Prelude.{◌≡◌, ◌<◌, ◌+◌, ◌/◌, ℕ, IfOk, length, slice_index_or};
+ghost use Rattle.packed_core.specs.Classes.{AreMasks, IsMask, bit_at};
+ghost use Rattle.packed_core.specs.Rooms.{IsSmall};
+
+use crate::classes::Class;
+use crate::room::Room;
+use crate::rooms::words_of;
+use crate::words::mark;
+use jcl_plan::outcome::{Code, Outcome};
+use jcl_plan::plan::Test;
+use std::alloc::{AllocError, Global};
+use view_core::bits::{codes_at, met_by};
+
+/// The bit of a test that is kept, by its place among them.
+fn bit_at(room: Room, i: usize) -> usize
+    requires small { IsSmall room }
+    requires place { i < room.job + room.left }
+    ensures { result ≡ bit_at room i }
+{
+    if i < room.job {
+        i + 1
+    } else {
+        i + room.passed + 1
+    }
+}
+
+/// A row without bits, of no scene.
+pub(crate) fn blank(alloc: Global, room: Room) -> Result<Vec<u64>, AllocError>
+    requires { IsSmall room }
+    ensures size { IfOk result (λ row. length row.items ≡ 2 + (room.job + room.passed + room.left) / 64) }
+    ensures zeros { IfOk result (λ row. (j : ℕ) → slice_index_or row.items j 0 ≡ 0) }
+{
+    vec![in alloc; 0u64; words_of(room)]
+}
+
+/// The tests that step n meets, which ends by a code, as bits.
+fn mask_of(
+    alloc: Global,
+    n: usize,
+    tests: &[Test],
+    room: Room,
+    code: Code,
+) -> Result<Vec<u64>, AllocError>
+    requires small { IsSmall room }
+    requires kept { length tests.now ≡ room.job + room.left }
+    ensures { IfOk result (λ mask. IsMask n tests.now room code mask.items) }
+{
+    let mut mask = blank(alloc, room)?;
+    for (i, test) in tests.iter().enumerate() {
+        let met = met_by(test, n, Outcome::Code(code));
+        mark(mask.as_mut_slice(), bit_at(room, i), met);
+    }
+    Ok(mask)
+}
+
+/// The classes of codes by which step n may end, where these tests are kept behind it.
+pub(crate) fn classes_of(
+    alloc: Global,
+    n: usize,
+    tests: &[Test],
+    room: Room,
+) -> Result<Vec<Class>, AllocError>
+    requires small { IsSmall room }
+    requires kept { length tests.now ≡ room.job + room.left }
+    ensures { IfOk result (λ classes. AreMasks n tests.now room classes.items) }
+{
+    let codes = codes_at(alloc, n, tests)?;
+    let mut classes = Vec::new(alloc);
+    for code in codes.representatives() {
+        let mask = mask_of(alloc, n, tests, room, *code)?;
+        classes.push(Class { code: *code, mask })?;
+    }
+    Ok(classes)
+}
