@@ -13,21 +13,26 @@ use disp_core::course::Given;
 use jcl_meaning::names::{HeldName, names_of};
 use jcl_meaning::state::KeyMeaning;
 use jcl_plan::plan::JobPlan;
+use packed_core::domain::PackedDomain;
+use packed_core::job::Job;
 use part_laws::start_fits;
 use path_search::search::analyse_over;
 use path_search::verdict::Verdict;
 use std::alloc::{AllocError, Global};
+use std::marker::{Brand, PhantomData};
 use store_core::meanings::meanings_of;
 use view_core::domain::PlainDomain;
 
-/// The analysis of a job that holds these names, and whose keys mean this.
-fn analyse_holding<'a>(
+/// The analysis of a job that holds these names, and whose keys mean this. A type tells the job, so that its views are kept apart from others.
+fn analyse_holding<'a, J: Job + Drop>(
     alloc: Global,
     plan: &'a JobPlan,
     start: &'a StartView,
     names: &'a [HeldName],
     meanings: &'a [KeyMeaning],
 ) -> Result<Verdict, AllocError>
+    requires planned { plan.now ≡ J.plan }
+    requires so_fixed { fixed_from start.now plan.now ≡ J.fixed }
     requires plan { IsWellFormedPlan plan.now }
     requires groups { HasSoundGroups (store_of start.now.store) }
     requires names { names.now ≡ names_of plan.now }
@@ -42,11 +47,15 @@ fn analyse_holding<'a>(
         meanings,
         date: start.date,
     };
-    let domain = PlainDomain {
+    let plain = PlainDomain {
         plan,
         names,
         store: &start.store,
         given,
+    };
+    let domain: PackedDomain<'_, J> = PackedDomain {
+        plain,
+        job: PhantomData,
     };
     analyse_over(
         alloc,
@@ -65,5 +74,5 @@ pub fn analyse(alloc: Global, plan: &JobPlan, start: &StartView) -> Result<Verdi
 {
     let meanings = meanings_of(alloc, plan, &start.store)?;
     let names = names_of(alloc, plan)?;
-    analyse_holding(alloc, plan, start, names.as_slice(), meanings.as_slice())
+    analyse_holding::<Brand>(alloc, plan, start, names.as_slice(), meanings.as_slice())
 }
