@@ -1,7 +1,10 @@
 -- What a session writes.
-use Rattle.std.specs.Prelude.{◌≡◌, ℕ, ◌≤◌, ◌<◌, List, ◌∷◌, ◌++◌, length, map, take}
+use Rattle.std.specs.Prelude.{◌≡◌, ℕ, ◌≤◌, ◌<◌, List, [], ◌∷◌, ◌++◌, length, map, take}
 use Rattle.std.specs.List.{flat_map}
 use Rattle.jcl_plan.specs.declared.entry.Entry.{Entry}
+use Rattle.jcl_plan.specs.declared.entry.Entry.TheVariants as entry
+use Rattle.jcl_plan.specs.declared.fault.Cause.TheVariants as cause
+use Rattle.jcl_plan.specs.declared.fault.EventFault.TheVariants as event_fault
 use Rattle.jcl_plan.specs.Lines.{text_of}
 use Rattle.cb_meaning.specs.declared.layout.TheConstants.{LAYOUT_1}
 use Rattle.input_core.specs.declared.event.Event.{Event}
@@ -11,6 +14,10 @@ use Rattle.world_meaning.specs.Transitions.{Runs}
 use Rattle.session_text.specs.declared.statement.Statement.{Statement}
 use Rattle.session_core.specs.Sessions.{configuration_of, denoting_of, events_in, events_of, refuses_in, world_at_start}
 use Rattle.session_core.specs.declared.Options.{Options}
+
+-- the line of an event past the last that is done
+abbrev pub past_limit : List Entry
+past_limit = entry.Refused (cause.A event_fault.PastLimit) ∷ []
 
 -- the lines of events as text
 abbrev pub text_of_all : List (List Entry) → List ℕ

@@ -4,7 +4,7 @@ ghost use Rattle.std.specs.Io.KnownBytes.{Appends};
 ghost use Rattle.std.specs.List.{flat_map};
 ghost use Rattle.jcl_plan.specs.Lines.{text_of};
 ghost use Rattle.session_text.specs.declared.statement.Statement.{Statement};
-ghost use Rattle.session_core.specs.Listings.{StopsIn};
+ghost use Rattle.session_core.specs.Listings.{StopsIn, past_limit};
 ghost use Rattle.session_core.specs.Marks.{AreMarks};
 ghost use Rattle.session_core.specs.Outcomes.{IsOutcome, WritesOutcome, is_write_fault};
 ghost use Rattle.session_core.specs.Sessions.{Session};
@@ -16,12 +16,16 @@ use crate::stream::Sink;
 use crate::transfer::write_text;
 use crate::{SessionEnd, SessionFault};
 use jcl_plan::entry::Entry;
+use jcl_plan::fault::{Cause, EventFault};
 use plain::draft::Draft;
 use std::alloc::{AllocError, Global};
 use std::io::Write;
 
 /// So many bytes of lines are written out before the next statement runs.
 pub const MOST_HELD: usize = 65_536;
+
+/// The line of an event past the last that is done.
+const PAST_LIMIT: &[u8] = b"-- REFUSED A5\n";
 
 /// Where the lines of a statement begin in the held text, and its own first line.
 #[derive(Clone, Copy)]
@@ -54,7 +58,22 @@ impl Listing {
         ensures err { OnErr result (self.new.text.kept ≡ self.old.text.kept) }
         ensures marks { self.new.marks.items ≡ self.old.marks.items }
     {
+        if is_past_limit(entries) {
+            return self.add_past_limit();
+        }
         write_lines(entries, &mut self.text)?;
+        self.text.keep();
+        Ok(())
+    }
+
+    /// Holds the line of an event past the last that is done, whose text is always the same.
+    fn add_past_limit(&mut self) -> Result<(), AllocError>
+        ensures ok { OnOk result (self.new.text.kept ≡ self.old.text.kept ++ flat_map text_of past_limit) }
+        ensures err { OnErr result (self.new.text.kept ≡ self.old.text.kept) }
+        ensures marks { self.new.marks.items ≡ self.old.marks.items }
+    {
+        self.text.discard();
+        self.text.push(PAST_LIMIT)?;
         self.text.keep();
         Ok(())
     }
@@ -104,6 +123,16 @@ impl Listing {
             Ok(()) => outcome,
             Err(fault) => Err(fault),
         }
+    }
+}
+
+/// Whether lines are those of an event past the last that is done, of which a session may have millions.
+fn is_past_limit(entries: &[Entry]) -> bool
+    ensures { result ≡ true → entries.now ≡ past_limit }
+{
+    match entries {
+        [Entry::Refused(Cause::A(EventFault::PastLimit))] => true,
+        _ => false,
     }
 }
 
