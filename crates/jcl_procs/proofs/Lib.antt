@@ -2,3 +2,4 @@ pub mod Reached
 pub mod Overridden
 pub mod Conditioned
 pub mod Called
+pub mod Settled

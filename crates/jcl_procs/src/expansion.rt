@@ -18,7 +18,7 @@ use card_core::read::{ReadError as CardsError, read_statements};
 use card_core::statement::Statement;
 use jcl_cards::dd::DdCard;
 use jcl_cards::exec::{ExecCard, Runs};
-use jcl_cards::merging::by_itself;
+use jcl_cards::merging::settle_dd;
 use jcl_cards::procedure::procedure_card;
 use jcl_deck::deck::{DeckStep, Procedure};
 use jcl_deck::operation::{Operation, operation_of};
@@ -222,15 +222,21 @@ fn condition_or_none(condition: &Option<Condition>) -> Condition
     }
 }
 
-/// The DDs of a step of the deck itself.
-fn each_by_itself(alloc: Global, dds: Listed<DdCard>) -> Result<Listed<DdCard>, AllocError>
-    ensures { IfOk result (λ own. own ≡ map by_itself dds) }
+fn settle_each(dds: &mut [DdCard])
+    ensures { dds.new ≡ map by_itself dds.old }
 {
-    let mut own = Vec::new(alloc);
-    for dd in dds.into_vec() {
-        own.push(by_itself(dd))?;
+    for dd in dds.iter_mut() {
+        settle_dd(dd);
     }
-    Ok(Listed::new(own))
+}
+
+/// The DDs of a step of the deck itself.
+fn each_by_itself(dds: Listed<DdCard>) -> Listed<DdCard>
+    ensures { result ≡ map by_itself dds }
+{
+    let mut own = dds.into_vec();
+    settle_each(own.as_mut_slice());
+    Listed::new(own)
 }
 
 /// A step of the deck itself: no DD of it is for a procedure's step.
@@ -251,7 +257,7 @@ fn plain_step(
         call: None,
         program,
         condition: condition_or_none(&exec.condition),
-        dds: each_by_itself(alloc, dds)?,
+        dds: each_by_itself(dds),
     };
     let mut steps = Listed::empty(alloc);
     steps.push(step)?;
