@@ -21,8 +21,12 @@ tests/document_rows.py makes this table.
 A row is named by its document and the heading over it, or by its file. In a session \\XY is the byte of these two
 digits of sixteen.
 """
-# A program that keeps its options and the session which it is given.
-KEEPER = "#!/bin/sh\necho \"$@\" >'{0}.options'\ncat >'{0}'\n"
+# A program that keeps its options and the session which it is given. Help and the version are asked for without a session.
+KEEPER = """#!/bin/sh
+case $1 in --help | --version) exit 2 ;; esac
+echo "$@" >'{0}.options'
+cat >'{0}'
+"""
 
 
 def heading_over(text, example):

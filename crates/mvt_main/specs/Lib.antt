@@ -1,3 +1,1 @@
-pub mod CommandLines
-pub mod Examples
 pub mod Programs

@@ -1,13 +1,13 @@
 -- What the program ends with.
-use Rattle.std.specs.Prelude.{◌≡◌, ℕ, List, [], ◌++◌, codes, decimal, Option, Result, Ok, Err}
+use Rattle.std.specs.Prelude.{◌≡◌, ℕ, Bool, List, [], ◌++◌, codes, decimal, Option, Result, Ok, Err}
 use Rattle.std.specs.Bool.{OnTrue}
 use Rattle.std.specs.Io.KnownBytes.{Appends}
-use Rattle.std.specs.declared.io.ErrorKind.{ErrorKind as IoKind}
-use Rattle.std.specs.declared.io.ErrorKind.TheVariants.{OutOfMemory as HasNoMemory}
 use Rattle.clap.specs.Words.{Text, kind_of}
 use Rattle.clap.specs.declared.error.Error.{Error}
-use Rattle.clap.specs.declared.error.kind.ErrorKind.{ErrorKind}
-use Rattle.clap.specs.declared.error.kind.ErrorKind.TheVariants.{OutOfMemory as WantsMemory}
+use Rattle.option_core.specs.CommandLines.{IsRead}
+use Rattle.option_core.specs.Endings.{EndsUnrun, prompt_of}
+use Rattle.option_core.specs.declared.ended.Ended.{Ended}
+use Rattle.option_core.specs.declared.options.Asked.{Asked}
 use Rattle.session_core.specs.declared.Options.{Options}
 use Rattle.session_core.specs.declared.SessionEnd.{SessionEnd}
 use Rattle.session_core.specs.declared.SessionFault.{SessionFault}
@@ -16,8 +16,6 @@ use Rattle.session_core.specs.Failures.{AreTold}
 use Rattle.session_core.specs.Outcomes.{IsRun}
 use Rattle.session_core.specs.Streams.{SinkState, SourceState}
 use Rattle.session_text.specs.FaultNumbers.{number_of}
-use Rattle.mvt_main.specs.CommandLines.{IsRead, misuse_status}
-use Rattle.mvt_main.specs.declared.program.Ended.{Ended}
 use Rattle.mvt_main.specs.declared.report.Message.{Message}
 use Rattle.mvt_main.specs.declared.report.Message.TheVariants.{Nothing, Fault, OutOfMemory}
 
@@ -46,38 +44,26 @@ pub record IsReported (o : Options) (source source_after : SourceState) (sink si
   pub failures : AreTold source_after.failed sink_after.failed outcome
   pub told : answer ≡ reported outcome
 
--- a session was run with these options, and what is told of it is said, where all of that was written
-pub record EndsSession (o : Options) (source source_after : SourceState) (sink sink_after : SinkState) (errors errors_after : Option (List ℕ))
-    (answer : Ended) : Type 0 where
+-- A session was run with these options, and what is told of it is said, where all of that was written. Before it stands from where a
+-- session is read, where that is a terminal.
+pub record EndsSession (o : Options) (at_terminal : Bool) (source source_after : SourceState) (sink sink_after : SinkState)
+    (errors errors_after : Option (List ℕ)) (answer : Ended) : Type 0 where
   pub message : Message
   pub reported : IsReported o source source_after sink sink_after (answer.status, message)
-  pub said : OnTrue answer.said (Appends errors errors_after (said_of message))
-
--- Nothing was run, for an error of this kind. What is said of a command line is the text of that error, of which nothing is claimed.
-pub record EndsUnrun (kind : ErrorKind) (errors errors_after : Option (List ℕ)) (answer : Ended) : Type 0 where
-  pub status : answer.status ≡ misuse_status kind
-  pub said : kind ≡ WantsMemory → OnTrue answer.said (Appends errors errors_after (said_of OutOfMemory))
-
--- so where the words of the command line could not be had
-abbrev pub unread_status : IoKind → ℕ
-unread_status HasNoMemory = 3
-unread_status _ = 2
-
-pub record EndsUnread (kind : IoKind) (errors errors_after : Option (List ℕ)) (answer : Ended) : Type 0 where
-  pub status : answer.status ≡ unread_status kind
-  pub said : kind ≡ HasNoMemory → OnTrue answer.said (Appends errors errors_after (said_of OutOfMemory))
+  pub said : OnTrue answer.said (Appends errors errors_after (prompt_of (codes "mvt") at_terminal ++ said_of message))
 
 -- The program ended: the words were read, and with the options that they ask for a session was run; or they ask for none, and neither
 -- stream was called.
-abbrev pub EndsAs : Result Options Error → SourceState → SourceState → SinkState → SinkState → Option (List ℕ) → Option (List ℕ) → Ended
-    → Type 0
-EndsAs (Ok options) source source_after sink sink_after errors errors_after answer =
-    EndsSession options source source_after sink sink_after errors errors_after answer
-EndsAs (Err error) source source_after sink sink_after errors errors_after answer =
+abbrev pub EndsAs : Result Asked Error → Bool → SourceState → SourceState → SinkState → SinkState → Option (List ℕ) → Option (List ℕ)
+    → Ended → Type 0
+EndsAs (Ok asked) at_terminal source source_after sink sink_after errors errors_after answer =
+    EndsSession asked.options at_terminal source source_after sink sink_after errors errors_after answer
+EndsAs (Err error) at_terminal source source_after sink sink_after errors errors_after answer =
     (source_after ≡ source) × (sink_after ≡ sink) × EndsUnrun (kind_of error) errors errors_after answer
 
-pub record IsEnded (words : List Text) (source source_after : SourceState) (sink sink_after : SinkState)
+-- the words are those of the program `mvt`, which has no option of its own
+pub record IsEnded (words : List Text) (at_terminal : Bool) (source source_after : SourceState) (sink sink_after : SinkState)
     (errors errors_after : Option (List ℕ)) (answer : Ended) : Type 0 where
-  pub read : Result Options Error
-  pub read_so : IsRead words read
-  pub ends : EndsAs read source source_after sink sink_after errors errors_after answer
+  pub read : Result Asked Error
+  pub read_so : IsRead (codes "mvt") [] words read
+  pub ends : EndsAs read at_terminal source source_after sink sink_after errors errors_after answer

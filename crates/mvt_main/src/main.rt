@@ -1,16 +1,15 @@
 //! The program `mvt`: it reads a session on standard input and writes its listing on standard output.
 #![tactic(auto)]
 
-pub mod laws;
-mod options;
 mod program;
 mod report;
 #[cfg(test)]
 mod tests;
 
-use crate::program::{run_program, unread_words};
+use crate::program::run_program;
+use option_core::ended::end_unread;
 use session_core::stream::{Sink, Source};
-use std::io;
+use std::io::{self, IsTerminal};
 use std::process::ExitCode;
 
 /// The words of the command line, the program's own name first.
@@ -21,6 +20,7 @@ fn words_of(rt: &HostRuntime) -> io::Result<Vec<String>> {
 
 fn main(rt: HostRuntime) -> ExitCode {
     let mut input = rt.stdin();
+    let at_terminal = input.is_terminal();
     let mut output = rt.stdout();
     let mut errors = rt.stderr();
     let mut source = Source::new(&mut input);
@@ -29,11 +29,12 @@ fn main(rt: HostRuntime) -> ExitCode {
         Ok(words) => run_program(
             rt.alloc(),
             words.as_slice(),
+            at_terminal,
             &mut source,
             &mut sink,
             &mut errors,
         ),
-        Err(error) => unread_words(&mut errors, &error),
+        Err(error) => end_unread(&mut errors, &error),
     };
     ExitCode::from(ended.status)
 }

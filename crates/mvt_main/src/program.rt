@@ -1,26 +1,31 @@
 //! What the program does, over its streams: its status, and what it says on the stream of errors.
-ghost use Rattle.std.specs.Prelude.{◌≡◌, false, map};
+ghost use Rattle.std.specs.Prelude.{◌≡◌, [], codes, false, map};
 ghost use Rattle.std.specs.Bool.{OnTrue};
 ghost use Rattle.std.specs.Io.KnownBytes.{Appends};
-ghost use Rattle.std.specs.IoError.{error_kind};
-ghost use Rattle.clap.specs.Words.{kind_of};
 ghost use Rattle.session_core.specs.Streams.{sink_state, source_state};
-ghost use Rattle.mvt_main.specs.Programs.{EndsUnread, EndsUnrun, IsEnded, said_of};
+ghost use Rattle.mvt_main.specs.Programs.{EndsSession, IsEnded, said_of};
 
-use crate::options::{misuse_status, read_options};
-use crate::report::{MISUSE, Message, WANT_OF_MEMORY, session_report};
-use clap::Error;
+use crate::report::{Message, session_report};
+use option_core::ended::{Ended, end_unrun, prompt};
+use option_core::options::read_words;
+use option_core::program::Program;
+use session_core::Options;
 use session_core::stream::{Sink, Source};
 use std::alloc::Global;
 use std::convert::AsStr;
-use std::io::{self, Read, Write};
+use std::io::{Read, Write};
 
-/// How the program ended.
-#[derive(Clone, Copy, PartialEq, Eq)]
-pub struct Ended {
-    pub status: u8,
-    /// All that there was to say was written.
-    pub said: bool,
+/// The program, as its command line and its help speak of it. It has no option of its own.
+fn mvt<'a>() -> Program<'a>
+    ensures name { result.name.now ≡ codes "mvt" }
+    ensures flags { result.flags.now ≡ [] }
+{
+    Program {
+        name: "mvt",
+        about: "Reads a session on standard input and writes its listing on standard output",
+        usage: "mvt [OPTIONS] < SESSION",
+        flags: &[],
+    }
 }
 
 /// Says it. `true` where all of it was written.
@@ -33,56 +38,46 @@ pub fn say<E: Write>(errors: &mut E, message: Message) -> bool
     }
 }
 
-/// Says why the command line is not taken, or what it may hold.
-fn misuse<E: Write>(errors: &mut E, error: &Error) -> Ended
-    ensures { EndsUnrun (kind_of error.now) (E.contents errors.old) (E.contents errors.new) result }
-{
-    let status = misuse_status(error.kind());
-    let said = if status == WANT_OF_MEMORY {
-        say(errors, Message::OutOfMemory)
-    } else {
-        write!(errors, "{error}").is_ok()
-    };
-    Ended { status, said }
-}
-
-/// Says why the words of the command line could not be had.
-pub fn unread_words<E: Write>(errors: &mut E, error: &io::Error) -> Ended
-    ensures { EndsUnread (error_kind error.now) (E.contents errors.old) (E.contents errors.new) result }
-{
-    if error.kind() == io::ErrorKind::OutOfMemory {
-        Ended {
-            status: WANT_OF_MEMORY,
-            said: say(errors, Message::OutOfMemory),
-        }
-    } else {
-        Ended {
-            status: MISUSE,
-            said: write!(errors, "error: {error}\n").is_ok(),
-        }
-    }
-}
-
-/// Runs the session of the source, as the words of the command line ask, and writes its listing to the sink. Where the words ask for no
-/// run, neither is called.
-pub fn run_program<S: AsStr, R: Read, W: Write, E: Write>(
+/// Says from where a session is read, where that is a terminal. Then runs the session of the source, and says how it ended.
+fn end_session<R: Read, W: Write, E: Write>(
     alloc: Global,
-    words: &[S],
+    at_terminal: bool,
+    options: Options,
     source: &mut Source<'_, R>,
     sink: &mut Sink<'_, W>,
     errors: &mut E,
 ) -> Ended
     requires source_unfailed { source.old.failed ≡ false }
     requires sink_unfailed { sink.old.failed ≡ false }
-    ensures { IsEnded (map S.text words.now) (source_state R.remaining source.old) (source_state R.remaining source.new)
+    ensures { EndsSession options at_terminal (source_state R.remaining source.old) (source_state R.remaining source.new)
         (sink_state W.contents sink.old) (sink_state W.contents sink.new) (E.contents errors.old) (E.contents errors.new) result }
 {
-    match read_options(alloc, words) {
-        Ok(options) => {
-            let (status, message) = session_report(alloc, source, sink, options);
-            let said = say(errors, message);
-            Ended { status, said }
-        }
-        Err(error) => misuse(errors, &error),
+    let prompted = prompt(errors, "mvt", at_terminal);
+    let (status, message) = session_report(alloc, source, sink, options);
+    let said = say(errors, message);
+    Ended {
+        status,
+        said: prompted && said,
+    }
+}
+
+/// Runs the session of the source, as the words of the command line ask, and writes its listing to the sink. Where the words ask for no
+/// run, neither is called. Whether the source is a terminal decides only whether it is said from where a session is read.
+pub fn run_program<S: AsStr, R: Read, W: Write, E: Write>(
+    alloc: Global,
+    words: &[S],
+    at_terminal: bool,
+    source: &mut Source<'_, R>,
+    sink: &mut Sink<'_, W>,
+    errors: &mut E,
+) -> Ended
+    requires source_unfailed { source.old.failed ≡ false }
+    requires sink_unfailed { sink.old.failed ≡ false }
+    ensures { IsEnded (map S.text words.now) at_terminal (source_state R.remaining source.old) (source_state R.remaining source.new)
+        (sink_state W.contents sink.old) (sink_state W.contents sink.new) (E.contents errors.old) (E.contents errors.new) result }
+{
+    match read_words(alloc, &mvt(), words) {
+        Ok(asked) => end_session(alloc, at_terminal, asked.options, source, sink, errors),
+        Err(error) => end_unrun(errors, &error),
     }
 }

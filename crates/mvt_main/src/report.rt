@@ -3,23 +3,12 @@ ghost use Rattle.std.specs.Prelude.{◌≡◌, Some, false};
 ghost use Rattle.session_core.specs.Streams.{sink_state, source_state};
 ghost use Rattle.mvt_main.specs.Programs.{IsReported, reported, text_of};
 
+use option_core::ended::{ALL_READ, SESSION_FAULT, WANT_OF_MEMORY};
 use session_core::stream::{Sink, Source};
 use session_core::{Options, SessionEnd, SessionFault, run_streams};
 use std::alloc::Global;
 use std::fmt;
 use std::io::{Read, Write};
-
-/// The status of a session of which all was read.
-pub const ALL_READ: u8 = 0;
-
-/// The status of a session with a fault.
-pub const SESSION_FAULT: u8 = 1;
-
-/// The status of a command line that cannot be used, or that asks for help.
-pub const MISUSE: u8 = 2;
-
-/// The status where memory is wanting.
-pub const WANT_OF_MEMORY: u8 = 3;
 
 /// What is said on standard error.
 #[derive(Clone, Copy, PartialEq, Eq)]

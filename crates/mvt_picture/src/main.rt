@@ -1,15 +1,15 @@
 //! The program `mvt-picture`: it reads a session on standard input and writes a picture of it in SVG on standard output.
 #![tactic(auto)]
 
-mod options;
 mod program;
 mod session;
 mod watch;
 
-use crate::options::read_words;
-use crate::program::{Ended, end_unread, run_program};
+use crate::program::{mvt_picture, run_program};
+use option_core::ended::{end_unread, end_unrun, prompt};
+use option_core::options::read_words;
 use session_core::stream::Source;
-use std::io;
+use std::io::{self, IsTerminal};
 use std::process::ExitCode;
 
 /// The words of the command line, the program's own name first.
@@ -19,16 +19,27 @@ fn words_of(rt: &HostRuntime) -> io::Result<Vec<String>> {
 }
 
 fn main(rt: HostRuntime) -> ExitCode {
+    let program = mvt_picture();
     let mut input = rt.stdin();
+    let at_terminal = input.is_terminal();
     let mut output = rt.stdout();
     let mut errors = rt.stderr();
     let mut source = Source::new(&mut input);
     let ended = match words_of(&rt) {
-        Ok(words) => match read_words(rt.alloc(), words.as_slice()) {
-            Ok(options) => run_program(rt.alloc(), options, &mut source, &mut output, &mut errors),
-            Err(error) => end_unread(&mut errors, &error),
+        Ok(words) => match read_words(rt.alloc(), &program, words.as_slice()) {
+            Ok(asked) => {
+                prompt(&mut errors, program.name, at_terminal);
+                run_program(
+                    rt.alloc(),
+                    asked.options,
+                    &mut source,
+                    &mut output,
+                    &mut errors,
+                )
+            }
+            Err(error) => end_unrun(&mut errors, &error),
         },
-        Err(_) => Ended { status: 2 },
+        Err(error) => end_unread(&mut errors, &error),
     };
     ExitCode::from(ended.status)
 }

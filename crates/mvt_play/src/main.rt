@@ -1,13 +1,13 @@
 //! The program `mvt-play`: it reads a session on standard input, plays it on until nothing moves, and writes its listing on standard output.
 #![tactic(auto)]
 
-mod options;
 mod program;
 
-use crate::options::read_words;
-use crate::program::{Ended, end_unread, run_program};
+use crate::program::{mvt_play, run_program};
+use option_core::ended::{end_unread, end_unrun, prompt};
+use option_core::options::read_words;
 use session_core::stream::{Sink, Source};
-use std::io;
+use std::io::{self, IsTerminal};
 use std::process::ExitCode;
 
 /// The words of the command line, the program's own name first.
@@ -17,17 +17,22 @@ fn words_of(rt: &HostRuntime) -> io::Result<Vec<String>> {
 }
 
 fn main(rt: HostRuntime) -> ExitCode {
+    let program = mvt_play();
     let mut input = rt.stdin();
+    let at_terminal = input.is_terminal();
     let mut output = rt.stdout();
     let mut errors = rt.stderr();
     let mut source = Source::new(&mut input);
     let mut sink = Sink::new(&mut output);
     let ended = match words_of(&rt) {
-        Ok(words) => match read_words(rt.alloc(), words.as_slice()) {
-            Ok(asked) => run_program(rt.alloc(), asked, &mut source, &mut sink, &mut errors),
-            Err(error) => end_unread(&mut errors, &error),
+        Ok(words) => match read_words(rt.alloc(), &program, words.as_slice()) {
+            Ok(asked) => {
+                prompt(&mut errors, program.name, at_terminal);
+                run_program(rt.alloc(), &asked, &mut source, &mut sink, &mut errors)
+            }
+            Err(error) => end_unrun(&mut errors, &error),
         },
-        Err(_) => Ended { status: 2 },
+        Err(error) => end_unread(&mut errors, &error),
     };
     ExitCode::from(ended.status)
 }

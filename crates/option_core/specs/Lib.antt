@@ -1,0 +1,3 @@
+pub mod CommandLines
+pub mod Endings
+pub mod Examples
