@@ -73,6 +73,20 @@ def refusals_without_row():
                     yield f"{document}: no row has {letter}{number}"
 
 
+def rows_told_otherwise():
+    """The rows of the table of refusals of decks that say something else than crates/refusal_text/src/table.rt."""
+    source = text_of("crates/refusal_text/src/table.rt")
+    texts = re.findall(r"letter: b'(\w)',\s+number: (\d+),\s+wrong: \"(.*?)\",\s+to_do: \"(.*?)\",", source)
+    told = {f"{letter}{number}": (wrong, to_do) for letter, number, wrong, to_do in texts}
+    rows = re.findall(r"^\| ([CNP]\d+) \| (.*) \| (.*) \|$", text_of("docs/REFUSALS.md"), re.M)
+    for number, wrong, to_do in rows:
+        if told.pop(number, None) != (wrong.replace("`", ""), to_do.replace("`", "")):
+            yield f"docs/REFUSALS.md: the table of refusal_text has other words for {number}"
+    for number in told:
+        if not number.startswith("Q"):
+            yield f"docs/REFUSALS.md: no row has {number}, which refusal_text has"
+
+
 def deck_with(typed):
     """A deck that has this statement, or this operation with its operand, where it belongs."""
     job, step = "//J JOB 1", "//S EXEC PGM=IEFBR14"
@@ -112,7 +126,7 @@ def faults_told_otherwise(program):
 def main():
     os.chdir(os.path.join(os.path.dirname(os.path.abspath(__file__)), ".."))
     program = os.path.abspath(sys.argv[1] if len(sys.argv) > 1 else "mvt")
-    wrong = [*refusals_without_row(), *typed_and_told_otherwise(program), *faults_told_otherwise(program)]
+    wrong = [*refusals_without_row(), *rows_told_otherwise(), *typed_and_told_otherwise(program), *faults_told_otherwise(program)]
     for document in ["README.md", *sorted(glob.glob("docs/*.md")), "bench/README.md", "examples/shop/README.md"]:
         wrong += [f"{document}: {said}" for said in [*examples_that_differ(document, program), *long_lines(document)]]
         count = len([*examples_of(document)])

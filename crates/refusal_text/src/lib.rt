@@ -1,0 +1,4 @@
+//! Refusals of decks in words. (This profile)
+#![tactic(auto)]
+
+pub mod table;
