@@ -1,0 +1,5 @@
+pub mod Cards
+pub mod Cuts
+pub mod Judged
+pub mod Statements
+pub mod Walked

@@ -1,0 +1,6 @@
+pub mod Cards
+pub mod Cuts
+pub mod Judging
+pub mod Places
+pub mod Statements
+pub mod Walks

@@ -1,0 +1,102 @@
+//! Which statement brings a refusal of a deck's calls or of its plan.
+ghost use Rattle.std.specs.Prelude.{◌≡◌, IfOk, true};
+ghost use Rattle.deck_places.specs.Cuts.{BringsRefusal, cut, plan_part, refuses, refuses_deck};
+
+use crate::copies::cut;
+use crate::part::Part;
+use card_core::statement::Statement;
+use jcl_deck::deck::Deck;
+use jcl_deck::read::read_deck;
+use jcl_plan::fault::{Cause, StatementFault};
+use jcl_procs::expansion::expand;
+use jcl_refs::plan::plan_of;
+use jcl_refs::units::UnitNames;
+use proc_library::library::ProcLibrary;
+use std::alloc::{AllocError, Global};
+use value_core::refusal::ReadError;
+
+/// What a deck is read with: the names of units, and the procedures of the session.
+#[derive(Clone, Copy)]
+pub(crate) struct Sources<'a> {
+    pub(crate) units: &'a UnitNames,
+    pub(crate) library: &'a ProcLibrary,
+}
+
+/// The part of a plan that a refusal of it belongs to.
+pub(crate) fn plan_part(cause: Cause) -> u8
+    ensures { result ≡ plan_part cause }
+{
+    match cause {
+        Cause::P(StatementFault::TooManySteps) => 1,
+        Cause::P(StatementFault::TooManyNames) => 3,
+        Cause::P(StatementFault::UnknownUnit) => 4,
+        _ => 2,
+    }
+}
+
+impl<'a> Sources<'a> {
+    /// Whether a deck is refused by its calls, or by a part of its plan.
+    fn refuses_deck(&self, alloc: Global, part: Part, deck: Deck) -> Result<bool, AllocError>
+        ensures { IfOk result (λ refused. refused ≡ refuses_deck part self.now.units.now self.now.library.now deck) }
+    {
+        let Deck {
+            job,
+            procedures,
+            steps,
+        } = deck;
+        let steps = match expand(alloc, self.library, procedures.as_slice(), steps) {
+            Ok(steps) => steps,
+            Err(ReadError::Refused(_)) => return Ok(part == Part::Calls),
+            Err(ReadError::Memory) => return Err(AllocError),
+        };
+        let Part::Plan(number) = part else {
+            return Ok(false);
+        };
+        match plan_of(alloc, self.units, job, steps) {
+            Ok(_) => Ok(false),
+            Err(ReadError::Refused(cause)) => Ok(plan_part(cause) == number),
+            Err(ReadError::Memory) => Err(AllocError),
+        }
+    }
+
+    /// Whether the deck that is cut behind so many statements is refused so.
+    fn refuses_cut(
+        &self,
+        alloc: Global,
+        part: Part,
+        statements: &[Statement],
+        count: usize,
+    ) -> Result<bool, AllocError>
+        ensures { IfOk result (λ refused. refused ≡ refuses part self.now.units.now self.now.library.now (cut count statements.now)) }
+    {
+        let kept = cut(alloc, statements, count)?;
+        match read_deck(alloc, kept) {
+            Ok(deck) => self.refuses_deck(alloc, part, deck),
+            Err(ReadError::Refused(_)) => Ok(false),
+            Err(ReadError::Memory) => Err(AllocError),
+        }
+    }
+
+    /// A statement with which a refusal comes that the whole deck has.
+    pub(crate) fn bringer(
+        &self,
+        alloc: Global,
+        part: Part,
+        statements: &[Statement],
+    ) -> Result<usize, AllocError>
+        requires { refuses part self.now.units.now self.now.library.now statements.now ≡ true }
+        ensures { IfOk result (BringsRefusal part self.now.units.now self.now.library.now statements.now) }
+    {
+        let mut low = 0;
+        let mut high = statements.len();
+        while low + 1 < high {
+            let middle = low + (high - low) / 2;
+            if self.refuses_cut(alloc, part, statements, middle)? {
+                high = middle;
+            } else {
+                low = middle;
+            }
+        }
+        Ok(low)
+    }
+}
