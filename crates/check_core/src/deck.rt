@@ -1,0 +1,107 @@
+//! What is wrong with a deck.
+ghost use Rattle.std.specs.Prelude.{◌≡◌, IfOk};
+ghost use Rattle.check_core.specs.Reports.{AreTold};
+
+use crate::guess::guess_of;
+use crate::known::is_known;
+use crate::mark::spot_of;
+use crate::mended::Mended;
+use crate::report::{Checked, Report, Spot};
+use card_core::statement::Card;
+use deck_places::judge::{At, Judged, judge};
+use jcl_plan::fault::Cause;
+use jcl_refs::units::UnitNames;
+use proc_library::library::ProcLibrary;
+use std::alloc::{AllocError, Global};
+
+/// The most that is told of one deck.
+pub const MOST_REPORTS: usize = 100;
+
+/// What a deck is read with: the names of units, and the procedures of the session.
+#[derive(Clone, Copy)]
+pub struct Sources<'a> {
+    pub units: &'a UnitNames,
+    pub library: &'a ProcLibrary,
+}
+
+/// A card of the deck as it was.
+fn own_card(mended: &Mended, card: Option<usize>) -> Option<usize> {
+    match card {
+        Some(n) => Some(mended.own_card(n)),
+        None => None,
+    }
+}
+
+/// What is told of a refusal.
+fn report_of(alloc: Global, mended: &Mended, cause: Cause, at: At) -> Result<Report, AllocError>
+    ensures { IfOk result (λ r. (r.cause ≡ cause) × (r.at ≡ at)) }
+{
+    let spot = spot_of(alloc, mended, cause, at)?;
+    let guess = guess_of(alloc, mended, cause, spot)?;
+    let spot = Spot {
+        card: own_card(mended, spot.card),
+        column: spot.column,
+    };
+    Ok(Report {
+        cause,
+        at,
+        spot,
+        guess,
+    })
+}
+
+/// What else is wrong, once the first refusal is mended.
+fn later_of(
+    alloc: Global,
+    sources: &Sources<'_>,
+    mended: &mut Mended,
+    cause: Cause,
+    at: At,
+) -> Result<Vec<Report>, AllocError> {
+    let mut later = Vec::new(alloc);
+    let mut cause = cause;
+    let mut at = at;
+    for _ in 0..MOST_REPORTS {
+        if !mended.mend(alloc, cause, at)? {
+            break;
+        }
+        let lent = mended.lent(alloc)?;
+        let Judged::Refused(next, place) = judge(
+            alloc,
+            sources.units,
+            sources.library,
+            lent.as_slice(),
+        )?
+        else {
+            break;
+        };
+        cause = next;
+        at = place;
+        let is_known = match mended.span_at(alloc, at)? {
+            Some(span) => is_known(mended, cause, span),
+            None => true,
+        };
+        if !is_known {
+            later.push(report_of(alloc, mended, cause, at)?)?;
+        }
+    }
+    Ok(later)
+}
+
+/// All that is wrong with a deck: first that for which it is refused.
+pub fn check_deck(
+    alloc: Global,
+    sources: &Sources<'_>,
+    lines: &[Card<'_>],
+) -> Result<Checked, AllocError>
+    ensures { IfOk result (AreTold sources.now.units.now sources.now.library.now lines.now) }
+{
+    let (cause, at) = match judge(alloc, sources.units, sources.library, lines)? {
+        Judged::Taken(plan) => return Ok(Checked::Taken(plan)),
+        Judged::Refused(cause, at) => (cause, at),
+    };
+    let mut mended = Mended::of(alloc, lines)?;
+    let first = report_of(alloc, &mended, cause, at)?;
+    let later = later_of(alloc, sources, &mut mended, cause, at)?;
+    Ok(Checked::Refused { first, later })
+}

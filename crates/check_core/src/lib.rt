@@ -1,0 +1,11 @@
+//! Decks looked at for all that is wrong with them, one refusal after another. (This profile)
+#![tactic(auto)]
+
+pub mod deck;
+mod guess;
+mod known;
+mod mark;
+mod mended;
+pub mod report;
+pub mod text;
+pub mod warnings;

@@ -1,0 +1,278 @@
+//! A deck whose refused statements are replaced, so that the rest of it can be looked at.
+use card_core::card::{Kind, card_of, kind_of};
+use card_core::field::fields_of;
+use card_core::statement::{Card, DataCard};
+use deck_places::judge::At;
+use deck_places::walk::walk_lines;
+use jcl_plan::fault::{Cause, StatementFault};
+use plain::lent::Lent;
+use plain::text::Text;
+use std::alloc::{AllocError, Global};
+
+/// The columns of a card.
+const COLUMNS: usize = 80;
+
+/// How often a card was replaced.
+#[derive(Clone, Copy, PartialEq, Eq)]
+pub(crate) enum Touched {
+    Never,
+    /// By a good statement of its name.
+    Once,
+    /// By a comment.
+    Twice,
+}
+
+/// The cards that a statement takes: from the first, to before the last.
+#[derive(Clone, Copy)]
+pub(crate) struct Span {
+    pub(crate) from: usize,
+    pub(crate) to: usize,
+}
+
+/// A deck that is mended.
+#[derive(Drop)]
+pub(crate) struct Mended {
+    pub(crate) lines: Vec<Text>,
+    pub(crate) touched: Vec<Touched>,
+    /// The names of statements that were replaced.
+    pub(crate) names: Vec<Text>,
+    /// A JOB statement was put in front.
+    pub(crate) has_job_in_front: bool,
+}
+
+/// The card of a line, if it is one.
+pub(crate) fn card_at(lines: &[Text], n: usize) -> Option<DataCard> {
+    match lines.get(n) {
+        None => None,
+        Some(line) => match card_of(line.as_slice()) {
+            Ok(card) => Some(card),
+            Err(_) => None,
+        },
+    }
+}
+
+/// A good statement in the place of one with this name and this operation; nothing in the place of another.
+fn good_statement(
+    alloc: Global,
+    name: &[u8],
+    operation: &[u8],
+) -> Result<Option<Vec<u8>>, AllocError> {
+    let (other, rest): (&[u8], &[u8]) = if operation == b"JOB".as_slice() {
+        (b"MENDED".as_slice(), b" JOB 1".as_slice())
+    } else if operation == b"EXEC".as_slice() {
+        (b"".as_slice(), b" EXEC PGM=IEFBR14".as_slice())
+    } else if operation == b"DD".as_slice() {
+        (b"MENDED".as_slice(), b" DD DUMMY".as_slice())
+    } else {
+        return Ok(None);
+    };
+    let name = if is_good(name) { name } else { other };
+    let mut text = Vec::from_slice(alloc, b"//")?;
+    text.extend_from_slice(name)?;
+    text.extend_from_slice(rest)?;
+    Ok(Some(text))
+}
+
+/// Whether a name can stay: it has the characters of names alone, and not too many.
+fn is_good(name: &[u8]) -> bool {
+    let begins = match name.first() {
+        Some(c) => jname_core::name8::is_first(*c),
+        None => false,
+    };
+    begins
+        && name.len() <= 8
+        && name
+            .iter()
+            .all(|c| jname_core::name8::is_name_character(*c))
+}
+
+/// A line as far as it can be a card.
+fn cut_line(alloc: Global, line: &[u8]) -> Result<Text, AllocError> {
+    let mut text = Vec::new(alloc);
+    for c in line.iter().take(COLUMNS) {
+        let c = if 0x20 <= *c && *c <= 0x7e { *c } else { b' ' };
+        text.push(c)?;
+    }
+    Ok(Text::new(text))
+}
+
+impl Mended {
+    /// The deck as it is.
+    pub(crate) fn of(alloc: Global, lines: &[Card<'_>]) -> Result<Mended, AllocError> {
+        let mut copies = Vec::new(alloc);
+        let mut touched = Vec::new(alloc);
+        for line in lines {
+            copies.push(Text::copy_of(alloc, line.as_slice())?)?;
+            touched.push(Touched::Never)?;
+        }
+        Ok(Mended {
+            lines: copies,
+            touched,
+            names: Vec::new(alloc),
+            has_job_in_front: false,
+        })
+    }
+
+    /// Its lines.
+    pub(crate) fn lent<'a>(&'a self, alloc: Global) -> Result<Vec<Lent<'a>>, AllocError> {
+        let mut lent = Vec::new(alloc);
+        for line in &self.lines {
+            lent.push(Lent::new(line.as_slice()))?;
+        }
+        Ok(lent)
+    }
+
+    /// The first card behind one that ends the deck, or all of them.
+    fn end_behind(&self, from: usize, to: usize) -> usize {
+        for n in from..to {
+            if let Some(card) = card_at(self.lines.as_slice(), n) {
+                if kind_of(&card) == Kind::Null {
+                    return n;
+                }
+            }
+        }
+        to
+    }
+
+    /// The cards of the statement of a number.
+    fn span_of(&self, begun: &[usize], k: usize) -> Option<Span> {
+        let from = *begun.get(k)?;
+        let to = match begun.get(k + 1) {
+            Some(next) => *next,
+            None => self.lines.len(),
+        };
+        let to = self.end_behind(from, to);
+        Some(Span { from, to })
+    }
+
+    /// The cards of the place where the deck is refused.
+    pub(crate) fn span_at(&self, alloc: Global, at: At) -> Result<Option<Span>, AllocError> {
+        let lent = self.lent(alloc)?;
+        let begun = walk_lines(alloc, lent.as_slice())?.begun;
+        let begun = begun.as_slice();
+        match at {
+            At::Card(n) => {
+                let from = match begun.last() {
+                    Some(first) if *first <= n => *first,
+                    _ => n,
+                };
+                Ok(Some(Span {
+                    from,
+                    to: n.saturating_add(1),
+                }))
+            }
+            At::Statement(k) | At::Call(k) | At::Planned(_, k) => Ok(self.span_of(begun, k)),
+            At::End => Ok(None),
+        }
+    }
+
+    /// The cards of a statement; of a PROC statement those of the procedure, to its PEND statement.
+    fn whole_span(&self, span: Span) -> Span {
+        match card_at(self.lines.as_slice(), span.from) {
+            Some(card) if fields_of(&card).operation == b"PROC".as_slice() => {}
+            _ => return span,
+        }
+        for n in span.to..self.lines.len() {
+            if let Some(card) = card_at(self.lines.as_slice(), n) {
+                if kind_of(&card) == Kind::Jcl && fields_of(&card).operation == b"PEND".as_slice() {
+                    return Span {
+                        from: span.from,
+                        to: n + 1,
+                    };
+                }
+            }
+        }
+        span
+    }
+
+    /// Whether a card of these was replaced.
+    pub(crate) fn is_touched(&self, span: Span) -> bool {
+        for n in span.from..span.to {
+            match self.touched.get(n) {
+                Some(Touched::Once) | Some(Touched::Twice) => return true,
+                _ => {}
+            }
+        }
+        false
+    }
+
+    /// Puts a text in the place of a card.
+    fn put(&mut self, n: usize, text: Text, touched: Touched) {
+        if n < self.lines.len() && n < self.touched.len() {
+            self.lines[n] = text;
+            self.touched[n] = touched;
+        }
+    }
+
+    /// Puts comments in the place of cards.
+    fn comment(&mut self, alloc: Global, span: Span, touched: Touched) -> Result<(), AllocError> {
+        for n in span.from..span.to {
+            self.put(n, Text::copy_of(alloc, b"//*")?, touched);
+        }
+        Ok(())
+    }
+
+    /// Puts a good statement in the place of a statement.
+    fn replace(&mut self, alloc: Global, span: Span) -> Result<(), AllocError> {
+        let again = self.is_touched(span);
+        let card = card_at(self.lines.as_slice(), span.from);
+        if again {
+            return self.comment(alloc, span, Touched::Twice);
+        }
+        self.comment(alloc, span, Touched::Once)?;
+        let Some(card) = card else { return Ok(()) };
+        if kind_of(&card) != Kind::Jcl {
+            return Ok(());
+        }
+        let name = fields_of(&card).name;
+        self.names.push(Text::copy_of(alloc, name)?)?;
+        if let Some(text) = good_statement(alloc, name, fields_of(&card).operation)? {
+            self.put(span.from, Text::new(text), Touched::Once);
+        }
+        Ok(())
+    }
+
+    /// Puts a JOB statement in front.
+    fn put_job(&mut self, alloc: Global) -> Result<(), AllocError> {
+        self.lines
+            .insert(0, Text::copy_of(alloc, b"//MENDED JOB 1")?)?;
+        self.touched.insert(0, Touched::Once)?;
+        self.has_job_in_front = true;
+        Ok(())
+    }
+
+    /// The card of the deck as it was.
+    pub(crate) fn own_card(&self, n: usize) -> usize {
+        if self.has_job_in_front {
+            n.saturating_sub(1)
+        } else {
+            n
+        }
+    }
+
+    /// Mends what is refused. `false` where nothing can be mended.
+    pub(crate) fn mend(&mut self, alloc: Global, cause: Cause, at: At) -> Result<bool, AllocError> {
+        if at == At::Statement(0)
+            && cause == Cause::P(StatementFault::NotOneJob)
+            && !self.has_job_in_front
+        {
+            self.put_job(alloc)?;
+            return Ok(true);
+        }
+        if let (At::Card(n), Cause::C(1) | Cause::C(2)) = (at, cause) {
+            let cut = match self.lines.get(n) {
+                Some(line) => cut_line(alloc, line.as_slice())?,
+                None => return Ok(false),
+            };
+            self.put(n, cut, Touched::Once);
+            return Ok(true);
+        }
+        match self.span_at(alloc, at)? {
+            Some(span) => {
+                self.replace(alloc, self.whole_span(span))?;
+                Ok(true)
+            }
+            None => Ok(false),
+        }
+    }
+}

@@ -1,0 +1,107 @@
+//! What is accepted of a deck and rarely meant.
+use crate::guess::is_keyword_of;
+use card_core::card::{Kind, card_of, kind_of};
+use card_core::field::{fields_of, operand_text};
+use card_core::statement::{Card, DataCard};
+use itoa::Buffer;
+use jname_core::name8::is_name_character;
+use std::alloc::AllocError;
+
+/// The first column, from 0, that is not read, and the last before it.
+const LAST_READ: usize = 70;
+
+/// What a card warns of.
+#[derive(Clone, Copy, PartialEq, Eq)]
+enum Warning {
+    /// A `./` line.
+    Swallowed,
+    /// Text stands on both sides of the end of column 71.
+    Cut,
+    /// A comment begins as a keyword of the statement does.
+    Comment,
+    /// A JOBLIB.
+    JobLibrary,
+}
+
+/// What is said of it.
+fn words_of(warning: Warning) -> &'static [u8] {
+    match warning {
+        Warning::Swallowed => b"a ./ line is a card of this deck: a ./ END is wanting before it",
+        Warning::Cut => b"the text is cut behind column 71",
+        Warning::Comment =>
+            b"a blank ends the operand: what looks like a keyword behind it is a comment",
+        Warning::JobLibrary => b"JOBLIB is dropped: programs are those of ./ PROGRAM",
+    }
+}
+
+/// Whether text stands on both sides of the end of column 71.
+fn is_cut(card: &DataCard) -> bool {
+    card[LAST_READ] != b' ' && card[LAST_READ + 1] != b' '
+}
+
+/// Whether the comment of a card begins as a keyword of the statement does.
+fn has_keyword_in_comment(card: &DataCard) -> bool {
+    let text = fields_of(card).behind;
+    let Some(operand) = operand_text(text) else {
+        return false;
+    };
+    let (_, behind) = text.split_at(operand.len().min(text.len()));
+    let blanks = behind.iter().take_while(|c| **c == b' ').count();
+    let (_, comment) = behind.split_at(blanks.min(behind.len()));
+    let len = comment
+        .iter()
+        .take_while(|c| is_name_character(**c))
+        .count();
+    let (word, rest) = comment.split_at(len.min(comment.len()));
+    rest.first() == Some(&b'=') && is_keyword_of(fields_of(card).operation, word)
+}
+
+/// What a card warns of, if of anything.
+fn warning_of(line: &[u8]) -> Option<Warning> {
+    if line.starts_with(b"./ ") {
+        return Some(Warning::Swallowed);
+    }
+    let Ok(card) = card_of(line) else {
+        return None;
+    };
+    if kind_of(&card) != Kind::Jcl {
+        return None;
+    }
+    if is_cut(&card) {
+        return Some(Warning::Cut);
+    }
+    if has_keyword_in_comment(&card) {
+        return Some(Warning::Comment);
+    }
+    if fields_of(&card).name == b"JOBLIB".as_slice()
+        && fields_of(&card).operation == b"DD".as_slice()
+    {
+        return Some(Warning::JobLibrary);
+    }
+    None
+}
+
+/// Writes a warning, with its line of the session, which counts from 1.
+pub fn push_warning(text: &mut Vec<u8>, line: usize, words: &[u8]) -> Result<(), AllocError> {
+    let mut buffer = Buffer::new();
+    text.extend_from_slice(b"line ")?;
+    text.extend_from_slice(buffer.format(line as u64).as_bytes())?;
+    text.extend_from_slice(b": warning: ")?;
+    text.extend_from_slice(words)?;
+    text.push(b'\n')?;
+    Ok(())
+}
+
+/// Writes what the cards of a deck warn of. Its first card stands on this line of the session.
+pub fn push_warnings(
+    text: &mut Vec<u8>,
+    first_line: usize,
+    lines: &[Card<'_>],
+) -> Result<(), AllocError> {
+    for (n, line) in lines.iter().enumerate() {
+        if let Some(warning) = warning_of(line.as_slice()) {
+            push_warning(text, first_line.saturating_add(n), words_of(warning))?;
+        }
+    }
+    Ok(())
+}
