@@ -22,8 +22,8 @@ use Rattle.jcl_cards.specs.declared.coded.Coded.{Coded}
 use Rattle.jcl_cards.specs.declared.dd.DdCard.{DdCard}
 use Rattle.jcl_cards.specs.declared.dd.Word.{Word}
 use Rattle.jcl_cards.specs.Beside.{fault_of}
-use Rattle.jcl_cards.specs.DdCards.{card_of, dd_name, dd_name_faults, dd_name_of, dd_with, is_key, label, positional_faults, qualifier_of, spelled, sysout, unknown_on_dd, word_of}
-use Rattle.jcl_cards.specs.Dds.{coding, excluded_faults}
+use Rattle.jcl_cards.specs.DdCards.{dd_name, dd_name_faults, dd_with, is_key, label, positional_faults, spelled, sysout, unknown_on_dd}
+use Rattle.jcl_cards.specs.Dds.{excluded_faults}
 use Rattle.jcl_cards.specs.Keywords.{coded_in, twice_faults}
 use Rattle.jcl_cards.proofs.DdWords.{dd_faults, faults_same}
 

@@ -16,7 +16,7 @@ use Rattle.jcl_cards.specs.declared.coded.Coded.{Coded}
 use Rattle.jcl_cards.specs.declared.dd.Word.{Word}
 use Rattle.jcl_cards.specs.declared.dd.Word.TheVariants.{Cards, Dummy}
 use Rattle.jcl_cards.specs.declared.given.Given.{Given}
-use Rattle.jcl_cards.specs.DdCards.{any_text, card_of, dd_name, dd_name_faults, dd_with, excludes, has_two_words, is_key, is_read_word, keyword_faults, label, positional_faults, spelled, sysout, unknown_on_dd, word_of}
+use Rattle.jcl_cards.specs.DdCards.{any_text, card_of, dd_name, dd_name_faults, dd_with, excludes, has_two_words, is_key, is_read_word, keyword_faults, label, positional_faults, spelled, sysout, word_of}
 use Rattle.jcl_cards.specs.Dds.{excluded_faults, given_in, given_on, is_coded, is_data_word, is_excluded}
 use Rattle.jcl_cards.specs.Keywords.{and_later, coded_in, coded_text, is_given, twice_faults}
 

@@ -5,21 +5,16 @@ use Rattle.jcl_plan.specs.declared.fault.Cause.{Cause}
 use Rattle.jcl_plan.specs.declared.fault.Cause.TheVariants.{P}
 use Rattle.jcl_plan.specs.declared.fault.StatementFault.TheVariants.{ExcludeOneAnother}
 use Rattle.operand_core.specs.Faults.{name_faults, when}
-use Rattle.operand_core.specs.Operands.{Keyword, Operand, first_of}
+use Rattle.operand_core.specs.Operands.{Keyword, first_of}
 use Rattle.operand_core.specs.Qualified.{head_of}
 use Rattle.list_values.specs.ControlBlocks.{control_blocks}
 use Rattle.value_core.specs.declared.reference.DdReference.{DdReference}
-use Rattle.value_core.specs.Dispositions.{disposition}
 use Rattle.value_core.specs.Reads.{Read}
-use Rattle.value_core.specs.SetNames.{set_name}
-use Rattle.value_core.specs.Spaces.{space}
-use Rattle.value_core.specs.Units.{unit}
-use Rattle.value_core.specs.VolumeNames.{volume_name}
 use Rattle.jcl_cards.specs.declared.coded.Coded.{Coded}
 use Rattle.jcl_cards.specs.declared.dd.DdCard.{DdCard}
 use Rattle.jcl_cards.specs.declared.given.Given.{Given}
-use Rattle.jcl_cards.specs.DdCards.{any_text, behind_period, dd_name, dd_name_faults, dd_name_of, has_data, has_set_keyword, has_word, is_key, keyword_faults, positional_faults, spelled, is_read_word, is_word, label, qualifier_of, sysout}
-use Rattle.jcl_cards.specs.Keywords.{coded_in, is_given, twice_faults}
+use Rattle.jcl_cards.specs.DdCards.{any_text, behind_period, dd_name_faults, dd_name_of, has_data, has_set_keyword, has_word, is_key, is_read_word, is_word, qualifier_of}
+use Rattle.jcl_cards.specs.Keywords.{coded_in, is_given}
 
 -- whether a keyword is coded
 abbrev pub coding : List ℕ → List Keyword → Coded (Unit {0})

@@ -43,9 +43,6 @@ module _ (row : List ℕ) (i : ℕ) (within : i / 64 + 1 < length row) where
         | inr other ↦ subst (λ n. n < 2 ^ 64) (sym (get_or-set_other row (i / 64 + 1) j word_marked 0 other)) (fits j)
       ]
 
-  pub mark_first : get_or marked 0 0 ≡ get_or row 0 0
-  mark_first = get_or-set_other row (i / 64 + 1) 0 word_marked 0 (λ e. omega arith)
-
 -- a row without bits
 pub no_bits : (row : List ℕ) → ((j : ℕ) → get_or row j 0 ≡ 0) → (k : ℕ) → bit row k ≡ false
 no_bits row none k = ap (λ n. n == 1) (ap (λ n. bit_at n (k % 64)) (none (k / 64 + 1)) ∙ bit_at-zero (k % 64))
@@ -93,9 +90,6 @@ module _ (row : List ℕ) (i : ℕ) (within : i / 64 + 1 < length row) where
             (omega (arith, and_le_l (get_or row (i / 64 + 1) 0) (bit_not w64 (1 * 2 ^ (i % 64) % 2 ^ 64)), fits (i / 64 + 1)))
         | inr other ↦ subst (λ n. n < 2 ^ 64) (sym (get_or-set_other row (i / 64 + 1) j word_cleared 0 other)) (fits j)
       ]
-
-  pub clear_first : get_or cleared 0 0 ≡ get_or row 0 0
-  clear_first = get_or-set_other row (i / 64 + 1) 0 word_cleared 0 (λ e. omega arith)
 
 -- bits in two pieces
 pub any_pieces : (n m s : ℕ) (row : List ℕ) →

@@ -1,5 +1,5 @@
 -- A row beside the mask of a class of codes.
-use Rattle.std.proofs.Common.{◌≡◌, ◌++◌, ◌∷◌, ◌∙◌, ◌+◌, ℕ, zero, suc, Bool, false, List, [], length, map, zip, refl, sym, ap, arith}
+use Rattle.std.proofs.Common.{◌≡◌, ◌++◌, ◌∷◌, ◌∙◌, ◌+◌, ℕ, zero, suc, Bool, List, [], length, map, zip, refl, sym, ap, arith}
 use Rattle.std.specs.Prelude.{◌||◌}
 use Rattle.jcl_plan.specs.declared.outcome.Outcome.TheVariants as outcome
 use Rattle.jcl_plan.specs.declared.plan.Test.{Test}
@@ -7,7 +7,7 @@ use Rattle.jcl_meaning.specs.History.{met_by}
 use Rattle.view_core.specs.Bits.{bits_ended}
 use Rattle.packed_core.specs.declared.room.Room.{Room}
 use Rattle.packed_core.specs.Classes.{IsMask}
-use Rattle.packed_core.specs.Words.{AreWords, IsRow, bit, bits_from, met_of}
+use Rattle.packed_core.specs.Words.{bit, bits_from, met_of}
 use Rattle.packed_core.proofs.Rows.{length-bits}
 
 -- bits, one by one beside others
@@ -36,17 +36,6 @@ module _ (row mask all : List ℕ) (each : (k : ℕ) → bit all k ≡ (bit mask
       (λ i. joined_from room.job 1 i ++ joined_from room.left behind i)
       ∙ sym (beside_append (bits_from room.job 1 mask) (bits_from room.left behind mask) (bits_from room.job 1 row) (bits_from room.left behind row)
       (length-bits room.job 1 mask ∙ sym (length-bits room.job 1 row)))
-
-  neither : (k : ℕ) → bit mask k ≡ false → bit row k ≡ false → bit all k ≡ false
-  neither k a b = each k ∙ (λ i. a i || b i)
-
-  pub joined_row : (room : Room) → IsRow room mask → IsRow room row → length all ≡ length row → AreWords all → IsRow room all
-  joined_row room of_mask of_row many within = record {
-    size = many ∙ of_row.size;
-    within = within;
-    gap = λ i low high. neither i (of_mask.gap i low high) (of_row.gap i low high);
-    beyond = λ i high. neither i (of_mask.beyond i high) (of_row.beyond i high);
-  }
 
   -- the tests are met that step n meets, which ended by a code of the class, and those that were met before
   pub joined_ended : (n : ℕ) (tests : List Test) (room : Room) (code : ℕ) → IsMask n tests room code mask →

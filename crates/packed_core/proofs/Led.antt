@@ -1,5 +1,5 @@
 -- A view led over a part, by what rows tell.
-use Rattle.std.proofs.Common.{◌≡◌, ◌++◌, ◌∷◌, ◌∙◌, ◌+◌, Global, ℕ, Bool, List, [], Option, Vec, ap, append_assoc, drop, get_or, length, map, subst, sym}
+use Rattle.std.proofs.Common.{◌≡◌, ◌∷◌, ◌∙◌, ◌+◌, Global, ℕ, Bool, List, [], Option, Vec, ap, drop, get_or, length, map, subst, sym}
 use Rattle.std.specs.Prelude.{Err, Ok, Result}
 use Rattle.cond_core.specs.Classes.{AreClasses}
 use Rattle.jcl_plan.specs.declared.outcome.Abend.TheVariants.{User}
@@ -35,15 +35,6 @@ use Rattle.packed_core.specs.Words.{bit, met_of}
 use Rattle.packed_core.proofs.Passing.{after_is}
 use Rattle.packed_core.proofs.Rows.{same_met}
 use Rattle.packed_core.proofs.ShownRows.{scene_stays, shown_like}
-
--- scenes came twice behind others
-pub more_and_more : (a b c : Views) → HasMoreScenes a b → HasMoreScenes b c → HasMoreScenes a c
-more_and_more a b c h g = record {
-  more = h.more ++ g.more;
-  scenes = g.scenes ∙ ap (λ (l : List Scene). l ++ g.more) h.scenes ∙ append_assoc a.scenes h.more g.more;
-  part = g.part ∙ h.part;
-  rows = g.rows ∙ h.rows;
-}
 
 -- an end keeps its place where scenes came behind the others
 pub placed_still : (plan : JobPlan) (date : ℕ) (old new : Views) (end : Result Scene Stop) (number : Result ℕ Stop) → HasMoreScenes old new →

@@ -60,13 +60,6 @@ module _ (plan : JobPlan) (k : ℕ) (step : StepPlan) (after : List StepPlan) (i
   left_is : here.left ≡ own + next.left
   left_is = ap count_in is ∙ ap (λ (l : List StepPlan). own + count_in l) (sym after_is)
 
-  pub next_kept : length (kept_tests plan.tests.items after) ≡ next.job + next.left
-  next_kept = kept_length plan.tests.items after ∙ ap (λ (l : List StepPlan). length plan.tests.items + count_in l) (sym after_is)
-
-  -- where they stand in a row
-  pub own_within : own ≤ here.left
-  own_within = omega (arith, left_is)
-
   -- the bits of the step's own tests in a row before it
   pub own_met : (row : List ℕ) → take own (drop (length plan.tests.items) (met_of here row)) ≡ bits_from own (here.job + here.passed + 1) row
   own_met row =

@@ -1,9 +1,7 @@
 -- Elements of a list by their places.
-use Rattle.std.proofs.Common.{◌≡◌, inl, inr, ◌++◌, ◌∷◌, ◌∙◌, ◌+◌, ◌-◌, ◌<◌, ℕ, zero, suc, Bool, true, false, List, [], Some, length, take, drop, refl, sym}
-use Rattle.std.proofs.Common.{ap, subst, arith, get_or, map}
-use Rattle.std.specs.Prelude.{Contains, Decides, slice_get}
-use Rattle.std.proofs.lemmas.Bool.{cases_lt}
-use Rattle.std.proofs.lemmas.Bool.Decides.{not_from_Decides}
+use Rattle.std.proofs.Common.{◌≡◌, ◌++◌, ◌∷◌, ◌<◌, ℕ, zero, suc, List, [], Some, length, refl, sym}
+use Rattle.std.proofs.Common.{ap, arith, get_or, map}
+use Rattle.std.specs.Prelude.{slice_get}
 use Rattle.std.proofs.lemmas.Option.{same_Some}
 
 pub got_below : {X : Type 0} (xs : List X) (i : ℕ) (x : X) → slice_get xs i ≡ Some x → i < length xs
@@ -35,37 +33,6 @@ pub got_back : {X : Type 0} (xs : List X) (y : X) (i : ℕ) (x : X) → i < leng
 got_back [] y i x h e = absurd (omega arith)
 got_back (z ∷ xs) y zero x h e = e
 got_back (z ∷ xs) y (suc i) x h e = got_back xs y i x (omega arith) e
-
-one_of : {X : Type 0} (xs : List X) (i : ℕ) (x : X) → slice_get xs i ≡ Some x → take 1 (drop i xs) ≡ x ∷ []
-one_of [] i x e = absurd cc
-one_of (y ∷ xs) zero x e = ap (λ z. z ∷ []) (same_Some y x e)
-one_of (y ∷ xs) (suc i) x e = one_of xs i x e
-
-contained : {Y : Type 0} (y v : Y) (k : ℕ) → k < 1 → get_or (y ∷ []) k v ≡ v → y ≡ v
-contained y v zero h e = e
-contained y v (suc k) h e = absurd (omega arith)
-
--- a test of one element of a list
-module _ {X Y : Type 0} (f : X → Y) (xs : List X) (i : ℕ) (x : X) (v : Y) (there : slice_get xs i ≡ Some x) (b : Bool)
-    (tells : Decides b (Contains (map f (take (i + 1 - i) (drop i xs))) v)) where
-  alone : map f (take (i + 1 - i) (drop i xs)) ≡ f x ∷ []
-  alone = ap (λ n. map f (take n (drop i xs))) (let e : i + 1 - i ≡ 1 = omega arith in e) ∙ ap (map f) (one_of xs i x there)
-
-  pub same_there : b ≡ true → f x ≡ v
-  same_there e = let c : Contains (f x ∷ []) v = subst (λ l. Contains l v) alone (tells.0 e) in contained (f x) v c.0 c.1 c.2
-
-  pub other_there : b ≡ false → f x ≡ v → ⊥
-  other_there e same = not_from_Decides b tells e (subst (λ l. Contains l v) (sym alone) (let c : Contains (f x ∷ []) v = (0, omega arith, same) in c))
-
--- and of all up to it
-pub none_upto : {X : Type 0} (xs : List X) (P : X → Type 0) (i : ℕ) (x : X) → slice_get xs i ≡ Some x →
-    ((k : ℕ) (w : X) → k < i → slice_get xs k ≡ Some w → P w) →
-    P x → (k : ℕ) (w : X) → k < i + 1 → slice_get xs k ≡ Some w → P w
-none_upto xs P i x there before here k w below at =
-    elim (cases_lt k i) [
-      | inl h ↦ before k w h at
-      | inr h ↦ subst P (same_Some x w (sym there ∙ ap (slice_get xs) (let e : i ≡ k = omega arith in e) ∙ at)) here
-    ]
 
 pub got_read : {X : Type 0} (xs : List X) (n : ℕ) (x : X) → n < length xs → x ≡ get_or xs n x → slice_get xs n ≡ Some x
 got_read [] n x h e = absurd (omega arith)

@@ -1,6 +1,6 @@
 use Rattle.std.proofs.Common.{◌≡◌, sym, ap, ◌∙◌}
 use Rattle.operand_core.specs.Faults.{told}
-use Rattle.operand_core.specs.Operands.{Operand, first_of}
+use Rattle.operand_core.specs.Operands.{Operand}
 use Rattle.operand_core.proofs.SameOperand.{operand_is}
 use Rattle.value_core.specs.Reads.{answer}
 use Rattle.jcl_cards.specs.DdCards.{dd_with, positional_faults, word_of}

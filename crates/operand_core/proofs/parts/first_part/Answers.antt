@@ -1,4 +1,4 @@
-use Rattle.std.proofs.Common.{◌+◌, ◌∷◌, drop, sym, ap, ◌∙◌}
+use Rattle.std.proofs.Common.{◌∷◌, sym, ap, ◌∙◌}
 use Rattle.operand_core.specs.Operands.{places_of}
 use Rattle.operand_core.proofs.Calm.{calm_part, one_part}
 use Rattle.operand_core.proofs.parts.first_part.Goals as goal
