@@ -1,10 +1,13 @@
-pub mod SameRows
 pub mod Bits
 pub mod Rows
 pub mod JoinedRows
 pub mod Telling
 pub mod Places
 pub mod Standing
+pub mod Joining
+pub mod Indexing
+pub mod Chains
+pub mod Skipping
 pub mod Adding
 pub mod TestBits
 pub mod ShownRows
@@ -15,3 +18,4 @@ pub mod Led
 pub mod Putting
 pub mod Kept
 pub mod Leading
+pub mod Serving

@@ -54,10 +54,10 @@ module _ (plan : JobPlan) (k : ℕ) (step : StepPlan) (after : List StepPlan) (i
   pub after_is : drop (k + 1) plan.steps ≡ after
   after_is = ap (λ (n : ℕ). drop n plan.steps) (add-one k) ∙ behind plan.steps k step after is
 
-  passed_is : next.passed ≡ here.passed + own
+  pub passed_is : next.passed ≡ here.passed + own
   passed_is = ap (λ (n : ℕ). count_in (take n plan.steps)) (add-one k) ∙ passed_more k plan.steps step after is
 
-  left_is : here.left ≡ own + next.left
+  pub left_is : here.left ≡ own + next.left
   left_is = ap count_in is ∙ ap (λ (l : List StepPlan). own + count_in l) (sym after_is)
 
   -- the bits of the step's own tests in a row before it

@@ -1,7 +1,7 @@
 -- Elements of a list by their places.
-use Rattle.std.proofs.Common.{◌≡◌, ◌++◌, ◌∷◌, ◌<◌, ℕ, zero, suc, List, [], Some, length, refl, sym}
+use Rattle.std.proofs.Common.{◌≡◌, ◌++◌, ◌∷◌, ◌∙◌, ◌<◌, ℕ, zero, suc, List, [], Some, length, refl, sym}
 use Rattle.std.proofs.Common.{ap, arith, get_or, map}
-use Rattle.std.specs.Prelude.{slice_get}
+use Rattle.std.specs.Prelude.{Contains, slice_get}
 use Rattle.std.proofs.lemmas.Option.{same_Some}
 
 pub got_below : {X : Type 0} (xs : List X) (i : ℕ) (x : X) → slice_get xs i ≡ Some x → i < length xs
@@ -48,3 +48,27 @@ pub got_past : {X Y : Type 0} (f : X → Y) (xs : List X) (i : ℕ) (y : Y) → 
 got_past f [] i y e = absurd cc
 got_past f (x ∷ xs) zero y e = omega arith
 got_past f (x ∷ xs) (suc i) y e = let h : i < length xs = got_past f xs i y e in omega arith
+
+pub got_or : {X : Type 0} (xs : List X) (i : ℕ) (x d : X) → slice_get xs i ≡ Some x → get_or xs i d ≡ x
+got_or [] i x d e = absurd cc
+got_or (y ∷ xs) zero x d e = same_Some y x e
+got_or (y ∷ xs) (suc i) x d e = got_or xs i x d e
+
+pub contains_got : {X : Type 0} (xs : List X) (i : ℕ) (x : X) → slice_get xs i ≡ Some x → Contains xs x
+contains_got xs i x e = (i, got_below xs i x e, got_or xs i x x e)
+
+pub got_contained : {X : Type 0} (xs : List X) (x : X) → Contains xs x → (i : ℕ) × (slice_get xs i ≡ Some x)
+got_contained xs x c = (c.0, got_read xs c.0 x c.1 (sym c.2))
+
+-- what a list of images has
+pub contains_map : {X Y : Type 0} (f : X → Y) (xs : List X) (x : X) → Contains xs x → Contains (map f xs) (f x)
+contains_map f xs x c = let at = got_contained xs x c in contains_got (map f xs) at.0 (f x) (got_image f xs at.0 x at.1)
+
+pub contains_unmap : {X Y : Type 0} (f : X → Y) (xs : List X) (y : Y) → Contains (map f xs) y → (x : X) × Contains xs x × (f x ≡ y)
+contains_unmap f xs y c =
+    let at = got_contained (map f xs) y c in
+    let there = got_there xs at.0 (got_past f xs at.0 y at.1) in (
+      there.0,
+      contains_got xs at.0 there.0 there.1,
+      same_Some (f there.0) y (sym (got_image f xs at.0 there.0 there.1) ∙ at.1),
+    )

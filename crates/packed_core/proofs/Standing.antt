@@ -5,7 +5,7 @@ use Rattle.std.proofs.lemmas.Bool.{and_parts, eqb-true, or_left, or_right}
 use Rattle.std.proofs.lemmas.Cmp.{nat_list_eq_equiv}
 use Rattle.packed_core.specs.Rows.{has_row, row_at, same_words}
 
-words_same : (a b : List ℕ) → same_words a b ≡ true → a ≡ b
+pub words_same : (a b : List ℕ) → same_words a b ≡ true → a ≡ b
 words_same [] [] e = refl
 words_same [] (y ∷ ys) e = absurd cc
 words_same (x ∷ xs) [] e = absurd cc

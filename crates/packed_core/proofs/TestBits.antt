@@ -12,7 +12,7 @@ use Rattle.jcl_meaning.specs.History.{met_by}
 use Rattle.packed_core.specs.declared.room.Room.{Room}
 use Rattle.packed_core.specs.Classes.{IsMask, bit_at}
 use Rattle.packed_core.specs.Words.{AreWords, bit, bits_from, met_of}
-use Rattle.packed_core.proofs.Places.{got_image, got_there}
+use Rattle.packed_core.proofs.Places.{got_image, got_or, got_there}
 use Rattle.packed_core.proofs.Rows.{length-bits}
 
 not_below : (i n : ℕ) → n ≤ i → nat_lt i n ≡ false
@@ -65,11 +65,6 @@ met_at room row i d h =
           ∙ bits_at room.left (room.job + room.passed + 1) (i - length front) row d (omega (arith, many))
           ∙ ap (bit row) (let e : room.job + room.passed + 1 + (i - length front) ≡ bit_at room i = omega (arith, many, in_steps room i g) in e)
     ]
-
-got_or : {X : Type 0} (xs : List X) (i : ℕ) (x d : X) → slice_get xs i ≡ Some x → get_or xs i d ≡ x
-got_or [] i x d e = absurd cc
-got_or (y ∷ xs) zero x d e = same_Some y x e
-got_or (y ∷ xs) (suc i) x d e = got_or xs i x d e
 
 -- the bits of the tests before one of them
 pub record ArePart (n : ℕ) (tests : List Test) (room : Room) (code i : ℕ) (mask : List ℕ) : Type 0 where

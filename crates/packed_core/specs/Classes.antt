@@ -1,11 +1,10 @@
 -- Classes of codes by which a step may end, as they are kept.
-use Rattle.std.specs.Global.{Global}
-use Rattle.std.specs.Prelude.{◌≡◌, ℕ, ◌+◌, nat_lt, false, if◌then◌else◌, All, List, Vec, Option, IfSome, drop, map, slice_index_or}
+use Rattle.std.specs.Prelude.{◌≡◌, ℕ, ◌+◌, nat_lt, false, if◌then◌else◌, All, List, drop, map, slice_index_or}
 use Rattle.cond_core.specs.Classes.{AreClasses}
 use Rattle.jcl_plan.specs.declared.outcome.Outcome.TheVariants as outcome
 use Rattle.jcl_plan.specs.declared.plan.JobPlan.{JobPlan}
 use Rattle.jcl_plan.specs.declared.plan.Test.{Test}
-use Rattle.jcl_meaning.specs.History.{met_by}
+use Rattle.jcl_meaning.specs.History.{looks_at, met_by}
 use Rattle.view_core.specs.Bits.{kept_tests, looking}
 use Rattle.packed_core.specs.declared.classes.Class.{Class}
 use Rattle.packed_core.specs.declared.room.Room.{Room}
@@ -32,6 +31,6 @@ pub record AreMasks (n : ℕ) (tests : List Test) (room : Room) (classes : List 
 abbrev pub tests_before : JobPlan → ℕ → List Test
 tests_before plan k = kept_tests plan.tests.items (drop k plan.steps)
 
--- those of the step of a part, where they were found
-abbrev pub AreFound : JobPlan → ℕ → Option (Vec Class Global) → Type 0
-AreFound plan k classes = IfSome classes (λ cs. AreMasks (k + 1) (tests_before plan (k + 1)) (room_at plan (k + 1)) cs.items)
+-- a test looks at step n and at the next, or at neither of both
+abbrev pub LooksAlike : ℕ → Test → Type 0
+LooksAlike n test = looks_at test.step n ≡ looks_at test.step (n + 1)

@@ -1,6 +1,7 @@
 pub mod Classes
 pub mod Crossing
 pub mod Entries
+pub mod Indexed
 pub mod Jobs
 pub mod Moving
 pub mod Notes
@@ -10,4 +11,5 @@ pub mod Scenes
 pub mod Shown
 pub mod Starting
 pub mod Views
+pub mod Ways
 pub mod Words

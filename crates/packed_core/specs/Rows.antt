@@ -1,5 +1,5 @@
 -- Rows of words.
-use Rattle.std.specs.Prelude.{◌≡◌, ℕ, Bool, List, [], slice_index_or, nat_eq, Vec}
+use Rattle.std.specs.Prelude.{◌≡◌, ℕ, Bool, false, List, [], Option, None, Some, slice_get, slice_index_or, nat_eq, Vec}
 use Rattle.std.specs.Global.{Global}
 use Rattle.std.specs.Cmp.Lexicographic.{pointwise}
 use Rattle.std.specs.List.{list_any}
@@ -17,6 +17,7 @@ has_row row rows = list_any (same_words row) rows
 abbrev pub row_at : List (List ℕ) → ℕ → List ℕ
 row_at rows n = slice_index_or rows n []
 
--- a set has the rows of a list
-abbrev pub HaveTheSame : List (Vec ℕ Global) → List (Vec ℕ Global) → Type 0
-HaveTheSame set rows = (q : Vec ℕ Global) → list_any (λ k. same_words q.items k.items) set ≡ list_any (λ r. same_words q.items r.items) rows
+-- a row's number, or that it is not among these
+abbrev pub IsFound : List (List ℕ) → List ℕ → Option ℕ → Type 0
+IsFound rows row None = has_row row rows ≡ false
+IsFound rows row (Some n) = slice_get rows n ≡ Some row

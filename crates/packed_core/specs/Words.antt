@@ -1,6 +1,7 @@
 -- Rows of words, by their bits.
 use Rattle.std.specs.Prelude.{◌≡◌, ◌<◌, ◌≤◌, ◌+◌, ◌/◌, ◌%◌, ◌^◌, ◌==◌, ℕ, zero, suc, Bool, false, List, [], ◌∷◌, ◌++◌, length, slice_index_or}
 use Rattle.std.specs.Int.{bit_at}
+use Rattle.std.specs.Int.Bits.{bit_or}
 use Rattle.packed_core.specs.declared.room.Room.{Room}
 
 -- bit i stands behind the first word
@@ -21,6 +22,12 @@ met_of room row = bits_from room.job 1 row ++ bits_from room.left (room.job + ro
 
 abbrev pub AreWords : List ℕ → Type 0
 AreWords row = (j : ℕ) → slice_index_or row j 0 < 2 ^ 64
+
+-- a row with the bits of another beside its own
+abbrev pub joined_words : List ℕ → List ℕ → List ℕ
+joined_words [] mask = []
+joined_words (w ∷ row) [] = []
+joined_words (w ∷ row) (m ∷ mask) = bit_or w m ∷ joined_words row mask
 
 -- A row with room for the ABEND bit and those of all tests, of which those of steps that are behind are clear, and so are all that no test has.
 pub record IsRow (room : Room) (row : List ℕ) : Type 0 where

@@ -1,19 +1,24 @@
-//! The views before a part: their rows, what the part comes to on their scenes, and the classes of codes by which its step may end.
-ghost use Rattle.std.specs.Prelude.{◌≡◌, ◌<◌, ◌+◌, ◌∷◌, IfOk, drop, length, slice_get, slice_index_or, Some};
+//! The views before a part: their rows, what the part comes to on their scenes, and the ways into them.
+ghost use Rattle.std.specs.Prelude.{◌≡◌, ◌<◌, ◌+◌, ◌∷◌, ℕ, List, IfOk, IfSome, drop, length, slice_get, slice_index_or, Some};
 ghost use Rattle.disp_core.specs.Courses.{fixed_by};
 ghost use Rattle.view_core.specs.declared.scene.Scene.{Scene};
 ghost use Rattle.view_core.specs.Legs.{AreLegs, EndsJob};
 ghost use Rattle.packed_core.specs.Classes.{AreMasks, tests_before};
+ghost use Rattle.packed_core.specs.Crossing.{IsStep};
 ghost use Rattle.packed_core.specs.Rooms.{room_at};
 ghost use Rattle.packed_core.specs.Rows.{row_at};
+ghost use Rattle.packed_core.specs.Ways.{AreCompared, AreKept, AreWays};
 ghost use Rattle.packed_core.specs.Words.{IsRow};
 
-use crate::classes::Class;
+use crate::apart::compared;
+use crate::classes::Classes;
 use crate::domain::PackedDomain;
 use crate::job::Job;
-use crate::masks::classes_of;
+use crate::masks::{classes_of, look_alike};
+use crate::row_list::RowList;
 use crate::views::PackedViews;
-use jcl_plan::plan::StepPlan;
+use crate::ways::Ways;
+use jcl_plan::plan::{StepPlan, Test};
 use std::alloc::{AllocError, Global};
 use std::rc::Rc;
 use view_core::bits::kept_tests;
@@ -21,6 +26,19 @@ use view_core::domain::PlainDomain;
 use view_core::legs::Legs;
 use view_core::scene::Scene;
 use view_domain::crossed::Stop;
+
+/// Ways by these classes, of which nothing is noted.
+fn begun(alloc: Global, classes: Rc<Classes>) -> Ways
+    requires { AreCompared classes.value }
+    ensures classes { result.classes ≡ classes }
+    ensures kept { (rows : List (List ℕ)) → AreKept rows result }
+{
+    Ways {
+        classes,
+        notes: Vec::new(alloc),
+        pending: None,
+    }
+}
 
 impl<J: Job> PackedViews<J> {
     /// The row of this number.
@@ -80,36 +98,102 @@ impl<J: Job> PackedViews<J> {
         self.entries[n].end(alloc, plain, abended)
     }
 
-    /// Keeps the classes of codes by which the part's step may end.
-    pub(crate) fn keep_classes(&mut self, classes: Vec<Class>)
-        requires { AreMasks (self.old.part + 1) (tests_before J.plan (self.old.part + 1)) (room_at J.plan (self.old.part + 1)) classes.items }
+    /// The rows of these views.
+    pub(crate) fn standing(&self) -> &RowList
+        ensures { result.now ≡ self.now.rows }
+    {
+        &self.rows
+    }
+
+    /// Keeps the ways into these views.
+    pub(crate) fn keep_ways(&mut self, ways: Ways)
+        requires { AreWays J.plan self.old.part self.old.rows ways }
         ensures same { self.new ≡ self.old }
     {
-        self.classes = Some(classes);
+        self.ways = Some(ways);
+    }
+
+    /// The classes by which the step before these views may end, where they serve for the part's own step, behind which these tests are kept.
+    fn serving(&self, step: &StepPlan, kept: &[Test]) -> Option<&Rc<Classes>>
+        requires part { self.now.part < usize.MAX }
+        requires step { IsStep J.plan self.now.part step.now }
+        requires kept { kept.now ≡ tests_before J.plan (self.now.part + 1) }
+        ensures masks { IfSome result (λ classes. AreMasks (self.now.part + 1) (tests_before J.plan (self.now.part + 1))
+            (room_at J.plan (self.now.part + 1)) classes.now.value.list.items) }
+        ensures compared { IfSome result (λ classes. AreCompared classes.now.value) }
+    {
+        let Some(ways) = &self.ways else {
+            return None;
+        };
+        if !step.tests.as_slice().is_empty() {
+            return None;
+        }
+        if !look_alike(kept, self.part) {
+            return None;
+        }
+        Some(&ways.classes)
+    }
+
+    /// The classes by which the step before these views may end, before which these tests are kept.
+    fn new_classes(&self, alloc: Global, kept: &[Test]) -> Result<Rc<Classes>, AllocError>
+        requires kept { kept.now ≡ tests_before J.plan self.now.part }
+        ensures masks { IfOk result (λ classes. AreMasks self.now.part (tests_before J.plan self.now.part)
+            (room_at J.plan self.now.part) classes.value.list.items) }
+        ensures compared { IfOk result (λ classes. AreCompared classes.value) }
+    {
+        let list = classes_of(alloc, self.part, kept, self.room)?;
+        let classes = compared(alloc, list)?;
+        match Rc::new(alloc, classes) {
+            Ok(classes) => Ok(classes),
+            Err(_) => Err(AllocError),
+        }
     }
 }
 
 impl<'a, J: Job + Drop> PackedDomain<'a, J> {
-    /// The classes of codes by which the part's step may end, taken from where they are kept, or found.
-    pub(crate) fn take_classes(
+    /// The classes of codes by which the part's step may end.
+    fn classes_behind(
         &self,
         alloc: Global,
-        before: &mut PackedViews<J>,
-        behind: &PackedViews<J>,
+        before: &PackedViews<J>,
+        step: &StepPlan,
         later: &[StepPlan],
-    ) -> Result<Vec<Class>, AllocError>
-        requires part { before.old.part < usize.MAX }
-        requires behind { behind.now.part ≡ before.old.part + 1 }
-        requires later { drop (before.old.part + 1) J.plan.steps ≡ later.now }
-        ensures same { before.new ≡ before.old }
-        ensures classes { IfOk result (λ classes. AreMasks (before.old.part + 1) (tests_before J.plan (before.old.part + 1))
-            (room_at J.plan (before.old.part + 1)) classes.items) }
+        behind: &PackedViews<J>,
+    ) -> Result<Rc<Classes>, AllocError>
+        requires part { before.now.part < usize.MAX }
+        requires step { drop before.now.part J.plan.steps ≡ step.now ∷ later.now }
+        requires behind { behind.now.part ≡ before.now.part + 1 }
+        ensures masks { IfOk result (λ classes. AreMasks behind.now.part (tests_before J.plan behind.now.part)
+            (room_at J.plan behind.now.part) classes.value.list.items) }
+        ensures compared { IfOk result (λ classes. AreCompared classes.value) }
     {
-        match before.classes.take() {
-            Some(classes) => Ok(classes),
+        let kept = kept_tests(alloc, self.plain.plan.tests.as_slice(), later)?;
+        match before.serving(step, kept.as_slice()) {
+            Some(classes) => classes.clone(),
+            None => behind.new_classes(alloc, kept.as_slice()),
+        }
+    }
+
+    /// The ways into the views behind a part, taken from where they are kept, or begun.
+    pub(crate) fn take_ways(
+        &self,
+        alloc: Global,
+        before: &PackedViews<J>,
+        step: &StepPlan,
+        later: &[StepPlan],
+        behind: &mut PackedViews<J>,
+    ) -> Result<Ways, AllocError>
+        requires part { before.now.part < usize.MAX }
+        requires step { drop before.now.part J.plan.steps ≡ step.now ∷ later.now }
+        requires behind { behind.old.part ≡ before.now.part + 1 }
+        ensures same { behind.new ≡ behind.old }
+        ensures ways { IfOk result (AreWays J.plan behind.old.part behind.old.rows) }
+    {
+        match behind.ways.take() {
+            Some(ways) => Ok(ways),
             None => {
-                let kept = kept_tests(alloc, self.plain.plan.tests.as_slice(), later)?;
-                classes_of(alloc, before.part + 1, kept.as_slice(), behind.room)
+                let classes = self.classes_behind(alloc, before, step, later, behind)?;
+                Ok(begun(alloc, classes))
             }
         }
     }

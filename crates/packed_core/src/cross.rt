@@ -7,20 +7,20 @@ ghost use Rattle.view_core.specs.declared.scene.Scene.{Scene};
 ghost use Rattle.view_core.specs.Bits.{fate_shown};
 ghost use Rattle.view_core.specs.Legs.{end_of};
 ghost use Rattle.view_core.specs.Shows.{Shows};
-ghost use Rattle.packed_core.specs.Classes.{AreMasks, tests_before};
 ghost use Rattle.packed_core.specs.Crossing.{HasSameBits, IsLedTo, IsPassed, IsPlaced, IsRenumbered, IsStep, LeadsByAbend, LeadsByCode, NamesScene, row_shows};
 ghost use Rattle.packed_core.specs.Moving.{all_shown, shown_among};
 ghost use Rattle.packed_core.specs.Rooms.{room_at};
 ghost use Rattle.packed_core.specs.Rows.{row_at};
 ghost use Rattle.packed_core.specs.Scenes.{HasMoreScenes};
+ghost use Rattle.packed_core.specs.Ways.{AreWays};
 ghost use Rattle.packed_core.specs.Words.{IsRow};
 
-use crate::classes::Class;
 use crate::domain::PackedDomain;
 use crate::job::Job;
 use crate::rooms::next_bit;
 use crate::view::PackedView;
 use crate::views::PackedViews;
+use crate::ways::Ways;
 use crate::words::{bit_of, clear, number_in, some_bit};
 use jcl_meaning::history::fate;
 use jcl_plan::outcome::Fate;
@@ -109,13 +109,14 @@ impl<'a, J: Job + Drop> PackedDomain<'a, J> {
     fn branch_by_code(
         &self,
         alloc: Global,
-        classes: &[Class],
+        ways: &mut Ways,
         end: Result<usize, Stop>,
         row: Vec<u64>,
         behind: &PackedViews<J>,
     ) -> Result<(Branch<PackedView<J>>, Vec<u64>), AllocError>
-        requires classes { AreMasks behind.now.part (tests_before J.plan behind.now.part) (room_at J.plan behind.now.part) classes.now }
+        requires ways { AreWays J.plan behind.now.part behind.now.rows ways.old }
         requires row { IsRow (room_at J.plan behind.now.part) row.items }
+        ensures ways { OnOk result (AreWays J.plan behind.now.part behind.now.rows ways.new) }
         ensures leads { IfOk result (λ r. (left : Result Scene Stop) → IsPlaced J.plan J.fixed.date behind.now left end →
             LeadsByCode (λ v. v.row.items) J.plan J.fixed.date behind.now row.items left r.0) }
         ensures row { IfOk result (λ r. IsRow (room_at J.plan behind.now.part) r.1.items × HasSameBits row.items r.1.items) }
@@ -124,7 +125,7 @@ impl<'a, J: Job + Drop> PackedDomain<'a, J> {
             Err(stop) => Ok((Branch::Stops(stop), row)),
             Ok(number) => {
                 let row = renumbered(row, number);
-                let moves = self.moves_by_code(alloc, row.as_slice(), classes, behind)?;
+                let moves = self.leads_by_code(alloc, ways, row.as_slice(), behind)?;
                 Ok((Branch::Leads(moves), row))
             }
         }
@@ -182,19 +183,13 @@ impl<'a, J: Job + Drop> PackedDomain<'a, J> {
                 by_code,
                 by_abend,
             } => {
-                let classes = self.take_classes(alloc, before, behind, later)?;
                 let hint = before.hint(n);
                 let code = self.place_end(behind, by_code, hint.by_code)?;
                 let abend = self.place_end(behind, by_abend, hint.by_abend)?;
                 before.keep_hint(n, code, abend)?;
-                let (by_code, row) = self.branch_by_code(
-                    alloc,
-                    classes.as_slice(),
-                    code,
-                    row,
-                    behind,
-                )?;
-                before.keep_classes(classes);
+                let mut ways = self.take_ways(alloc, before, step, later, behind)?;
+                let (by_code, row) = self.branch_by_code(alloc, &mut ways, code, row, behind)?;
+                behind.keep_ways(ways);
                 let by_abend = self.branch_by_abend(alloc, abend, row, behind)?;
                 Ok(Crossed::Runs {
                     made,

@@ -36,7 +36,7 @@ impl<'a, J: Job + Drop> PackedDomain<'a, J> {
             entries: Vec::new(alloc),
             hints: Vec::new(alloc),
             rows: RowList::none(alloc),
-            classes: None,
+            ways: None,
             job: PhantomData,
         })
     }

@@ -1,6 +1,7 @@
 //! A packed way to keep views: a view is a row of words, the number of its scene and then bits, and rows are found by their hash.
 #![tactic(auto)]
 
+mod apart;
 mod before;
 mod branches;
 mod classes;
@@ -9,6 +10,7 @@ pub mod domain;
 mod entries;
 mod find;
 mod hints;
+mod index;
 pub mod job;
 mod keep;
 mod masks;
@@ -19,4 +21,5 @@ pub mod row_list;
 mod scenes;
 pub mod view;
 pub mod views;
+mod ways;
 mod words;

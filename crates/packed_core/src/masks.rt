@@ -1,6 +1,6 @@
 //! The tests that a step meets, by the code with which it ends.
-ghost use Rattle.std.specs.Prelude.{◌≡◌, ◌<◌, ◌+◌, ◌/◌, ℕ, IfOk, length, slice_index_or};
-ghost use Rattle.packed_core.specs.Classes.{AreMasks, IsMask, bit_at};
+ghost use Rattle.std.specs.Prelude.{◌≡◌, ◌<◌, ◌+◌, ◌/◌, ℕ, All, IfOk, length, slice_index_or, true};
+ghost use Rattle.packed_core.specs.Classes.{AreMasks, IsMask, LooksAlike, bit_at};
 ghost use Rattle.packed_core.specs.Rooms.{IsSmall};
 
 use crate::classes::Class;
@@ -72,4 +72,31 @@ pub(crate) fn classes_of(
         classes.push(Class { code: *code, mask })?;
     }
     Ok(classes)
+}
+
+/// Whether a test looks at step n and at the next, or at neither of both.
+fn looks_alike(test: &Test, n: usize) -> bool
+    requires { n < usize.MAX }
+    ensures { result ≡ true → LooksAlike n test.now }
+{
+    match test.step {
+        None => true,
+        Some(named) => {
+            let named = usize::from(named);
+            named != n && named != n + 1
+        }
+    }
+}
+
+/// Whether all of these tests do.
+pub(crate) fn look_alike(tests: &[Test], n: usize) -> bool
+    requires { n < usize.MAX }
+    ensures { result ≡ true → All (LooksAlike n) tests.now }
+{
+    for test in tests {
+        if !looks_alike(test, n) {
+            return false;
+        }
+    }
+    true
 }

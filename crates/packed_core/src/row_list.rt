@@ -1,27 +1,29 @@
 //! Rows in the order in which they were put, each once.
 ghost use Rattle.std.specs.Prelude.{◌≡◌, ◌<◌, ◌++◌, ◌∷◌, [], OnErr, OnOk, false, length};
-ghost use Rattle.packed_core.specs.Rows.{has_row, row_at};
+ghost use Rattle.packed_core.specs.Rows.{IsFound, has_row, row_at};
+ghost use Rattle.packed_core.specs.Words.{joined_words};
 
+use crate::index::{Index, find_among, index_more};
 use std::alloc::{AllocError, Global};
-use std::collections::HashSet;
 use std::marker::Model;
 
-/// Rows of words, each once, of which contracts see the list. A row is found by its hash.
+/// Rows of words, each once, of which contracts see the list. Few are looked through one by one, and one of many is found by an index.
 #[derive(Drop)]
 pub struct RowList {
     rows: Vec<Vec<u64>>,
-    set: HashSet<Vec<u64>>,
+    index: Option<Index>,
 }
 
 impl Model for RowList {
-    ghost use Rattle.std.specs.Prelude.{ℕ, List, map};
-    ghost use Rattle.packed_core.specs.Rows.{HaveTheSame, items_of};
+    ghost use Rattle.std.specs.Prelude.{ℕ, List, IfSome, length, map};
+    ghost use Rattle.packed_core.specs.Indexed.{IsIndexed};
+    ghost use Rattle.packed_core.specs.Rows.{items_of};
 
     ghost Value = { List (List ℕ) };
 
     ghost view = { λ l. map items_of l.rows.items };
 
-    ghost invariant = { λ l. HaveTheSame l.set.keys l.rows.items };
+    ghost invariant = { λ l. IfSome l.index (λ x. IsIndexed (map items_of l.rows.items) (length l.rows.items) x.heads.items x.next.items) };
 }
 
 impl RowList {
@@ -31,7 +33,7 @@ impl RowList {
     {
         RowList {
             rows: Vec::new(alloc),
-            set: HashSet::new(alloc),
+            index: None,
         }
     }
 
@@ -50,11 +52,29 @@ impl RowList {
         self.rows[number].as_slice()
     }
 
+    /// The number of a row with a mask beside it.
+    pub fn find_joined(&self, row: &[u64], mask: &[u64]) -> Option<usize>
+        requires as_long { length mask.now ≡ length row.now }
+        ensures { IsFound self.now (joined_words row.now mask.now) result }
+    {
+        match &self.index {
+            Some(index) => index.find(self.rows.as_slice(), row, mask),
+            None => find_among(self.rows.as_slice(), row, mask),
+        }
+    }
+
+    /// The number of a row.
+    pub fn find(&self, row: &[u64]) -> Option<usize>
+        ensures { IsFound self.now row.now result }
+    {
+        self.find_joined(row, row)
+    }
+
     /// Whether a row is among them.
     pub fn has(&self, row: &Vec<u64>) -> bool
         ensures { result ≡ has_row row.now.items self.now }
     {
-        self.set.contains(row)
+        self.find(row.as_slice()).is_some()
     }
 
     /// Puts a row behind them that is not among them.
@@ -63,12 +83,10 @@ impl RowList {
         ensures put { OnOk result (self.new ≡ self.old ++ row.items ∷ []) }
         ensures kept { OnErr result (self.new ≡ self.old) }
     {
-        let copy = Vec::from_slice(alloc, row.as_slice())?;
-        self.rows.push(copy)?;
-        if self.set.insert(row).is_err() {
-            self.rows.pop();
-            return Err(AllocError);
-        }
+        let index = self.index.take();
+        let more = index_more(alloc, index, self.rows.as_slice(), row.as_slice())?;
+        self.rows.push(row)?;
+        self.index = more;
         Ok(())
     }
 }

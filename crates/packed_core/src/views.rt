@@ -1,9 +1,9 @@
 //! Views as rows, and the scenes that they show.
-use crate::classes::Class;
 use crate::entries::Entry;
 use crate::job::Job;
 use crate::room::Room;
 use crate::row_list::RowList;
+use crate::ways::Ways;
 use std::marker::{Model, PhantomData};
 
 /// Numbers of the scenes behind a part that its step leaves by a code and by an ABEND.
@@ -14,7 +14,7 @@ pub struct Hint {
 }
 
 /// The views before a part: where their bits stand, the scenes that they show, each once and with what the part comes to on it, a row for each view, and
-/// the classes of codes by which the part's step may end. A contract sees the part, the scenes and the rows.
+/// the ways that lead to them. A contract sees the part, the scenes and the rows.
 #[derive(Drop)]
 pub struct PackedViews<J: Job> {
     pub(crate) part: usize,
@@ -23,7 +23,7 @@ pub struct PackedViews<J: Job> {
     /// Of each scene where those to which it leads stood behind the part when they were last looked for.
     pub(crate) hints: Vec<Hint>,
     pub(crate) rows: RowList,
-    pub(crate) classes: Option<Vec<Class>>,
+    pub(crate) ways: Option<Ways>,
     pub(crate) job: PhantomData<J>,
 }
 
@@ -35,5 +35,5 @@ impl<J: Job> Model for PackedViews<J> {
 
     ghost view = { λ v. record { part = v.part; scenes = scenes_of v.entries.items; rows = v.rows } };
 
-    ghost invariant = { λ v. AreViews J.plan J.fixed.date v.part v.room v.entries.items v.rows v.classes };
+    ghost invariant = { λ v. AreViews J.plan J.fixed.date v.part v.room v.entries.items v.rows v.ways };
 }

@@ -1,7 +1,7 @@
 //! A row of words: the number of a scene, then bits, the first of which tells of an ABEND, and the others of tests.
 ghost use Rattle.std.specs.Prelude.{◌≡◌, ◌<◌, ◌≤◌, ◌+◌, ◌*◌, ◌/◌, ◌^◌, ◌||◌, ℕ, IfOk, false, length, slice_index_or};
 ghost use Rattle.std.specs.List.{list_any};
-ghost use Rattle.packed_core.specs.Words.{AreWords, bit, bits_from};
+ghost use Rattle.packed_core.specs.Words.{AreWords, bit, bits_from, joined_words};
 
 use std::alloc::{AllocError, Global};
 
@@ -81,6 +81,7 @@ pub(crate) fn some_bit(row: &[u64], from: usize, count: usize) -> bool
 pub(crate) fn joined(alloc: Global, row: &[u64], mask: &[u64]) -> Result<Vec<u64>, AllocError>
     requires as_long { length mask.now ≡ length row.now }
     requires unnumbered { slice_index_or mask.now 0 0 ≡ 0 }
+    ensures words { IfOk result (λ all. all.items ≡ joined_words row.now mask.now) }
     ensures size { IfOk result (λ all. length all.items ≡ length row.now) }
     ensures first { IfOk result (λ all. slice_index_or all.items 0 0 ≡ slice_index_or row.now 0 0) }
     ensures bits { IfOk result (λ all. (k : ℕ) → bit all.items k ≡ (bit mask.now k || bit row.now k)) }

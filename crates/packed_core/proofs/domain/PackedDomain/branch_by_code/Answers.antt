@@ -13,5 +13,5 @@ returns-in_ok-moves-in-Ok-clause-leads g c left placed =
     let new : List ℕ = c.as_slice.result.now in
     let value : new ≡ c.renumbered-row.result.items = c.as_slice.ensures.value in
     code_leads _ plan date behind c.args.row.items new (λ i. ap (λ (l : List ℕ). bit l i) value ∙ c.renumbered-row.ensures.bits i) c.in-Ok.number
-    (ap (λ (l : List ℕ). get_or l 0 0) value ∙ c.renumbered-row.ensures.first) (map (λ (k : Class). k.code) c.args.classes.now) c.in_ok-moves-in-Ok.moves
-    c.requires.classes.codes c.in_ok-moves-in-Ok.ensures left (subst (IsPlaced plan date behind left) c.in-Ok.is placed)
+    (ap (λ (l : List ℕ). get_or l 0 0) value ∙ c.renumbered-row.ensures.first) (map (λ (k : Class). k.code) c.args.ways.now.classes.value.list.items)
+    c.in_ok-moves-in-Ok.moves c.requires.ways.masks.codes c.in_ok-moves-in-Ok.ensures.moves left (subst (IsPlaced plan date behind left) c.in-Ok.is placed)

@@ -1,4 +1,4 @@
-use Rattle.std.proofs.Common.{◌≡◌, ◌∙◌, ◌+◌, ℕ, Bool, List, ap, drop, get_or, subst, sym}
+use Rattle.std.proofs.Common.{◌≡◌, ◌++◌, ◌∙◌, ◌+◌, ℕ, Bool, List, ap, append_assoc, get_or, subst, sym}
 use Rattle.std.specs.Prelude.{Result, slice_get}
 use Rattle.jcl_plan.specs.declared.plan.JobPlan.{JobPlan}
 use Rattle.jcl_plan.specs.declared.plan.StepPlan.{StepPlan}
@@ -8,16 +8,26 @@ use Rattle.view_core.specs.declared.legs.Legs.{Legs}
 use Rattle.view_core.specs.declared.legs.Legs.TheVariants as legs
 use Rattle.view_core.specs.declared.scene.Scene.{Scene}
 use Rattle.view_core.specs.Legs.{AreLegs, end_of}
+use Rattle.packed_core.specs.Crossing.{IsPlaced, LeadsByCode}
+use Rattle.packed_core.specs.Rooms.{room_at}
+use Rattle.packed_core.specs.Scenes.{HasMoreScenes}
 use Rattle.packed_core.specs.Views.{Views}
-use Rattle.packed_core.specs.Words.{bit}
+use Rattle.packed_core.specs.Ways.{AreWays}
+use Rattle.packed_core.specs.Words.{IsRow, bit}
 use Rattle.packed_core.proofs.Led.{abend_as, led_ended, led_refused, placed_still}
-use Rattle.packed_core.proofs.Passing.{after_is}
 use Rattle.packed_core.proofs.domain.PackedDomain.cross_running.Goals as goal
 
-pub take_classes-requires-clause-later : goal.take_classes-requires-clause-later
-take_classes-requires-clause-later g c =
-    let plan : JobPlan = g.J.Job.plan in
-    ap (λ (v : Views). drop (v.part + 1) plan.steps) c.legs.ensures.same ∙ after_is plan c.args.before.now.part c.args.step.now c.args.later.now c.requires.step
+pub branch_by_code-requires-clause-ways : goal.branch_by_code-requires-clause-ways
+branch_by_code-requires-clause-ways g c =
+    subst (λ (w : Views). AreWays g.J.Job.plan w.part w.rows c.in_ok-ways-in-Ended.ways) (sym c.in_ok-ways-in-Ended.ensures.same)
+    c.in_ok-ways-in-Ended.ensures.ways
+
+pub branch_by_code-requires-clause-row : goal.branch_by_code-requires-clause-row
+branch_by_code-requires-clause-row g c =
+    let at : c.take_ways.new.behind.part ≡ c.args.before.now.part + 1 =
+    ap (λ (w : Views). w.part) c.in_ok-ways-in-Ended.ensures.same ∙ c.in_ok-abend-in-Ended.ensures.more.part ∙ c.in_ok-code-in-Ended.ensures.more.part
+    ∙ c.requires.behind in
+    subst (λ (n : ℕ). IsRow (room_at g.J.Job.plan n) c.args.row.items) (sym at) c.requires.row
 
 pub returns-in-Refused-clause-crossed : goal.returns-in-Refused-clause-crossed
 returns-in-Refused-clause-crossed g c v names passed runs =
@@ -57,16 +67,36 @@ returns-in_ok-by_abend-in-Ended-clause-crossed g c v names passed runs =
     subst (λ (l : Legs). AreLegs fixed (before.part + 1) step v.scene v.abended l) c.in-Ended.is
     (subst (λ (b : Bool). AreLegs fixed (before.part + 1) step v.scene b c.in_ok-legs.legs) abended said) in
     let between : Views = c.place_end.new.behind in
-    let behind : Views = c.place_end-in-Ended.new.behind in
+    let placed : Views = c.place_end-in-Ended.new.behind in
+    let taken : Views = c.take_ways.new.behind in
+    let behind : Views = c.keep_ways.new.self in
     let more = c.in_ok-abend-in-Ended.ensures.more in
-    let at : behind.part ≡ before.part + 1 = more.part ∙ c.in_ok-code-in-Ended.ensures.more.part ∙ c.requires.behind in
+    let same_taken : taken ≡ placed = c.in_ok-ways-in-Ended.ensures.same in
+    let same_kept : behind ≡ taken = c.keep_ways.ensures.same in
+    let at : behind.part ≡ before.part + 1 =
+    ap (λ (w : Views). w.part) (same_kept ∙ same_taken) ∙ more.part ∙ c.in_ok-code-in-Ended.ensures.more.part ∙ c.requires.behind in
     let end : Result Scene Stop = end_of (λ s. s.value) c.in-Ended.by_code in
     let abend_end : Result Scene Stop = end_of (λ s. s.value) c.in-Ended.by_abend in
     let by_code = c.in_ok-by_code-in-Ended.by_code in
     let by_abend = c.in_ok-by_abend-in-Ended.by_abend in
     led_ended _ plan fixed before.part step c.args.later.now c.requires.step job_tests v behind at row passed runs c.in-Ended.made end abend_end
     by_code by_abend legs_are.0 legs_are.1 legs_are.2
-    (c.in_ok-by_code-in-Ended.ensures.leads end
-    (placed_still plan date between behind end c.in_ok-code-in-Ended.code more c.in_ok-code-in-Ended.ensures.placed))
+    (subst (λ (w : Views). LeadsByCode (λ v. v.row.items) plan date w row end by_code) (sym same_kept)
+    (c.in_ok-by_code-in-Ended.ensures.leads end (subst (λ (w : Views). IsPlaced plan date w end c.in_ok-code-in-Ended.code) (sym same_taken)
+    (placed_still plan date between placed end c.in_ok-code-in-Ended.code more c.in_ok-code-in-Ended.ensures.placed))))
     (abend_as (λ w. w.row.items) plan date behind row c.in_ok-by_code-in-Ended.row.items c.in_ok-by_code-in-Ended.ensures.row.1 abend_end by_abend
-    (c.in_ok-by_abend-in-Ended.ensures.leads abend_end c.in_ok-abend-in-Ended.ensures.placed))
+    (c.in_ok-by_abend-in-Ended.ensures.leads abend_end
+    (subst (λ (w : Views). IsPlaced plan date w abend_end c.in_ok-abend-in-Ended.abend) (sym (same_kept ∙ same_taken))
+    c.in_ok-abend-in-Ended.ensures.placed)))
+
+pub returns-in_ok-by_abend-in-Ended-clause-behind : goal.returns-in_ok-by_abend-in-Ended-clause-behind
+returns-in_ok-by_abend-in-Ended-clause-behind g c =
+    let old : Views = c.args.behind.now in
+    let a = c.in_ok-code-in-Ended.ensures.more in
+    let b = c.in_ok-abend-in-Ended.ensures.more in
+    subst (HasMoreScenes old) (sym (c.keep_ways.ensures.same ∙ c.in_ok-ways-in-Ended.ensures.same)) (record {
+      more = a.more ++ b.more;
+      scenes = b.scenes ∙ ap (λ (l : List Scene). l ++ b.more) a.scenes ∙ append_assoc old.scenes a.more b.more;
+      part = b.part ∙ a.part;
+      rows = b.rows ∙ a.rows;
+    })

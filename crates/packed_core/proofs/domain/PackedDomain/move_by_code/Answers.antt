@@ -1,34 +1,34 @@
-use Rattle.std.proofs.Common.{◌≡◌, ◌∙◌, ℕ, List, ap, get_or}
-use Rattle.std.specs.Prelude.{◌||◌}
-use Rattle.jcl_plan.specs.declared.outcome.Outcome.TheVariants as outcome
-use Rattle.view_core.specs.Bits.{bits_ended}
-use Rattle.packed_core.specs.Classes.{tests_before}
-use Rattle.packed_core.specs.Moving.{code_behind, shown_among, told_shown}
-use Rattle.packed_core.specs.Rooms.{room_at}
-use Rattle.packed_core.specs.Words.{bit, met_of}
-use Rattle.packed_core.proofs.JoinedRows.{joined_calm, joined_ended}
-use Rattle.packed_core.proofs.ShownRows.{shown_like}
-use Rattle.packed_core.proofs.Telling.{one_told}
+use Rattle.std.proofs.Common.{◌≡◌, ◌∙◌, ℕ, List, [], None, Some, Vec, ap, sym, true}
+use Rattle.std.specs.Global.{Global}
+use Rattle.packed_core.specs.Rows.{has_row}
+use Rattle.packed_core.specs.Words.{joined_words}
+use Rattle.packed_core.proofs.Moves.{class_told}
+use Rattle.packed_core.proofs.Skipping.{got_stands}
 use Rattle.packed_core.proofs.domain.PackedDomain.move_by_code.Goals as goal
 
-pub returns : goal.returns
-returns g c =
-    let plan = g.J.Job.plan in
-    let date : ℕ = g.J.Job.fixed.date in
+pub returns-in-Some : goal.returns-in-Some
+returns-in-Some g c =
     let behind = c.args.behind.now in
-    let k : ℕ = behind.part in
     let base : List ℕ = c.args.base.now in
-    let mask : List ℕ = c.args.class.now.mask.items in
-    let row : List ℕ = c.in_ok-row.row.items in
-    let each : (i : ℕ) → bit row i ≡ (bit mask i || bit base i) =
-    λ i. c.in_ok-row.ensures.bits i ∙ ap (λ (m : List ℕ). bit m i || bit base i) c.as_slice.ensures.value in
+    let class = c.args.class.now in
+    let rows : List (List ℕ) = c.standing.result.now in
+    let mask : List ℕ = c.as_slice-mask.result.now in
+    let stands : has_row (joined_words base class.mask.items) behind.rows ≡ true =
+    sym (λ i. has_row (joined_words base (c.as_slice-mask.ensures.value i)) (c.standing.ensures i))
+    ∙ got_stands (joined_words base mask) rows c.in-Some.number c.in-Some.ensures in
     record {
-      tells = λ scene names.
-          one_told (shown_among plan date behind) _ behind.rows row (told_shown plan date k) (code_behind plan k base scene c.args.class.now.code)
-          (shown_like plan date k behind.scenes row scene (bit base 0)
-          (bits_ended k (outcome.Code c.args.class.now.code) (tests_before plan k) (met_of (room_at plan k) base))
-          (joined_calm base mask row each k (tests_before plan k) (room_at plan k) c.args.class.now.code c.requires.class)
-          (joined_ended base mask row each k (tests_before plan k) (room_at plan k) c.args.class.now.code c.requires.class)
-          (get_or base 0 0) c.in_ok-row.ensures.first names)
-          c.move_to.result c.move_to.ensures.leads;
+      tells = class_told {V = ℕ} (λ n. []) g.J.Job.plan g.J.Job.fixed.date behind base class c.requires.base c.requires.class None stands;
+      stands = λ e. stands;
+    }
+
+pub returns-in_ok-row-in-None : goal.returns-in_ok-row-in-None
+returns-in_ok-row-in-None g c =
+    let base : List ℕ = c.args.base.now in
+    record {
+      tells = class_told (λ w. w.row.items) g.J.Job.plan g.J.Job.fixed.date c.args.behind.now base c.args.class.now c.requires.base c.requires.class (Some c.move_of-next.result) (
+        c.move_of-next.ensures.outcome,
+        ap (λ (r : Vec ℕ Global). r.items) c.move_of-next.ensures.row ∙ c.in_ok-row-in-None.ensures.words
+            ∙ ap (joined_words base) c.as_slice-mask.ensures.value,
+      );
+      stands = λ e. absurd cc;
     }

@@ -9,6 +9,7 @@ use Rattle.packed_core.specs.Shown.{AreApart}
 use Rattle.packed_core.specs.Views.{AreRows, Views}
 use Rattle.packed_core.specs.Words.{IsRow}
 use Rattle.packed_core.proofs.Putting.{put_new, put_stood}
+use Rattle.packed_core.proofs.Skipping.{ways_pushed}
 use Rattle.packed_core.proofs.Standing.{each_pushed}
 use Rattle.packed_core.proofs.domain.PackedDomain.put.Goals as goal
 
@@ -40,7 +41,8 @@ invariant_of-views-2 g c =
         packed = each_pushed c.push.result (IsRow (room_at plan c.views.inside.part)) c.views.inside.rows c.push.new.self row
             c.push.ensures.put c.push.ensures.kept is.are_rows.packed (subst (λ (n : ℕ). IsRow (room_at plan n) row) part c.args.view.packed);
       };
-      found = is.found;
+      are_ways = ways_pushed c.push.result plan c.views.inside.part c.views.inside.rows c.push.new.self row c.views.inside.ways
+          c.push.ensures.put c.push.ensures.kept is.are_ways;
     }
 
 pub returns-clause-put : goal.returns-clause-put

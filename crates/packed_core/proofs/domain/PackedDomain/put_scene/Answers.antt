@@ -30,7 +30,7 @@ invariant_of-views-in-None g c =
           (apart_more g.J.Job.plan g.J.Job.fixed.date part (scenes_of old) entry.scene is.apart none);
       are_rows = rows_more g.J.Job.plan part (length old) (length c.push.new.self.items) c.views.inside.rows
           (let longer : length c.push.new.self.items ≡ length old + 1 = ap length pushed ∙ length-append old (entry ∷ []) in omega arith) is.are_rows;
-      found = is.found;
+      are_ways = is.are_ways;
     }
 
 pub returns-in_ok-push-in-None-clause-more : goal.returns-in_ok-push-in-None-clause-more

@@ -1,9 +1,14 @@
-use Rattle.std.proofs.Common.{◌∙◌, ap}
-use Rattle.packed_core.specs.Rows.{has_row}
-use Rattle.packed_core.proofs.SameRows.{has_items}
+use Rattle.std.proofs.Common.{◌≡◌, ◌∙◌, ℕ, List, Option, None, Some, ap, sym}
+use Rattle.std.specs.Prelude.{is_some}
+use Rattle.packed_core.specs.Rows.{IsFound, has_row}
+use Rattle.packed_core.proofs.Skipping.{got_stands}
 use Rattle.packed_core.proofs.row_list.RowList.has.Goals as goal
+
+found_has : (rows : List (List ℕ)) (row : List ℕ) (o : Option ℕ) → IsFound rows row o → is_some o ≡ has_row row rows
+found_has rows row None h = sym h
+found_has rows row (Some n) h = sym (got_stands row rows n h)
 
 pub returns : goal.returns
 returns c =
-    c.contains.ensures ∙ c.self.invariant c.args.row.now ∙ has_items c.args.row.now.items c.self.inside.rows.items
-    ∙ ap (has_row c.args.row.now.items) c.self.view_is
+    c.is_some.ensures ∙ found_has c.args.self.now c.as_slice.result.now c.find.result c.find.ensures
+    ∙ ap (λ (r : List ℕ). has_row r c.args.self.now) c.as_slice.ensures.value
