@@ -1,7 +1,7 @@
 -- Which classes need not be offered, and what is noted for it.
-use Rattle.std.proofs.Common.{◌≡◌, inl, inr, ◌++◌, ◌∷◌, ◌∙◌, ◌<◌, ℕ, zero, suc, true, List, [], Vec, Option, None, Some, length, map, sym, ap, subst}
+use Rattle.std.proofs.Common.{◌≡◌, inl, inr, ◌++◌, ◌∷◌, ◌∙◌, ℕ, zero, suc, true, List, [], Vec, Option, None, Some, sym, ap, subst}
 use Rattle.std.specs.Global.{Global}
-use Rattle.std.specs.Prelude.{All, Contains, Err, IfSome, Ok, OnErr, OnOk, Result, slice_get}
+use Rattle.std.specs.Prelude.{All, Err, IfSome, Ok, OnErr, OnOk, Result, slice_get}
 use Rattle.std.proofs.lemmas.Bool.{or_left, or_right}
 use Rattle.std.proofs.lemmas.List.Elements.{All-contains}
 use Rattle.std.proofs.lemmas.List.Folds.{list_any-append}

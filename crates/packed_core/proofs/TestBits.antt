@@ -1,5 +1,5 @@
 -- The bits of tests that are kept.
-use Rattle.std.proofs.Common.{◌≡◌, inl, inr, ◌∷◌, ◌∙◌, ◌+◌, ◌-◌, ◌/◌, ◌<◌, ◌≤◌, ℕ, zero, suc, Bool, true, false, List, [], Some, length, get_or, map, refl}
+use Rattle.std.proofs.Common.{◌≡◌, inl, inr, ◌∙◌, ◌+◌, ◌-◌, ◌/◌, ◌<◌, ◌≤◌, ℕ, zero, suc, Bool, true, false, List, Some, length, get_or, map, refl}
 use Rattle.std.proofs.Common.{sym, ap, arith, length-append}
 use Rattle.std.specs.Prelude.{if◌then◌else◌, ◌||◌, nat_lt, slice_get}
 use Rattle.std.proofs.Math.Seq.{get_or-append_right}

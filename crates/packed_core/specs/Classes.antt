@@ -8,7 +8,6 @@ use Rattle.jcl_meaning.specs.History.{looks_at, met_by}
 use Rattle.view_core.specs.Bits.{kept_tests, looking}
 use Rattle.packed_core.specs.declared.classes.Class.{Class}
 use Rattle.packed_core.specs.declared.room.Room.{Room}
-use Rattle.packed_core.specs.Rooms.{room_at}
 use Rattle.packed_core.specs.Words.{IsRow, bit, met_of}
 
 -- the bit of a test that is kept, by its place among them

@@ -1,4 +1,4 @@
-use Rattle.std.proofs.Common.{◌≡◌, ◌∙◌, List, ap, sym}
+use Rattle.std.proofs.Common.{◌∙◌, List, ap, sym}
 use Rattle.std.proofs.lemmas.Option.{same_Some}
 use Rattle.packed_core.specs.declared.classes.Class.{Class}
 use Rattle.packed_core.proofs.Places.{got_read}

@@ -1,4 +1,4 @@
-use Rattle.std.proofs.Common.{◌≡◌, ◌∙◌, ◌+◌, ◌<◌, ◌++◌, ◌∷◌, [], ℕ, List, ap, arith, get_or, length, sym, take}
+use Rattle.std.proofs.Common.{◌∙◌, ◌<◌, ℕ, List, ap, arith, get_or, length, sym, take}
 use Rattle.std.proofs.lemmas.List.{take_all, take_more}
 use Rattle.packed_core.specs.Indexed.{hash_from, mixed}
 use Rattle.packed_core.specs.Words.{joined_words}

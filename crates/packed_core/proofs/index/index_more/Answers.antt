@@ -1,4 +1,4 @@
-use Rattle.std.proofs.Common.{◌≡◌, ◌∙◌, ◌++◌, ◌∷◌, ◌≤◌, ℕ, List, [], ap, arith, get_or, length, map, sym}
+use Rattle.std.proofs.Common.{◌≡◌, ◌∙◌, ◌++◌, ◌∷◌, ℕ, List, [], ap, arith, get_or, length, map, sym}
 use Rattle.std.proofs.lemmas.List.{length-map}
 use Rattle.packed_core.specs.Rows.{items_of, row_at}
 use Rattle.packed_core.proofs.Indexing.{last_row, linked, still_indexed}

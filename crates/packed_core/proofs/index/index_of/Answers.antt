@@ -1,5 +1,4 @@
-use Rattle.std.proofs.Common.{◌≡◌, ◌∙◌, ◌<◌, ℕ, List, [], Vec, arith, length, map, sym}
-use Rattle.std.specs.Global.{Global}
+use Rattle.std.proofs.Common.{◌≡◌, ◌∙◌, ◌<◌, ℕ, List, [], arith, length, map, sym}
 use Rattle.packed_core.specs.Rows.{items_of, row_at}
 use Rattle.packed_core.proofs.Indexing.{linked}
 use Rattle.packed_core.proofs.Places.{got_from, got_read}

@@ -1,4 +1,4 @@
-use Rattle.std.proofs.Common.{◌≡◌, ◌∙◌, ◌+◌, ◌<◌, inl, inr, ℕ, List, ap, arith, bit_or, get_or, length, sym}
+use Rattle.std.proofs.Common.{◌≡◌, ◌∙◌, inl, inr, ℕ, List, ap, arith, bit_or, get_or, length, sym}
 use Rattle.std.proofs.lemmas.Bool.{cases_lt}
 use Rattle.packed_core.specs.Words.{joined_words}
 use Rattle.packed_core.proofs.Joining.{joined_at, length-joined, words_alike, words_apart, words_are}

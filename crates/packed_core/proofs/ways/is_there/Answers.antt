@@ -1,5 +1,4 @@
-use Rattle.std.proofs.Common.{◌≡◌, ◌∙◌, ◌<◌, ℕ, List, [], Some, ap, arith, length, sym}
-use Rattle.std.specs.Prelude.{slice_get}
+use Rattle.std.proofs.Common.{◌∙◌, ◌<◌, ℕ, List, [], Some, ap, arith, length, sym}
 use Rattle.std.proofs.lemmas.List.{get_or_default}
 use Rattle.packed_core.specs.declared.classes.Class.{Class}
 use Rattle.packed_core.specs.Words.{joined_words}

@@ -1,4 +1,4 @@
-use Rattle.std.proofs.Common.{◌≡◌, ◌∙◌, ◌+◌, ◌<◌, ◌%◌, ◌++◌, ◌∷◌, [], ℕ, List, ap, arith, get_or, length, set, sym}
+use Rattle.std.proofs.Common.{◌≡◌, ◌∙◌, ◌+◌, ◌<◌, ◌%◌, ◌++◌, ◌∷◌, [], ℕ, List, ap, arith, get_or, length, set}
 use Rattle.std.proofs.lemmas.List.{get_or_default}
 use Rattle.packed_core.specs.Indexed.{hash_from, place_in}
 use Rattle.packed_core.proofs.Joining.{joined_self}

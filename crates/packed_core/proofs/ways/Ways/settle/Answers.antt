@@ -1,4 +1,4 @@
-use Rattle.std.proofs.Common.{◌≡◌, ◌∙◌, ℕ, List, Option, Some, ap, subst, sym}
+use Rattle.std.proofs.Common.{◌∙◌, ℕ, List, Option, ap, subst, sym}
 use Rattle.std.specs.Prelude.{All, IfSome}
 use Rattle.packed_core.specs.declared.classes.Class.{Class}
 use Rattle.packed_core.specs.declared.classes.Classes.{Classes}
