@@ -1,6 +1,8 @@
 -- What rows show.
 use Rattle.std.specs.Prelude.{◌≡◌, ◌<◌, ℕ, Bool, false, List, [], None, Some, drop, length, map, slice_get, slice_index_or, take}
 use Rattle.jcl_plan.specs.declared.plan.JobPlan.{JobPlan}
+use Rattle.jcl_plan.specs.declared.plan.StepPlan.{StepPlan}
+use Rattle.jcl_meaning.specs.declared.names.HeldName.{HeldName}
 use Rattle.jcl_meaning.specs.Names.{names_of}
 use Rattle.jcl_meaning.specs.Views.{View}
 use Rattle.view_core.specs.declared.scene.Scene.{Scene}
@@ -24,6 +26,10 @@ nothing_shown = record {
 -- what a scene shows by itself before a part
 abbrev pub alone : JobPlan → ℕ → ℕ → Scene → View
 alone plan date k scene = shown_alone (names_of plan) date (drop k plan.steps) scene
+
+-- a scene shows the same before these steps and before those
+abbrev pub ShowsAlike : List StepPlan → List StepPlan → Scene → Type 0
+ShowsAlike later other scene = (names : List HeldName) (date : ℕ) → shown_alone names date other scene ≡ shown_alone names date later scene
 
 -- after an ABEND or none, and with these tests met
 abbrev pub with_bits : JobPlan → ℕ → View → Bool → List Bool → View

@@ -1,16 +1,42 @@
 //! Scenes by their numbers.
 ghost use Rattle.std.specs.Prelude.{◌≡◌, Decides, OnOk, IfOk};
+ghost use Rattle.view_core.specs.Same.{shown_alone};
 ghost use Rattle.packed_core.specs.Scenes.{FindsScene, HasMoreScenes, HasScene};
-ghost use Rattle.packed_core.specs.Shown.{alone};
+ghost use Rattle.packed_core.specs.Shown.{ShowsAlike, alone};
 
 use crate::domain::PackedDomain;
 use crate::find::entry_of;
 use crate::job::Job;
 use crate::views::PackedViews;
+use jcl_meaning::names::HeldName;
+use jcl_plan::day::Day;
+use jcl_plan::plan::StepPlan;
 use std::alloc::AllocError;
 use std::rc::Rc;
 use view_core::same::{drop_first, same_scene};
 use view_core::scene::Scene;
+
+/// The steps that are looked through where two scenes are compared: none if neither knows a volume for which a step could ask.
+fn asking<'p>(later: &'p [StepPlan], a: &Scene, b: &Scene) -> &'p [StepPlan]
+    ensures first { ShowsAlike later.now result.now a.now }
+    ensures other { ShowsAlike later.now result.now b.now }
+{
+    if !a.volumes.as_slice().is_empty() {
+        return later;
+    }
+    if !b.volumes.as_slice().is_empty() {
+        return later;
+    }
+    &[]
+}
+
+/// Two scenes show a job with these names the same, before these steps.
+fn same_before(names: &[HeldName], date: Day, later: &[StepPlan], a: &Scene, b: &Scene) -> bool
+    ensures { Decides result (shown_alone names.now date later.now a.now ≡ shown_alone names.now date later.now b.now) }
+{
+    let asked = asking(later, a, b);
+    same_scene(names, date, asked, a, b)
+}
 
 impl<'a, J: Job + Drop> PackedDomain<'a, J> {
     /// Two scenes show the job the same before a part.
@@ -18,7 +44,7 @@ impl<'a, J: Job + Drop> PackedDomain<'a, J> {
         ensures { Decides result (alone J.plan J.fixed.date part a.now ≡ alone J.plan J.fixed.date part b.now) }
     {
         let later = drop_first(self.plain.plan.steps.as_slice(), part);
-        same_scene(self.plain.names, self.plain.given.date, later, a, b)
+        same_before(self.plain.names, self.plain.given.date, later, a, b)
     }
 
     /// The number of a scene that shows the same as another.
