@@ -1,5 +1,5 @@
 //! Ways into the views behind a part: by which classes of codes its rows were told.
-ghost use Rattle.std.specs.Prelude.{◌≡◌, ℕ, All, IfSome, List, OnOk, Some, true, slice_get};
+ghost use Rattle.std.specs.Prelude.{◌≡◌, ℕ, All, IfSome, List, OnOk, Some, map, true, slice_get};
 ghost use Rattle.packed_core.specs.Ways.{AreKept, AreLooked, AreOffered, HasNoOther, HasNoOthers, IsThere};
 
 use crate::classes::{Class, Classes};
@@ -45,13 +45,33 @@ fn is_there(rows: &RowList, list: &[Class], base: &[u64], looked: Looked) -> boo
     is_joined(rows.at(looked.row), base, class.mask.as_slice())
 }
 
-/// Whether all of them do.
-fn are_there(rows: &RowList, list: &[Class], base: &[u64], looked: &[Looked]) -> bool
-    ensures { result ≡ true → All (IsThere rows.now list.now base.now) looked.now }
+/// The number of the row of a class that was looked at, if it stands.
+fn place_of(rows: &RowList, list: &[Class], base: &[u64], looked: Looked) -> Option<usize>
+    ensures { IfSome result (λ n. IsThere rows.now list.now base.now (record { class = looked.class; row = n })) }
 {
-    for one in looked {
-        if !is_there(rows, list, base, *one) {
-            return false;
+    if is_there(rows, list, base, looked) {
+        return Some(looked.row);
+    }
+    if looked.class >= list.len() {
+        return None;
+    }
+    let class = &list[looked.class];
+    if class.mask.len() != base.len() {
+        return None;
+    }
+    rows.find_joined(base, class.mask.as_slice())
+}
+
+/// Finds the rows of all of them, if they stand.
+fn place_all(rows: &RowList, list: &[Class], base: &[u64], looked: &mut Vec<Looked>) -> bool
+    ensures there { result ≡ true → All (IsThere rows.now list.now base.now) looked.new.items }
+    ensures same { map (λ l. l.class) looked.new.items ≡ map (λ l. l.class) looked.old.items }
+{
+    for i in 0..looked.len() {
+        let class = looked[i].class;
+        match place_of(rows, list, base, looked[i]) {
+            Some(row) => looked[i] = Looked { class, row },
+            None => return false,
         }
     }
     true
@@ -99,13 +119,9 @@ impl Ways {
         let Some(pending) = self.pending.take() else {
             return Ok(());
         };
-        let Pending { base, looked } = pending;
-        if are_there(
-            rows,
-            self.classes.list.as_slice(),
-            base.as_slice(),
-            looked.as_slice(),
-        ) {
+        let Pending { base, mut looked } = pending;
+        let list = self.classes.list.as_slice();
+        if place_all(rows, list, base.as_slice(), &mut looked) {
             lengthen(&mut self.notes, rows.len())?;
             note_all(&mut self.notes, looked.as_slice());
         }
