@@ -117,9 +117,29 @@ impl<'a, J: Job + Drop> PackedDomain<'a, J> {
         }
     }
 
-    /// Moves to the views of a scene behind a step that ended by each of these classes, but for those that stand there. Only those of these numbers are
-    /// looked at.
-    pub(crate) fn moves_by_code(
+    /// Moves to the views of a scene behind a step that ended by each of these classes, but for those that stand there.
+    fn moves_by_code(
+        &self,
+        alloc: Global,
+        base: &[u64],
+        classes: &[Class],
+        behind: &PackedViews<J>,
+    ) -> Result<Vec<Move<PackedView<J>>>, AllocError>
+        requires base { IsRow (room_at J.plan behind.now.part) base.now }
+        requires classes { All
+            (λ c. IsMask behind.now.part (tests_before J.plan behind.now.part) (room_at J.plan behind.now.part) c.code c.mask.items) classes.now }
+        ensures { IfOk result (λ moves. AreMovesByCode (λ v. v.row.items) J.plan J.fixed.date behind.now base.now (map (λ c. c.code) classes.now) moves.items) }
+    {
+        let mut moves = Vec::new(alloc);
+        for class in classes {
+            let (told, _row) = self.move_by_code(alloc, base, class, 0, behind)?;
+            push_told(&mut moves, told)?;
+        }
+        Ok(moves)
+    }
+
+    /// The same, where only the classes of these numbers are looked at.
+    fn moves_offered(
         &self,
         alloc: Global,
         base: &[u64],
@@ -152,7 +172,7 @@ impl<'a, J: Job + Drop> PackedDomain<'a, J> {
     }
 
     /// The same of the classes by which the step may end, but for those of which it is known that they lead to none that is new.
-    pub(crate) fn leads_by_code(
+    fn leads_noted(
         &self,
         alloc: Global,
         ways: &mut Ways,
@@ -171,10 +191,32 @@ impl<'a, J: Job + Drop> PackedDomain<'a, J> {
         let numbers = ways.offered(rows, base);
         let list = ways.classes.list.as_slice();
         let notes = ways.notes.as_slice();
-        let offer = self.moves_by_code(alloc, base, list, numbers, notes, behind)?;
+        let offer = self.moves_offered(alloc, base, list, numbers, notes, behind)?;
         let Offer { moves, looked } = offer;
         ways.keep_pending(alloc, base, looked)?;
         Ok(moves)
+    }
+
+    /// Moves to the views of a scene behind a step that ended by a code, but for those that stand there.
+    pub(crate) fn leads_by_code(
+        &self,
+        alloc: Global,
+        ways: &mut Ways,
+        base: &[u64],
+        behind: &PackedViews<J>,
+    ) -> Result<Vec<Move<PackedView<J>>>, AllocError>
+        requires ways { AreWays J.plan behind.now.part behind.now.rows ways.old }
+        requires base { IsRow (room_at J.plan behind.now.part) base.now }
+        ensures ways { OnOk result (AreWays J.plan behind.now.part behind.now.rows ways.new) }
+        ensures classes { ways.new.classes ≡ ways.old.classes }
+        ensures moves { IfOk result (λ moves. AreMovesByCode (λ v. v.row.items) J.plan J.fixed.date behind.now base.now
+            (map (λ c. c.code) ways.old.classes.value.list.items) moves.items) }
+    {
+        if ways.are_few() {
+            let list = ways.classes.list.as_slice();
+            return self.moves_by_code(alloc, base, list, behind);
+        }
+        self.leads_noted(alloc, ways, base, behind)
     }
 
     /// The move to the view of a scene behind a step that ended by an ABEND, but where it stands there.

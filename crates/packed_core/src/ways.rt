@@ -110,6 +110,11 @@ fn note_all(notes: &mut Vec<Option<usize>>, looked: &[Looked])
 const SOME: usize = 3;
 
 impl Ways {
+    /// Whether the classes are so few that nothing is noted.
+    pub(crate) fn are_few(&self) -> bool {
+        self.classes.list.len() < SOME
+    }
+
     /// Notes what was told last, if it stands by now.
     pub(crate) fn settle(&mut self, rows: &RowList) -> Result<(), AllocError>
         requires kept { AreKept rows.now self.old }
@@ -168,7 +173,7 @@ impl Ways {
             AreKept rows self.new }
         ensures classes { self.new.classes ≡ self.old.classes }
     {
-        if self.classes.list.len() < SOME || looked.is_empty() {
+        if looked.is_empty() {
             return Ok(());
         }
         let base = Vec::from_slice(alloc, base)?;

@@ -7,7 +7,7 @@ use Rattle.packed_core.specs.Classes.{AreMasks, tests_before}
 use Rattle.packed_core.specs.Rooms.{room_at}
 use Rattle.packed_core.specs.Views.{Views}
 use Rattle.packed_core.specs.Ways.{AreKept, AreLooked}
-use Rattle.packed_core.proofs.domain.PackedDomain.leads_by_code.Goals as goal
+use Rattle.packed_core.proofs.domain.PackedDomain.leads_noted.Goals as goal
 
 pub returns-clause-ways : goal.returns-clause-ways
 returns-clause-ways g c =
