@@ -20,7 +20,7 @@ bad_turn : (n : ℕ) (fault : Option CardFault) (lines : List (List ℕ)) → is
 bad_turn n (Some fault) lines more = refl
 bad_turn n None lines more = more
 
-bad_so : (n : ℕ) (lines : List (List ℕ)) → is_some (first_line_fault lines) ≡ is_some (bad_from n lines)
+pub bad_so : (n : ℕ) (lines : List (List ℕ)) → is_some (first_line_fault lines) ≡ is_some (bad_from n lines)
 bad_so n [] = refl
 bad_so n (line ∷ lines) = bad_turn n (line_fault line) lines (bad_so (n + 1) lines)
 

@@ -2,5 +2,6 @@ pub mod Cards
 pub mod Cuts
 pub mod Judging
 pub mod Places
+pub mod Spots
 pub mod Statements
 pub mod Walks

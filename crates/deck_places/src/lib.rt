@@ -3,6 +3,7 @@
 
 pub mod copies;
 pub mod judge;
+pub mod laws;
 mod lines;
 pub mod part;
 mod refusing;
