@@ -1,1 +1,3 @@
 pub mod Reports
+pub mod Spots
+pub mod Texts

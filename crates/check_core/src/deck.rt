@@ -1,6 +1,9 @@
 //! What is wrong with a deck.
-ghost use Rattle.std.specs.Prelude.{◌≡◌, IfOk};
+ghost use Rattle.std.specs.Prelude.{◌≡◌, IfOk, false};
+ghost use Rattle.deck_places.specs.Cards.{walk_of};
+ghost use Rattle.deck_places.specs.Spots.{IsWithin};
 ghost use Rattle.check_core.specs.Reports.{AreTold};
+ghost use Rattle.check_core.specs.Spots.{IsSpotOf};
 
 use crate::guess::guess_of;
 use crate::known::is_known;
@@ -9,23 +12,30 @@ use crate::mended::Mended;
 use crate::report::{Checked, Report, Spot};
 use card_core::statement::Card;
 use deck_places::judge::{At, Judged, judge};
+use deck_places::laws::each_place_has_a_statement;
 use jcl_plan::fault::Cause;
 use jcl_refs::units::UnitNames;
+use plain::text::Text;
 use proc_library::library::ProcLibrary;
 use std::alloc::{AllocError, Global};
 
 /// The most that is told of one deck.
 pub const MOST_REPORTS: usize = 100;
 
-/// What a deck is read with: the names of units, and the procedures of the session.
+/// What a deck is read with: the names of units, and the procedures of the session. The names of both stand beside them once more, from which one is
+/// guessed that may have been meant.
 #[derive(Clone, Copy)]
 pub struct Sources<'a> {
     pub units: &'a UnitNames,
     pub library: &'a ProcLibrary,
+    pub unit_names: &'a [Text],
+    pub procedure_names: &'a [Text],
 }
 
 /// A card of the deck as it was.
-fn own_card(mended: &Mended, card: Option<usize>) -> Option<usize> {
+fn own_card(mended: &Mended, card: Option<usize>) -> Option<usize>
+    ensures { mended.now.has_job_in_front ≡ false → result ≡ card }
+{
     match card {
         Some(n) => Some(mended.own_card(n)),
         None => None,
@@ -33,11 +43,19 @@ fn own_card(mended: &Mended, card: Option<usize>) -> Option<usize> {
 }
 
 /// What is told of a refusal.
-fn report_of(alloc: Global, mended: &Mended, cause: Cause, at: At) -> Result<Report, AllocError>
-    ensures { IfOk result (λ r. (r.cause ≡ cause) × (r.at ≡ at)) }
+fn report_of(
+    alloc: Global,
+    sources: &Sources<'_>,
+    mended: &Mended,
+    cause: Cause,
+    at: At,
+) -> Result<Report, AllocError>
+    ensures told { IfOk result (λ r. (r.cause ≡ cause) × (r.at ≡ at)) }
+    ensures spot { mended.now.has_job_in_front ≡ false → IsWithin (walk_of mended.now.lines.items).begun at →
+        IfOk result (λ r. IsSpotOf (walk_of mended.now.lines.items).begun at r.spot.card) }
 {
     let spot = spot_of(alloc, mended, cause, at)?;
-    let guess = guess_of(alloc, mended, cause, spot)?;
+    let guess = guess_of(alloc, sources, mended, cause, spot)?;
     let spot = Spot {
         card: own_card(mended, spot.card),
         column: spot.column,
@@ -82,7 +100,7 @@ fn later_of(
             None => true,
         };
         if !is_known {
-            later.push(report_of(alloc, mended, cause, at)?)?;
+            later.push(report_of(alloc, sources, mended, cause, at)?)?;
         }
     }
     Ok(later)
@@ -100,8 +118,9 @@ pub fn check_deck(
         Judged::Taken(plan) => return Ok(Checked::Taken(plan)),
         Judged::Refused(cause, at) => (cause, at),
     };
+    each_place_has_a_statement();
     let mut mended = Mended::of(alloc, lines)?;
-    let first = report_of(alloc, &mended, cause, at)?;
+    let first = report_of(alloc, sources, &mended, cause, at)?;
     let later = later_of(alloc, sources, &mut mended, cause, at)?;
     Ok(Checked::Refused { first, later })
 }

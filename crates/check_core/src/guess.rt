@@ -1,4 +1,5 @@
 //! A word that may have been meant.
+use crate::deck::Sources;
 use crate::mended::{Mended, card_at};
 use crate::report::Spot;
 use card_core::card::{Kind, kind_of};
@@ -33,14 +34,14 @@ static DD_KEYWORDS: [&[u8]; 15] = [
 static OPERATIONS: [&[u8]; 5] = [b"JOB", b"EXEC", b"DD", b"PROC", b"PEND"];
 
 /// The word that is most like another: at most two letters differ, and fewer than it has.
-#[derive(Clone, Copy)]
-struct Nearest<'a> {
-    word: Option<&'a [u8]>,
+#[derive(Drop)]
+struct Nearest {
+    word: Option<Text>,
     distance: usize,
 }
 
-impl<'a> Nearest<'a> {
-    fn none(word: &[u8]) -> Nearest<'a> {
+impl Nearest {
+    fn none(word: &[u8]) -> Nearest {
         let distance = if word.len() < 3 { word.len() } else { 3 };
         Nearest {
             word: None,
@@ -48,14 +49,63 @@ impl<'a> Nearest<'a> {
         }
     }
 
-    fn look_at(&mut self, alloc: Global, word: &[u8], other: &'a [u8]) -> Result<(), AllocError> {
+    fn look_at(&mut self, alloc: Global, word: &[u8], other: &[u8]) -> Result<(), AllocError> {
         let distance = generic_levenshtein(alloc, word, other)?;
         if 0 < distance && distance < self.distance {
-            self.word = Some(other);
+            self.word = Some(Text::copy_of(alloc, other)?);
             self.distance = distance;
         }
         Ok(())
     }
+
+    fn look_at_all(
+        &mut self,
+        alloc: Global,
+        word: &[u8],
+        others: &[Text],
+    ) -> Result<(), AllocError> {
+        for other in others {
+            self.look_at(alloc, word, other.as_slice())?;
+        }
+        Ok(())
+    }
+
+    /// Looks at the names of the statements with an operation.
+    fn look_at_names(
+        &mut self,
+        alloc: Global,
+        mended: &Mended,
+        word: &[u8],
+        operation: &[u8],
+    ) -> Result<(), AllocError> {
+        for n in 0..mended.lines.len() {
+            if let Some(card) = card_at(mended.lines.as_slice(), n) {
+                if is_named(&card, operation) {
+                    self.look_at(alloc, word, fields_of(&card).name)?;
+                }
+            }
+        }
+        Ok(())
+    }
+}
+
+/// Whether a card begins a statement with this operation, and a name.
+fn is_named(card: &DataCard, operation: &[u8]) -> bool {
+    kind_of(card) == Kind::Jcl
+        && fields_of(card).operation == operation
+        && !fields_of(card).name.is_empty()
+}
+
+/// Whether a statement with this operation has this name.
+fn has_name(mended: &Mended, name: &[u8], operation: &[u8]) -> bool {
+    for n in 0..mended.lines.len() {
+        if let Some(card) = card_at(mended.lines.as_slice(), n) {
+            if is_named(&card, operation) && fields_of(&card).name == name {
+                return true;
+            }
+        }
+    }
+    false
 }
 
 /// The nearest of these words.
@@ -64,39 +114,101 @@ fn nearest_of(alloc: Global, word: &[u8], others: &[&[u8]]) -> Result<Option<Tex
     for other in others {
         nearest.look_at(alloc, word, *other)?;
     }
-    match nearest.word {
-        Some(found) => Ok(Some(Text::copy_of(alloc, found)?)),
-        None => Ok(None),
-    }
+    Ok(nearest.word)
 }
 
-/// The nearest of the names of statements with an operation.
+/// The nearest procedure of the deck, or of the session.
+fn nearest_procedure(
+    alloc: Global,
+    sources: &Sources<'_>,
+    mended: &Mended,
+    word: &[u8],
+) -> Result<Option<Text>, AllocError> {
+    let mut nearest = Nearest::none(word);
+    nearest.look_at_names(alloc, mended, word, b"PROC")?;
+    nearest.look_at_all(alloc, word, sources.procedure_names)?;
+    Ok(nearest.word)
+}
+
+/// The nearest unit of the session.
+fn nearest_unit(
+    alloc: Global,
+    sources: &Sources<'_>,
+    word: &[u8],
+) -> Result<Option<Text>, AllocError> {
+    let mut nearest = Nearest::none(word);
+    nearest.look_at_all(alloc, word, sources.unit_names)?;
+    Ok(nearest.word)
+}
+
+/// The nearest name of a statement with this operation, unless one has this name.
 fn nearest_name(
     alloc: Global,
     mended: &Mended,
     word: &[u8],
     operation: &[u8],
 ) -> Result<Option<Text>, AllocError> {
-    let mut best = None;
-    let mut least = Nearest::none(word).distance;
-    for n in 0..mended.lines.len() {
-        let Some(card) = card_at(mended.lines.as_slice(), n) else {
-            continue;
+    if has_name(mended, word, operation) {
+        return Ok(None);
+    }
+    let mut nearest = Nearest::none(word);
+    nearest.look_at_names(alloc, mended, word, operation)?;
+    Ok(nearest.word)
+}
+
+/// Of a reference to a step and a DD of it, the first name that no statement has: the nearest to it.
+fn nearest_in_reference(
+    alloc: Global,
+    mended: &Mended,
+    reference: &[u8],
+) -> Result<Option<Text>, AllocError> {
+    let count = reference.split(|c| *c == b'.').count();
+    for (n, piece) in reference.split(|c| *c == b'.').enumerate() {
+        let operation: &[u8] = if n.saturating_add(1) == count {
+            b"DD"
+        } else {
+            b"EXEC"
         };
-        if kind_of(&card) == Kind::Jcl && fields_of(&card).operation == operation {
-            let distance = generic_levenshtein(alloc, word, fields_of(&card).name)?;
-            if 0 < distance && distance < least {
-                least = distance;
-                best = Some(Text::copy_of(alloc, fields_of(&card).name)?);
+        if let Some(found) = nearest_name(alloc, mended, piece, operation)? {
+            return Ok(Some(found));
+        }
+    }
+    Ok(None)
+}
+
+/// Of a text that names steps, the first word that is nearly one.
+fn nearest_step(alloc: Global, mended: &Mended, text: &[u8]) -> Result<Option<Text>, AllocError> {
+    for piece in text.split(|c| !is_name_character(*c)) {
+        if piece.len() > 2 {
+            if let Some(found) = nearest_name(alloc, mended, piece, b"EXEC")? {
+                return Ok(Some(found));
             }
         }
     }
-    Ok(best)
+    Ok(None)
 }
 
 /// Whether a word stands before an equals sign, as a keyword does.
 fn is_keyword(card: &DataCard, column: usize, word: &[u8]) -> bool {
     card.get(column.saturating_add(word.len())) == Some(&b'=')
+}
+
+/// The text of a card behind so many columns from a column on.
+fn behind(card: &DataCard, column: usize, count: usize) -> &[u8] {
+    let (_, behind) = card
+        .as_slice()
+        .split_at(column.saturating_add(count).min(80));
+    behind
+}
+
+/// The text as far as it is a name, or names with periods between them.
+fn name_in(text: &[u8], with_periods: bool) -> &[u8] {
+    let len = text
+        .iter()
+        .take_while(|c| is_name_character(**c) || (with_periods && **c == b'.'))
+        .count();
+    let (name, _) = text.split_at(len);
+    name
 }
 
 /// The word of a card from a column on.
@@ -105,6 +217,23 @@ fn word_at(card: &DataCard, column: usize) -> &[u8] {
     let len = behind.iter().take_while(|c| is_name_character(**c)).count();
     let (word, _) = behind.split_at(len);
     word
+}
+
+/// The name of the procedure that an operand calls, behind `PROC=` too.
+fn procedure_at(card: &DataCard, column: usize) -> &[u8] {
+    let word = word_at(card, column);
+    if word == b"PROC".as_slice() && is_keyword(card, column, word) {
+        name_in(behind(card, column, 5), false)
+    } else {
+        word
+    }
+}
+
+/// A text up to its first blank.
+fn operand_of(text: &[u8]) -> &[u8] {
+    let len = text.iter().take_while(|c| **c != b' ').count();
+    let (operand, _) = text.split_at(len);
+    operand
 }
 
 fn keywords_of(operation: &[u8]) -> &'static [&'static [u8]] {
@@ -158,6 +287,7 @@ fn nearest_keyword(
 /// A word that may have been meant in place of the one that is refused.
 pub(crate) fn guess_of(
     alloc: Global,
+    sources: &Sources<'_>,
     mended: &Mended,
     cause: Cause,
     spot: Spot,
@@ -185,7 +315,16 @@ pub(crate) fn guess_of(
             }
         }
         Cause::P(StatementFault::NoSuchProcedure) => {
-            nearest_name(alloc, mended, word_at(&card, column), b"PROC")
+            nearest_procedure(alloc, sources, mended, procedure_at(&card, column))
+        }
+        Cause::P(StatementFault::UnknownUnit) => {
+            nearest_unit(alloc, sources, name_in(behind(&card, column, 5), false))
+        }
+        Cause::P(StatementFault::ReferenceToNothing) => {
+            nearest_in_reference(alloc, mended, name_in(behind(&card, column, 2), true))
+        }
+        Cause::P(StatementFault::TestOfNoEarlierStep) => {
+            nearest_step(alloc, mended, operand_of(behind(&card, column, 5)))
         }
         _ => Ok(None),
     }

@@ -1,4 +1,9 @@
 //! The place on a card where a statement is refused.
+ghost use Rattle.std.specs.Prelude.{◌≡◌, IfOk, IfSome};
+ghost use Rattle.deck_places.specs.Cards.{walk_of};
+ghost use Rattle.deck_places.specs.Spots.{IsWithin};
+ghost use Rattle.check_core.specs.Spots.{IsAtFirst, IsFirstOrWithin, IsSpotOf};
+
 use crate::mended::{Mended, Span, card_at};
 use crate::report::Spot;
 use card_core::card::{Kind, kind_of};
@@ -7,6 +12,7 @@ use card_core::read::{ReadError as CardError, read_statements};
 use card_core::statement::{DataCard, Statement};
 use deck_places::copies::copy_of;
 use deck_places::judge::At;
+use deck_places::walk::walk_lines;
 use jcl_deck::place::Place;
 use jcl_plan::fault::{Cause, StatementFault};
 use operand_core::places::Places;
@@ -122,7 +128,9 @@ fn piece_of(card: &DataCard, first: bool) -> (usize, usize, bool) {
 }
 
 /// The card and the column of a place in a statement's operand.
-fn spot_in(mended: &Mended, span: Span, place: usize) -> Spot {
+fn spot_in(mended: &Mended, span: Span, place: usize) -> Spot
+    ensures { IsFirstOrWithin span result.card }
+{
     let mut left = place;
     for n in span.from..span.to {
         let Some(card) = card_at(mended.lines.as_slice(), n) else {
@@ -163,7 +171,9 @@ fn place_of(text: &[u8], word: &[u8]) -> Option<usize> {
 }
 
 /// The first place of a word on the cards of a statement, or its operand.
-fn word_spot(mended: &Mended, span: Span, word: &[u8]) -> Spot {
+fn word_spot(mended: &Mended, span: Span, word: &[u8]) -> Spot
+    ensures { IsFirstOrWithin span result.card }
+{
     for n in span.from..span.to {
         if let Some(card) = card_at(mended.lines.as_slice(), n) {
             if let Some(column) = place_of(card.as_slice(), word) {
@@ -177,36 +187,45 @@ fn word_spot(mended: &Mended, span: Span, word: &[u8]) -> Spot {
     spot_in(mended, span, 0)
 }
 
-/// The last card that begins a procedure, or the first.
-fn last_proc(mended: &Mended) -> usize {
-    let mut last = 0;
-    for n in 0..mended.lines.len() {
-        if let Some(card) = card_at(mended.lines.as_slice(), n) {
+/// Of the cards on which statements begin the last that begins a procedure, or the first.
+fn last_proc(mended: &Mended, begun: &[usize]) -> Option<usize>
+    ensures { IsAtFirst begun.now result }
+{
+    let mut last = begun.first().copied();
+    for n in begun {
+        if let Some(card) = card_at(mended.lines.as_slice(), *n) {
             if kind_of(&card) == Kind::Jcl && fields_of(&card).operation == b"PROC".as_slice() {
-                last = n;
+                last = Some(*n);
             }
         }
     }
     last
 }
 
+/// The card that is shown for a refusal at the deck's end.
+fn end_card(mended: &Mended, begun: &[usize], cause: Cause) -> Option<usize>
+    ensures { IsAtFirst begun.now result }
+{
+    match cause {
+        Cause::P(StatementFault::MissingPend) => last_proc(mended, begun),
+        _ => begun.first().copied(),
+    }
+}
+
 /// The place of a refusal at the deck's end.
-fn end_spot(mended: &Mended, cause: Cause) -> Spot {
-    let card = match cause {
-        Cause::P(StatementFault::MissingPend) => Some(last_proc(mended)),
-        _ if mended.lines.is_empty() => None,
-        _ => Some(0),
-    };
-    Spot { card, column: None }
+fn end_spot(alloc: Global, mended: &Mended, cause: Cause) -> Result<Spot, AllocError>
+    ensures { IfOk result (λ s. IsAtFirst (walk_of mended.now.lines.items).begun s.card) }
+{
+    let lent = mended.lent(alloc)?;
+    let walk = walk_lines(alloc, lent.as_slice())?;
+    let card = end_card(mended, walk.begun.as_slice(), cause);
+    Ok(Spot { card, column: None })
 }
 
 /// The place in a statement.
-fn statement_spot(
-    alloc: Global,
-    mended: &Mended,
-    span: Span,
-    k: usize,
-) -> Result<Spot, AllocError> {
+fn statement_spot(alloc: Global, mended: &Mended, span: Span, k: usize) -> Result<Spot, AllocError>
+    ensures { IfOk result (λ s. IsFirstOrWithin span s.card) }
+{
     let lent = mended.lent(alloc)?;
     let statements = match read_statements(alloc, lent.as_slice()) {
         Ok(statements) => statements,
@@ -228,9 +247,11 @@ pub(crate) fn spot_of(
     mended: &Mended,
     cause: Cause,
     at: At,
-) -> Result<Spot, AllocError> {
+) -> Result<Spot, AllocError>
+    ensures { IsWithin (walk_of mended.now.lines.items).begun at → IfOk result (λ s. IsSpotOf (walk_of mended.now.lines.items).begun at s.card) }
+{
     let Some(span) = mended.span_at(alloc, at)? else {
-        return Ok(end_spot(mended, cause));
+        return end_spot(alloc, mended, cause);
     };
     match at {
         At::Card(n) => Ok(Spot {
@@ -239,6 +260,6 @@ pub(crate) fn spot_of(
         }),
         At::Statement(k) => statement_spot(alloc, mended, span, k),
         At::Call(_) | At::Planned(_, _) => Ok(word_spot(mended, span, word_of(cause))),
-        At::End => Ok(end_spot(mended, cause)),
+        At::End => end_spot(alloc, mended, cause),
     }
 }

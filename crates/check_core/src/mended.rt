@@ -1,4 +1,8 @@
 //! A deck whose refused statements are replaced, so that the rest of it can be looked at.
+ghost use Rattle.std.specs.Prelude.{◌≡◌, ◌≤◌, IfOk, false};
+ghost use Rattle.deck_places.specs.Cards.{walk_of};
+ghost use Rattle.check_core.specs.Spots.{IsSpanAt, IsSpanOf};
+
 use card_core::card::{Kind, card_of, kind_of};
 use card_core::field::fields_of;
 use card_core::statement::{Card, DataCard};
@@ -98,7 +102,10 @@ fn cut_line(alloc: Global, line: &[u8]) -> Result<Text, AllocError> {
 
 impl Mended {
     /// The deck as it is.
-    pub(crate) fn of(alloc: Global, lines: &[Card<'_>]) -> Result<Mended, AllocError> {
+    pub(crate) fn of(alloc: Global, lines: &[Card<'_>]) -> Result<Mended, AllocError>
+        ensures lines { IfOk result (λ m. m.lines.items ≡ lines.now) }
+        ensures unmended { IfOk result (λ m. m.has_job_in_front ≡ false) }
+    {
         let mut copies = Vec::new(alloc);
         let mut touched = Vec::new(alloc);
         for line in lines {
@@ -114,7 +121,9 @@ impl Mended {
     }
 
     /// Its lines.
-    pub(crate) fn lent<'a>(&'a self, alloc: Global) -> Result<Vec<Lent<'a>>, AllocError> {
+    pub(crate) fn lent<'a>(&'a self, alloc: Global) -> Result<Vec<Lent<'a>>, AllocError>
+        ensures { IfOk result (λ lent. lent.items ≡ self.now.lines.items) }
+    {
         let mut lent = Vec::new(alloc);
         for line in &self.lines {
             lent.push(Lent::new(line.as_slice()))?;
@@ -123,7 +132,9 @@ impl Mended {
     }
 
     /// The first card behind one that ends the deck, or all of them.
-    fn end_behind(&self, from: usize, to: usize) -> usize {
+    fn end_behind(&self, from: usize, to: usize) -> usize
+        ensures { result ≤ to }
+    {
         for n in from..to {
             if let Some(card) = card_at(self.lines.as_slice(), n) {
                 if kind_of(&card) == Kind::Null {
@@ -135,7 +146,9 @@ impl Mended {
     }
 
     /// The cards of the statement of a number.
-    fn span_of(&self, begun: &[usize], k: usize) -> Option<Span> {
+    fn span_of(&self, begun: &[usize], k: usize) -> Option<Span>
+        ensures { IsSpanOf begun.now k result }
+    {
         let from = *begun.get(k)?;
         let to = match begun.get(k + 1) {
             Some(next) => *next,
@@ -146,7 +159,9 @@ impl Mended {
     }
 
     /// The cards of the place where the deck is refused.
-    pub(crate) fn span_at(&self, alloc: Global, at: At) -> Result<Option<Span>, AllocError> {
+    pub(crate) fn span_at(&self, alloc: Global, at: At) -> Result<Option<Span>, AllocError>
+        ensures { IfOk result (IsSpanAt (walk_of self.now.lines.items).begun at) }
+    {
         let lent = self.lent(alloc)?;
         let begun = walk_lines(alloc, lent.as_slice())?.begun;
         let begun = begun.as_slice();
@@ -242,7 +257,9 @@ impl Mended {
     }
 
     /// The card of the deck as it was.
-    pub(crate) fn own_card(&self, n: usize) -> usize {
+    pub(crate) fn own_card(&self, n: usize) -> usize
+        ensures { self.now.has_job_in_front ≡ false → result ≡ n }
+    {
         if self.has_job_in_front {
             n.saturating_sub(1)
         } else {

@@ -1,10 +1,14 @@
 //! Refusals as text.
+ghost use Rattle.std.specs.Prelude.{◌≡◌, ◌++◌, ◌∷◌, IfOk, OnOk, decimal};
+ghost use Rattle.jcl_plan.specs.Texts.{cause_text};
+ghost use Rattle.check_core.specs.Texts.{AddsToldText, head, line_of};
+
 use crate::report::{Checked, Report, Spot};
 use card_core::statement::Card;
 use itoa::Buffer;
 use jcl_plan::fault::Cause;
 use refusal_text::table::row_of;
-use std::alloc::AllocError;
+use std::alloc::{AllocError, Global};
 
 /// The most columns of a card that are shown.
 const COLUMNS: usize = 80;
@@ -21,10 +25,60 @@ fn number_of(cause: Cause) -> (u8, u8) {
     }
 }
 
-fn push_number(text: &mut Vec<u8>, number: usize) -> Result<(), AllocError> {
+fn push_number(text: &mut Vec<u8>, number: usize) -> Result<(), AllocError>
+    ensures { OnOk result (text.new.items ≡ text.old.items ++ decimal number) }
+{
     let mut buffer = Buffer::new();
     text.extend_from_slice(buffer.format(number as u64).as_bytes())?;
     Ok(())
+}
+
+/// Puts a letter and a number behind a text.
+fn push_lettered(text: &mut Vec<u8>, letter: u8, number: u8) -> Result<(), AllocError>
+    ensures { OnOk result (text.new.items ≡ text.old.items ++ letter ∷ decimal number) }
+{
+    text.push(letter)?;
+    push_number(text, usize::from(number))
+}
+
+/// Puts the letter and the number of a refusal behind a text.
+fn push_cause(text: &mut Vec<u8>, cause: Cause) -> Result<(), AllocError>
+    ensures { OnOk result (text.new.items ≡ text.old.items ++ cause_text cause) }
+{
+    match cause {
+        Cause::C(number) => push_lettered(text, b'C', number),
+        Cause::N(number) => push_lettered(text, b'N', number),
+        Cause::P(fault) => push_lettered(text, b'P', fault.number()),
+        Cause::Q(fault) => push_lettered(text, b'Q', fault.number()),
+        Cause::B(number) => push_lettered(text, b'B', number),
+        Cause::A(fault) => push_lettered(text, b'A', fault.number()),
+    }
+}
+
+/// Puts the beginning of what is told of a refusal behind a text.
+fn push_head(text: &mut Vec<u8>, line: usize, cause: Cause) -> Result<(), AllocError>
+    ensures { OnOk result (text.new.items ≡ text.old.items ++ head line cause) }
+{
+    text.extend_from_slice(b"line ")?;
+    push_number(text, line)?;
+    text.extend_from_slice(b": ")?;
+    push_cause(text, cause)?;
+    text.push(b' ')?;
+    Ok(())
+}
+
+/// The line of the session on which a card stands. The deck's first card stands on the first of these lines; where the deck has none, it is the line before.
+fn line_of(first_line: usize, card: Option<usize>) -> Result<usize, AllocError>
+    ensures { IfOk result (λ line. line ≡ line_of first_line card) }
+{
+    let line = match card {
+        Some(n) => first_line.checked_add(n),
+        None => Some(first_line.saturating_sub(1)),
+    };
+    match line {
+        Some(line) => Ok(line),
+        None => Err(AllocError),
+    }
 }
 
 /// A card as it can be printed: what is no printable character is a question mark.
@@ -61,26 +115,11 @@ fn push_spot(text: &mut Vec<u8>, lines: &[Card<'_>], spot: Spot) -> Result<(), A
     }
 }
 
-/// Writes what is told of a refusal. The deck's first card stands on this line of the session, which counts from 1.
-fn push_report(
-    text: &mut Vec<u8>,
-    first_line: usize,
-    lines: &[Card<'_>],
-    report: &Report,
-) -> Result<(), AllocError> {
-    let line = match report.spot.card {
-        Some(n) => first_line.saturating_add(n),
-        None => first_line.saturating_sub(1),
-    };
+/// Puts what is wrong, where, and what to do behind the beginning of what is told of a refusal.
+fn push_words(text: &mut Vec<u8>, lines: &[Card<'_>], report: &Report) -> Result<(), AllocError> {
     let (letter, number) = number_of(report.cause);
-    text.extend_from_slice(b"line ")?;
-    push_number(text, line)?;
-    text.extend_from_slice(b": ")?;
-    text.push(letter)?;
-    push_number(text, usize::from(number))?;
     let row = row_of(letter, number);
     if let Some(row) = row {
-        text.push(b' ')?;
         text.extend_from_slice(row.wrong.as_bytes())?;
     }
     text.push(b'\n')?;
@@ -98,20 +137,46 @@ fn push_report(
     Ok(())
 }
 
-/// Writes what is told of a deck, whose first card stands on this line of the session.
+/// The words of the first refusal, and what is told of the others.
+fn rest_of(
+    alloc: Global,
+    first_line: usize,
+    lines: &[Card<'_>],
+    first: &Report,
+    later: &[Report],
+) -> Result<Vec<u8>, AllocError> {
+    let mut text = Vec::new(alloc);
+    push_words(&mut text, lines, first)?;
+    for report in later {
+        let line = line_of(first_line, report.spot.card)?;
+        push_head(&mut text, line, report.cause)?;
+        push_words(&mut text, lines, report)?;
+    }
+    Ok(text)
+}
+
+/// Puts what is told of a deck behind a text. The deck's first card stands on this line of the session, which counts from 1.
 pub fn push_checked(
     text: &mut Vec<u8>,
     first_line: usize,
     lines: &[Card<'_>],
     checked: &Checked,
-) -> Result<(), AllocError> {
+) -> Result<(), AllocError>
+    ensures { OnOk result (AddsToldText first_line checked.now text.old.items text.new.items) }
+{
     match checked {
         Checked::Taken(_) => Ok(()),
         Checked::Refused { first, later } => {
-            push_report(text, first_line, lines, first)?;
-            for report in later {
-                push_report(text, first_line, lines, report)?;
-            }
+            let rest = rest_of(
+                *text.allocator(),
+                first_line,
+                lines,
+                first,
+                later.as_slice(),
+            )?;
+            let line = line_of(first_line, first.spot.card)?;
+            push_head(text, line, first.cause)?;
+            text.extend_from_slice(rest.as_slice())?;
             Ok(())
         }
     }
