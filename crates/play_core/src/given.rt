@@ -17,7 +17,8 @@ pub enum Given {
 }
 
 impl Given {
-    pub(crate) fn event<'a>(&self) -> Event<'a>
+    /// The event itself.
+    pub fn event<'a>(&self) -> Event<'a>
         ensures { result ≡ event_of self.now }
     {
         match self {

@@ -83,6 +83,24 @@ fn extend(
     }
 }
 
+/// The events that are added to a session, in their order. A session with a fault gets none.
+pub fn added_events(
+    alloc: Global,
+    statements: &[Statement<'_>],
+    options: Options,
+) -> Result<Vec<Given>, AllocError>
+    ensures { IfOk result (λ given. IsFound options (session_behind [] statements.now) given.items) }
+{
+    let found = find(alloc, statements, options)?;
+    match found {
+        None => Ok(Vec::new(alloc)),
+        Some(added) => {
+            let Added { given, waits: _ } = added;
+            Ok(given)
+        }
+    }
+}
+
 /// Reads a session of a source, plays it on with these options, and writes the listing of both to a sink while it runs.
 pub fn play_streams<R: Read, W: Write>(
     alloc: Global,
