@@ -1,0 +1,4 @@
+pub mod Answering
+pub mod Decks
+pub mod Noting
+pub mod Runs
