@@ -1,0 +1,20 @@
+-- How the words for an answer begin. (This profile)
+use Rattle.std.specs.Prelude.{ℕ, List, [], ◌++◌, Option, Some, None, codes, decimal}
+use Rattle.answer_core.specs.declared.answer.Answer.{Answer}
+use Rattle.answer_core.specs.declared.answer.Answer.TheVariants.{Assured, Risk, TooMany}
+
+-- the number of a job that has one
+abbrev pub number_text : Option ℕ → List ℕ
+number_text None = []
+number_text (Some job) = decimal job ++ codes " "
+
+-- what is answered
+abbrev pub verdict_text : Option Answer → List ℕ
+verdict_text None = codes " is not looked at: "
+verdict_text (Some (Assured tracks actions)) = codes " is ASSURED: "
+verdict_text (Some (Risk fault step dd path lines)) = codes " is at RISK: "
+verdict_text (Some (TooMany step)) = codes " has too many paths (TOOMANY): "
+
+-- the line of the session, the job and what is answered it
+abbrev pub beginning : ℕ → Option ℕ → List ℕ → Option Answer → List ℕ
+beginning line job name answer = codes "line " ++ decimal line ++ codes ": job " ++ number_text job ++ name ++ verdict_text answer

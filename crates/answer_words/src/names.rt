@@ -1,0 +1,159 @@
+//! Numbers, and steps, DDs and data sets as who wrote the deck knows them.
+ghost use Rattle.std.specs.Prelude.{◌≡◌, ◌++◌, OnOk, decimal};
+
+use itoa::Buffer;
+use jcl_plan::plan::{DdKind, DdPlan, JobPlan, StepPlan};
+use jname_core::key::{Key, Sign};
+use jname_core::name8::Name8;
+use std::alloc::AllocError;
+
+pub(crate) fn push_number(text: &mut Vec<u8>, number: u64) -> Result<(), AllocError>
+    ensures { OnOk result (text.new.items ≡ text.old.items ++ decimal number) }
+{
+    let mut buffer = Buffer::new();
+    text.extend_from_slice(buffer.format(number).as_bytes())?;
+    Ok(())
+}
+
+/// A number of things, of which each has this name: `1 track`, `12 tracks`.
+pub(crate) fn push_count(text: &mut Vec<u8>, count: usize, name: &[u8]) -> Result<(), AllocError> {
+    push_number(text, count as u64)?;
+    text.push(b' ')?;
+    text.extend_from_slice(name)?;
+    if count != 1 {
+        text.push(b's')?;
+    }
+    Ok(())
+}
+
+/// The step of this number, which counts from 1.
+fn step_at(plan: &JobPlan, number: usize) -> Option<&StepPlan> {
+    let place = number.checked_sub(1)?;
+    plan.steps.as_slice().get(place)
+}
+
+/// The DD of this number, which counts from 1, of that step.
+fn dd_at(plan: &JobPlan, step: usize, dd: usize) -> Option<&DdPlan> {
+    let place = dd.checked_sub(1)?;
+    step_at(plan, step)?.dds.as_slice().get(place)
+}
+
+/// What that DD names, where it is for a data set.
+pub(crate) fn key_at(plan: &JobPlan, step: usize, dd: usize) -> Option<&Key> {
+    match &dd_at(plan, step, dd)?.kind {
+        DdKind::Set(set) => Some(&set.key),
+        _ => None,
+    }
+}
+
+fn push_shown(text: &mut Vec<u8>, name: &Option<Name8>) -> Result<(), AllocError> {
+    match name {
+        None => text.push(b'-')?,
+        Some(name) => text.extend_from_slice(name.as_slice())?,
+    }
+    Ok(())
+}
+
+/// The name of a step as the listing shows it, or its number where it has none.
+fn push_step_name(text: &mut Vec<u8>, plan: &JobPlan, number: usize) -> Result<(), AllocError> {
+    let Some(step) = step_at(plan, number) else {
+        return push_number(text, number as u64);
+    };
+    match (&step.name, &step.procedure_step) {
+        (None, None) => push_number(text, number as u64),
+        (name, None) => push_shown(text, name),
+        (name, Some(procedure_step)) => {
+            push_shown(text, name)?;
+            text.push(b'.')?;
+            text.extend_from_slice(procedure_step.as_slice())?;
+            Ok(())
+        }
+    }
+}
+
+/// Whether the step has a name.
+fn has_name(plan: &JobPlan, number: usize) -> bool {
+    match step_at(plan, number) {
+        Some(step) => step.name.is_some() || step.procedure_step.is_some(),
+        None => false,
+    }
+}
+
+/// A step, as the subject of a sentence: `S1`, `CALL.S1`, `step 3`.
+pub(crate) fn push_subject(
+    text: &mut Vec<u8>,
+    plan: &JobPlan,
+    number: usize,
+) -> Result<(), AllocError> {
+    if !has_name(plan, number) {
+        text.extend_from_slice(b"step ")?;
+    }
+    push_step_name(text, plan, number)
+}
+
+/// A step: `step S1`, `step CALL.S1`, `step 3`.
+pub(crate) fn push_step(
+    text: &mut Vec<u8>,
+    plan: &JobPlan,
+    number: usize,
+) -> Result<(), AllocError> {
+    text.extend_from_slice(b"step ")?;
+    push_step_name(text, plan, number)
+}
+
+/// A name, or a number in the place of one.
+fn push_name_or(text: &mut Vec<u8>, name: &Option<Name8>, number: usize) -> Result<(), AllocError> {
+    match name {
+        Some(name) => text.extend_from_slice(name.as_slice()),
+        None => push_number(text, number as u64),
+    }
+}
+
+/// A DD of that step: `DD OUT`, `DD 2`.
+pub(crate) fn push_dd(
+    text: &mut Vec<u8>,
+    plan: &JobPlan,
+    step: usize,
+    dd: usize,
+) -> Result<(), AllocError> {
+    text.extend_from_slice(b"DD ")?;
+    match dd_at(plan, step, dd) {
+        Some(found) => push_name_or(text, &found.name, dd),
+        None => push_number(text, dd as u64),
+    }
+}
+
+/// What stands between the parentheses of a relative generation: `0`, `+1`, `-2`.
+fn push_relative(text: &mut Vec<u8>, sign: Sign, amount: u8) -> Result<(), AllocError> {
+    if amount > 0 {
+        text.push(match sign {
+            Sign::Plus => b'+',
+            Sign::Minus => b'-',
+        })?;
+    }
+    push_number(text, u64::from(amount))
+}
+
+/// A data set by the name that the deck gives it. One without a name of its own is `the data set`.
+pub(crate) fn push_data_set(text: &mut Vec<u8>, key: Option<&Key>) -> Result<(), AllocError> {
+    text.extend_from_slice(b"the data set")?;
+    match key {
+        Some(Key::Named(name)) => {
+            text.push(b' ')?;
+            text.extend_from_slice(name.as_slice())?;
+        }
+        Some(Key::Relative { base, sign, amount }) => {
+            text.push(b' ')?;
+            text.extend_from_slice(base.as_slice())?;
+            text.push(b'(')?;
+            push_relative(text, *sign, *amount)?;
+            text.push(b')')?;
+        }
+        Some(Key::Temporary(name)) => {
+            text.extend_from_slice(b" &&")?;
+            text.extend_from_slice(name.as_slice())?;
+        }
+        Some(Key::Unnamed { .. }) | None => {}
+    }
+    Ok(())
+}
