@@ -1,6 +1,6 @@
 # Needs the Rattle toolchain (`rt` on the path).
 
-.PHONY: help test run mvt tools play picture pictures examples documents rows hostile bench
+.PHONY: help test run mvt tools check play picture pictures examples documents rows hostile bench
 
 # The session that `make run` runs.
 SESSION ?= examples/first.session
@@ -15,7 +15,9 @@ help:
 	@echo 'make run [SESSION=FILE]   runs a session (examples/first.session) with the program as it stands, not proved:'
 	@echo '                          a minute or two where something changed, else at once'
 	@echo 'make mvt                  proves the program and all that it stands on, and builds it to ./mvt'
-	@echo 'make tools                so for ./mvt-play, which plays a session on until nothing moves, and ./mvt-picture, which draws one'
+	@echo 'make tools                so for ./mvt-check, which says why decks are refused, ./mvt-play, which plays a session on until nothing'
+	@echo '                          moves, and ./mvt-picture, which draws one'
+	@echo 'make check                compares the sessions of tests/check/ with ./mvt-check'
 	@echo 'make picture [SESSION=FILE]  draws a session to picture.svg with the program as it stands, not proved'
 	@echo 'make pictures             draws each session of examples/ with ./mvt-picture and reads the pictures as XML'
 	@echo 'make play                 compares the sessions of tests/play/ with ./mvt-play and ./mvt'
@@ -43,7 +45,11 @@ mvt:
 	cp crates/mvt_main/out/mvt_main mvt
 
 # The proved tools beside it.
-tools: mvt-play mvt-picture
+tools: mvt-check mvt-play mvt-picture
+
+mvt-check: $(SOURCES)
+	cd crates/mvt_check && rt run </dev/null
+	cp crates/mvt_check/out/mvt_check mvt-check
 
 mvt-play: $(SOURCES)
 	cd crates/mvt_play && rt run </dev/null
@@ -63,6 +69,10 @@ mvt-picture-unproved: $(SOURCES)
 # Draws the examples, and reads the pictures.
 pictures: mvt-picture
 	tests/pictures.sh ./mvt-picture
+
+# Compares what ./mvt-check says of the decks of tests/check/, and its first numbers with those of ./mvt.
+check: mvt tools
+	tests/check.sh ./mvt-check ./mvt
 
 # Compares what ./mvt-play writes with the sessions that were played on.
 play: mvt tools

@@ -1,0 +1,133 @@
+-- What is found of the decks of a session, and what is written of it. (This profile)
+use Rattle.std.specs.Prelude.{◌≡◌, ◌⊎◌, ℕ, ◌+◌, Bool, true, false, ◌||◌, List, [], ◌∷◌, ◌++◌, codes, decimal, Option, Some, None, is_some, is_err, take, if◌then◌else◌}
+use Rattle.std.specs.Io.KnownBytes.{Appends}
+use Rattle.std.specs.List.{list_any}
+use Rattle.answer_core.specs.declared.answer.Answer.{Answer}
+use Rattle.answer_core.specs.declared.answer.Answer.TheVariants as answer
+use Rattle.answer_core.specs.declared.answer.Answered.{Answered}
+use Rattle.answer_core.specs.Telling.{AreAnswered}
+use Rattle.check_core.specs.declared.report.Checked.{Checked}
+use Rattle.check_core.specs.Reports.{AreTold}
+use Rattle.check_core.specs.Texts.{AddsToldText}
+use Rattle.config_core.specs.Configs.{unit_names}
+use Rattle.input_core.specs.declared.event.Event.{Event}
+use Rattle.input_core.specs.declared.event.Event.TheVariants as event
+use Rattle.jcl_job.specs.Jobs.{job_of}
+use Rattle.proc_library.specs.declared.library.LibraryProcedure.{LibraryProcedure}
+use Rattle.session_text.specs.declared.fault.Fault.{Fault}
+use Rattle.session_text.specs.declared.statement.Ending.{Ending}
+use Rattle.session_text.specs.declared.statement.Says.{Says}
+use Rattle.session_text.specs.declared.statement.Says.TheVariants as says
+use Rattle.session_text.specs.declared.statement.Statement.{Statement}
+use Rattle.session_text.specs.FaultNumbers.{number_of}
+use Rattle.session_text.specs.Statements.{statements_of}
+use Rattle.session_core.specs.Opening.{IsOpened}
+use Rattle.session_core.specs.Sessions.{session_behind}
+use Rattle.session_core.specs.Streams.{IsRead, SinkState, SourceState}
+use Rattle.session_core.specs.declared.Options.{Options}
+use Rattle.session_core.specs.declared.open.Opened.{Opened}
+use Rattle.mvt_check.specs.declared.session.Found.{Found}
+
+-- a deck that is read denotes no job
+abbrev pub is_refused_event : List (List ℕ) → List LibraryProcedure → Event → Bool
+is_refused_event units library (event.Read lines) = is_err (job_of units library lines)
+is_refused_event units library other = false
+
+abbrev pub is_refused : List (List ℕ) → List LibraryProcedure → Says → Bool
+is_refused units library (says.Events event times) = is_refused_event units library event
+is_refused units library other = false
+
+abbrev pub some_refused : List (List ℕ) → List LibraryProcedure → List Statement → Bool
+some_refused units library statements = list_any (λ s. is_refused units library s.says) statements
+
+-- a text is longer than another
+abbrev pub GoesOn : List ℕ → List ℕ → Type 0
+GoesOn old new = (more : List ℕ) × (new ≡ old ++ more)
+
+-- Behind a text comes what is told of a deck, whose first card stands on this line; and behind that, warnings and what is told of its job.
+pub record AddsDeck (units : List (List ℕ)) (library : List LibraryProcedure) (first : ℕ) (lines : List (List ℕ)) (old new : List ℕ) : Type 0 where
+  pub checked : Checked
+  pub told : AreTold units library lines checked
+  pub between : List ℕ
+  pub added : AddsToldText first checked old between
+  pub on : GoesOn between new
+
+abbrev pub AddsEvent : List (List ℕ) → List LibraryProcedure → ℕ → Event → List ℕ → List ℕ → Type 0
+AddsEvent units library first (event.Read lines) old new = AddsDeck units library first lines old new
+AddsEvent units library first other old new = new ≡ old
+
+-- so of a statement, which has a deck or none
+abbrev pub AddsSaid : List (List ℕ) → List LibraryProcedure → ℕ → Says → List ℕ → List ℕ → Type 0
+AddsSaid units library line (says.Events event times) old new = AddsEvent units library (line + 1) event old new
+AddsSaid units library line other old new = new ≡ old
+
+-- and of statements one after another
+abbrev pub AddsAll : List (List ℕ) → List LibraryProcedure → List Statement → List ℕ → List ℕ → Type 0
+AddsAll units library [] old new = new ≡ old
+AddsAll units library (s ∷ statements) old new =
+    (between : List ℕ) × AddsSaid units library s.line s.says old between × AddsAll units library statements between new
+
+-- the session's own fault, if it has one
+abbrev pub fault_text : Option (Fault × ℕ) → List ℕ
+fault_text None = []
+fault_text (Some (fault, line)) =
+    codes "line " ++ decimal line ++ codes ": session fault S" ++ decimal (number_of fault)
+    ++ codes "; nothing of the session behind it is run (docs/SESSION.md)\n"
+
+-- the fault of a session of these statements
+abbrev pub fault_of : List Statement → Option (Fault × ℕ)
+fault_of statements = (session_behind [] statements).fault
+
+-- a job may fail, or has too many paths
+abbrev pub is_risk_answer : Option Answer → Bool
+is_risk_answer None = false
+is_risk_answer (Some (answer.Assured tracks actions)) = false
+is_risk_answer (Some (answer.Risk fault step dd path lines)) = true
+is_risk_answer (Some (answer.TooMany step)) = true
+
+abbrev pub is_risk : Answered → Bool
+is_risk answered = is_risk_answer answered.answer
+
+-- no deck is looked at, for the session has a fault
+pub record IsUnopened (statements : List Statement) (found : Found) : Type 0 where
+  pub fault : is_some (fault_of statements) ≡ true
+  pub text : found.text.items ≡ fault_text (fault_of statements)
+  pub refused : found.refused ≡ true
+  pub calm : found.at_risk ≡ false
+
+-- the decks are looked at with the units and procedures that the session configures
+pub record IsLookedAt (o : Options) (statements : List Statement) (found : Found) : Type 0 where
+  pub opened : Opened
+  pub is : IsOpened statements opened
+  pub text : AddsAll (unit_names opened.fixed.units) opened.fixed.library statements (fault_text (fault_of statements)) found.text.items
+  pub refused : found.refused ≡ (is_some (fault_of statements) || some_refused (unit_names opened.fixed.units) opened.fixed.library statements)
+  pub answers : List Answered
+  pub answered : AreAnswered o statements answers
+  pub risk : found.at_risk ≡ list_any is_risk answers
+
+abbrev pub IsFound : Options → List Statement → Found → Type 0
+IsFound o statements found = IsUnopened statements found ⊎ IsLookedAt o statements found
+
+-- 1 where a deck is refused, the session has a fault, or a job may fail
+abbrev pub status_of : Found → ℕ
+status_of found = if found.refused || found.at_risk then 1 else 0
+
+-- the text is written, or as much of it as the sink takes
+abbrev pub IsTold : SinkState → SinkState → Found → ℕ → Type 0
+IsTold sink sink_after found status =
+    Appends sink.contents sink_after.contents found.text.items × (status ≡ status_of found)
+    ⊎ ((n : ℕ) × Appends sink.contents sink_after.contents (take n found.text.items)) × (status ≡ 1)
+
+-- a session was read, and what is found of it is written
+pub record Checks (o : Options) (source source_after : SourceState) (sink sink_after : SinkState) (status : ℕ) : Type 0 where
+  pub text : List ℕ
+  pub ending : Ending
+  pub read : IsRead source source_after text ending
+  pub found : Found
+  pub is : IsFound o (statements_of ending text) found
+  pub told : IsTold sink sink_after found status
+
+-- memory was wanting, and nothing is written
+pub record Starves (sink sink_after : SinkState) (status : ℕ) : Type 0 where
+  pub starved : status ≡ 3
+  pub writes : Appends sink.contents sink_after.contents []

@@ -1,0 +1,71 @@
+//! What the program does, over its streams: its status, and what it says on the stream of errors.
+ghost use Rattle.std.specs.Prelude.{◌≡◌, ◌⊎◌, false};
+ghost use Rattle.session_core.specs.Streams.{sink_state, source_state};
+ghost use Rattle.mvt_check.specs.Checking.{Checks, IsTold, Starves};
+
+use crate::session::{Found, check_session};
+use option_core::ended::{ALL_READ, Ended, SESSION_FAULT, end_out_of_memory};
+use option_core::program::Program;
+use session_core::Options;
+use session_core::stream::{Sink, Source};
+use session_core::transfer::{read_text, write_text};
+use session_text::parse::statements;
+use std::alloc::{AllocError, Global};
+use std::io::{Read, Write};
+
+/// The program, as its command line and its help speak of it.
+pub(crate) fn mvt_check<'a>() -> Program<'a> {
+    Program {
+        name: "mvt-check",
+        about: "Reads a session on standard input, and writes why its decks are refused, and where",
+        usage: "mvt-check [OPTIONS] < SESSION",
+        flags: &[],
+    }
+}
+
+/// What is found is written, or as much of it as the sink takes.
+fn tell<W: Write, E: Write>(found: &Found, sink: &mut Sink<'_, W>, errors: &mut E) -> Ended
+    requires { sink.old.failed ≡ false }
+    ensures { IsTold (sink_state W.contents sink.old) (sink_state W.contents sink.new) found.now result.status }
+{
+    match write_text(sink, found.text.as_slice()) {
+        Ok(()) => Ended {
+            status: if found.refused || found.at_risk {
+                SESSION_FAULT
+            } else {
+                ALL_READ
+            },
+            said: true,
+        },
+        Err(_) => Ended {
+            status: SESSION_FAULT,
+            said: write!(errors, "what is found cannot be written further\n").is_ok(),
+        },
+    }
+}
+
+/// Looks at the decks of the session of the source, and writes to the sink what is found.
+pub(crate) fn run_program<R: Read, W: Write, E: Write>(
+    alloc: Global,
+    options: Options,
+    source: &mut Source<'_, R>,
+    sink: &mut Sink<'_, W>,
+    errors: &mut E,
+) -> Ended
+    requires source_unfailed { source.old.failed ≡ false }
+    requires sink_unfailed { sink.old.failed ≡ false }
+    ensures { Checks options (source_state R.remaining source.old) (source_state R.remaining source.new)
+        (sink_state W.contents sink.old) (sink_state W.contents sink.new) result.status
+        ⊎ Starves (sink_state W.contents sink.old) (sink_state W.contents sink.new) result.status }
+{
+    let Ok(input) = read_text(alloc, source) else {
+        return end_out_of_memory(errors);
+    };
+    let Ok(statements) = statements(alloc, input.text.as_slice(), input.ending) else {
+        return end_out_of_memory(errors);
+    };
+    let Ok(found) = check_session(alloc, statements.as_slice(), options) else {
+        return end_out_of_memory(errors);
+    };
+    tell(&found, sink, errors)
+}

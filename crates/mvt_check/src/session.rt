@@ -1,0 +1,360 @@
+//! All decks of a session, looked at.
+ghost use Rattle.std.specs.Prelude.{◌≡◌, ◌++◌, ◌||◌, ℕ, List, IfOk, OnOk, Some, decimal, false, is_err, is_some};
+ghost use Rattle.std.specs.List.{list_any};
+ghost use Rattle.check_core.specs.Reports.{AreTold};
+ghost use Rattle.config_core.specs.Configs.{unit_names};
+ghost use Rattle.jcl_job.specs.Jobs.{job_of};
+ghost use Rattle.proc_library.specs.declared.library.LibraryProcedure.{LibraryProcedure};
+ghost use Rattle.mvt_check.specs.Checking.{AddsAll, AddsDeck, AddsEvent, AddsSaid, IsFound, fault_of, fault_text, is_refused, is_refused_event, is_risk, some_refused};
+
+use answer_core::answer::{Answer, Answered};
+use answer_core::session::answers_of;
+use answer_words::words::push_answer;
+use check_core::deck::{Sources, check_deck};
+use check_core::report::Checked;
+use check_core::text::push_checked;
+use check_core::warnings::{push_warning, push_warnings};
+use config_core::start::Fixed;
+use input_core::event::Event;
+use input_core::statement::ConfigStatement;
+use itoa::Buffer;
+use jcl_meaning::program::is_iefbr14;
+use jcl_plan::plan::JobPlan;
+use plain::lent::Lent;
+use plain::text::Text;
+use session_core::open::{Opened, open};
+use session_core::run::run;
+use session_core::stream::Sink;
+use session_core::{Options, SessionEnd, SessionFault};
+use session_text::fault::Fault;
+use session_text::statement::{Says, Statement};
+use std::alloc::{AllocError, Global};
+use std::io;
+
+/// What is found of a session, as text, whether a deck is refused or the session has a fault, and whether a job may fail.
+#[derive(Drop)]
+pub(crate) struct Found {
+    pub(crate) text: Vec<u8>,
+    pub(crate) refused: bool,
+    pub(crate) at_risk: bool,
+}
+
+fn push_number(text: &mut Vec<u8>, number: u64) -> Result<(), AllocError>
+    ensures { OnOk result (text.new.items ≡ text.old.items ++ decimal number) }
+{
+    let mut buffer = Buffer::new();
+    text.extend_from_slice(buffer.format(number).as_bytes())?;
+    Ok(())
+}
+
+/// Writes a fault of a session.
+fn fault_line(alloc: Global, fault: Fault, line: usize) -> Result<Vec<u8>, AllocError>
+    ensures { IfOk result (λ text. text.items ≡ fault_text (Some (fault, line))) }
+{
+    let mut text = Vec::new(alloc);
+    text.extend_from_slice(b"line ")?;
+    push_number(&mut text, line as u64)?;
+    text.extend_from_slice(b": session fault S")?;
+    push_number(&mut text, u64::from(fault.number()))?;
+    text.extend_from_slice(b"; nothing of the session behind it is run (docs/SESSION.md)\n")?;
+    Ok(text)
+}
+
+/// Runs a session, and writes its fault, if it has one.
+fn own_fault(
+    alloc: Global,
+    statements: &[Statement<'_>],
+    options: Options,
+) -> Result<Found, AllocError>
+    ensures text { IfOk result (λ found. found.text.items ≡ fault_text (fault_of statements.now)) }
+    ensures refused { IfOk result (λ found. found.refused ≡ is_some (fault_of statements.now)) }
+    ensures calm { IfOk result (λ found. found.at_risk ≡ false) }
+{
+    let mut nothing = io::sink();
+    let mut sink = Sink::new(&mut nothing);
+    match run(alloc, statements, options, &mut sink) {
+        Ok(SessionEnd) => Ok(Found {
+            text: Vec::new(alloc),
+            refused: false,
+            at_risk: false,
+        }),
+        Err(SessionFault::Stopped(fault, line)) => Ok(Found {
+            text: fault_line(alloc, fault, line)?,
+            refused: true,
+            at_risk: false,
+        }),
+        Err(SessionFault::WriteFailed(_) | SessionFault::Memory) => Err(AllocError),
+    }
+}
+
+/// Whether an initiator selects from the class.
+fn is_taken(fixed: &Fixed, class: u8) -> bool {
+    fixed
+        .initiators
+        .as_slice()
+        .iter()
+        .any(|initiator| initiator.classes.as_slice().contains(&class))
+}
+
+/// Warns of a class that no initiator takes, and of programs that are not there. The deck's first card stands on this line.
+fn push_unconfigured(
+    fixed: &Fixed,
+    text: &mut Vec<u8>,
+    first_line: usize,
+    plan: &JobPlan,
+) -> Result<(), AllocError> {
+    if !is_taken(fixed, plan.class) {
+        let mut words = *b"no initiator takes class ?: the job waits for one";
+        words[25] = plan.class;
+        push_warning(text, first_line, words.as_slice())?;
+    }
+    for step in plan.steps.as_slice() {
+        if !is_iefbr14(&step.program) && !fixed.programs.has(&step.program) {
+            let mut words = Vec::from_slice(*text.allocator(), b"there is no program ")?;
+            words.extend_from_slice(step.program.as_slice())?;
+            words.extend_from_slice(b": its step ends with ABEND S806")?;
+            push_warning(text, first_line, words.as_slice())?;
+        }
+    }
+    Ok(())
+}
+
+/// What else is told of a job: what is not configured for it, and what admission answers it.
+fn push_job(
+    fixed: &Fixed,
+    text: &mut Vec<u8>,
+    first: usize,
+    plan: &JobPlan,
+    answered: Option<&Answered>,
+) -> Result<(), AllocError> {
+    push_unconfigured(fixed, text, first, plan)?;
+    match answered {
+        Some(answered) => push_answer(text, first, plan, answered),
+        None => Ok(()),
+    }
+}
+
+/// What else is told of a deck: what it warns of, and what is told of its job.
+fn asides_of(
+    alloc: Global,
+    fixed: &Fixed,
+    first: usize,
+    lines: &[Lent<'_>],
+    checked: &Checked,
+    answered: Option<&Answered>,
+) -> Result<Vec<u8>, AllocError> {
+    let mut text = Vec::new(alloc);
+    push_warnings(&mut text, first, lines)?;
+    match checked {
+        Checked::Taken(plan) => push_job(fixed, &mut text, first, plan, answered)?,
+        Checked::Refused { .. } => {}
+    }
+    Ok(text)
+}
+
+/// Whether the deck of which this is told is refused.
+fn is_refused(checked: &Checked) -> bool
+    ensures { (units : List (List ℕ)) (library : List LibraryProcedure) (lines : List (List ℕ)) → AreTold units library lines checked.now →
+        result ≡ is_err (job_of units library lines) }
+{
+    match checked {
+        Checked::Taken(_) => false,
+        _ => true,
+    }
+}
+
+/// Looks at a deck, whose first card stands on this line of the session, and tells whether it is refused.
+fn check_lines(
+    alloc: Global,
+    sources: &Sources<'_>,
+    fixed: &Fixed,
+    first: usize,
+    lines: &[Lent<'_>],
+    answered: Option<&Answered>,
+    text: &mut Vec<u8>,
+) -> Result<bool, AllocError>
+    ensures refused { IfOk result (λ refused. refused ≡ is_err (job_of sources.now.units.now sources.now.library.now lines.now)) }
+    ensures added { OnOk result (AddsDeck sources.now.units.now sources.now.library.now first lines.now text.old.items text.new.items) }
+{
+    let checked = check_deck(alloc, sources, lines)?;
+    let asides = asides_of(alloc, fixed, first, lines, &checked, answered)?;
+    push_checked(text, first, lines, &checked)?;
+    text.extend_from_slice(asides.as_slice())?;
+    Ok(is_refused(&checked))
+}
+
+/// Looks at the deck of an event, if it has one, and tells whether it is refused.
+fn check_event(
+    alloc: Global,
+    sources: &Sources<'_>,
+    fixed: &Fixed,
+    first: usize,
+    event: &Event<'_>,
+    answered: Option<&Answered>,
+    text: &mut Vec<u8>,
+) -> Result<bool, AllocError>
+    ensures refused { IfOk result (λ refused. refused ≡ is_refused_event sources.now.units.now sources.now.library.now event.now) }
+    ensures added { OnOk result (AddsEvent sources.now.units.now sources.now.library.now first event.now text.old.items text.new.items) }
+{
+    match event {
+        Event::Read(deck) => {
+            let lines = deck.as_slice();
+            check_lines(alloc, sources, fixed, first, lines, answered, text)
+        }
+        _ => Ok(false),
+    }
+}
+
+/// Looks at the deck of a statement, if it has one, and tells whether it is refused.
+fn check_statement(
+    alloc: Global,
+    sources: &Sources<'_>,
+    fixed: &Fixed,
+    statement: &Statement<'_>,
+    answered: Option<&Answered>,
+    text: &mut Vec<u8>,
+) -> Result<bool, AllocError>
+    ensures refused { IfOk result (λ refused. refused ≡ is_refused sources.now.units.now sources.now.library.now statement.now.says) }
+    ensures added { OnOk result (AddsSaid sources.now.units.now sources.now.library.now statement.now.line statement.now.says
+        text.old.items text.new.items) }
+{
+    let Some(first) = statement.line.checked_add(1) else {
+        return Err(AllocError);
+    };
+    match &statement.says {
+        Says::Events(event, _) => {
+            check_event(alloc, sources, fixed, first, event, answered, text)
+        }
+        _ => Ok(false),
+    }
+}
+
+/// Whether one of two things is so.
+fn either(one: bool, other: bool) -> bool
+    ensures { result ≡ (one || other) }
+{
+    one || other
+}
+
+/// The answer at this place, if it is for this statement.
+fn answer_at(answers: &[Answered], place: usize, statement: usize) -> Option<&Answered> {
+    match answers.get(place) {
+        Some(answered) if answered.statement == statement => Some(answered),
+        _ => None,
+    }
+}
+
+/// Looks at all decks, and tells whether one of them is refused. The answers stand in the order of their statements.
+fn check_statements(
+    alloc: Global,
+    sources: &Sources<'_>,
+    fixed: &Fixed,
+    answers: &[Answered],
+    statements: &[Statement<'_>],
+    text: &mut Vec<u8>,
+) -> Result<bool, AllocError>
+    ensures refused { IfOk result (λ refused. refused ≡ some_refused sources.now.units.now sources.now.library.now statements.now) }
+    ensures added { OnOk result (AddsAll sources.now.units.now sources.now.library.now statements.now text.old.items text.new.items) }
+{
+    let mut refused = false;
+    let mut place: usize = 0;
+    for (n, statement) in statements.iter().enumerate() {
+        let answered = answer_at(answers, place, n);
+        if answered.is_some() {
+            place = place.saturating_add(1);
+        }
+        let own = check_statement(alloc, sources, fixed, statement, answered, text)?;
+        refused = either(refused, own);
+    }
+    Ok(refused)
+}
+
+/// Whether a job may fail, or has too many paths.
+fn is_risk(answered: &Answered) -> bool
+    ensures { result ≡ is_risk answered.now }
+{
+    matches!(
+        &answered.answer,
+        Some(Answer::Risk { .. } | Answer::TooMany(_))
+    )
+}
+
+/// Whether one of the jobs may fail, or has too many paths.
+fn some_risk(answers: &[Answered]) -> bool
+    ensures { result ≡ list_any is_risk answers.now }
+{
+    answers.iter().any(is_risk)
+}
+
+/// The names of the units and of the procedures that a session configures.
+#[derive(Drop)]
+struct Names {
+    units: Vec<Text>,
+    procedures: Vec<Text>,
+}
+
+fn names_in(alloc: Global, statements: &[Statement<'_>]) -> Result<Names, AllocError> {
+    let mut units = Vec::new(alloc);
+    let mut procedures = Vec::new(alloc);
+    for statement in statements {
+        match &statement.says {
+            Says::Config {
+                statement: ConfigStatement::Unit { name, .. },
+                ..
+            } => units.push(Text::copy_of(alloc, name.as_slice())?)?,
+            Says::Config {
+                statement: ConfigStatement::Procedure { name, .. },
+                ..
+            } => procedures.push(Text::copy_of(alloc, name.as_slice())?)?,
+            _ => {}
+        }
+    }
+    Ok(Names { units, procedures })
+}
+
+/// Looks at the decks of a session whose configuration has no fault, behind what is found of it already.
+fn check_opened(
+    alloc: Global,
+    fixed: &Fixed,
+    answers: &[Answered],
+    statements: &[Statement<'_>],
+    found: &mut Found,
+) -> Result<(), AllocError>
+    ensures text { OnOk result (AddsAll (unit_names fixed.now.units) fixed.now.library statements.now found.old.text.items found.new.text.items) }
+    ensures refused { OnOk result (found.new.refused
+        ≡ (found.old.refused || some_refused (unit_names fixed.now.units) fixed.now.library statements.now)) }
+    ensures risk { OnOk result (found.new.at_risk ≡ list_any is_risk answers.now) }
+{
+    let names = names_in(alloc, statements)?;
+    let sources = Sources {
+        units: fixed.units.names(),
+        library: &fixed.library,
+        unit_names: names.units.as_slice(),
+        procedure_names: names.procedures.as_slice(),
+    };
+    let own = check_statements(alloc, &sources, fixed, answers, statements, &mut found.text)?;
+    found.refused = found.refused || own;
+    found.at_risk = some_risk(answers);
+    Ok(())
+}
+
+/// Looks at the decks of a session. Its own fault, if it has one, is told first.
+pub(crate) fn check_session(
+    alloc: Global,
+    statements: &[Statement<'_>],
+    options: Options,
+) -> Result<Found, AllocError>
+    ensures { IfOk result (IsFound options statements.now) }
+{
+    let mut found = own_fault(alloc, statements, options)?;
+    match open(alloc, statements) {
+        Ok(opened) => {
+            let answers = answers_of(alloc, statements, options)?;
+            let answers = answers.as_slice();
+            check_opened(alloc, &opened.fixed, answers, statements, &mut found)?;
+            Ok(found)
+        }
+        Err(SessionFault::Stopped(_, _)) => Ok(found),
+        Err(_) => Err(AllocError),
+    }
+}
