@@ -5,11 +5,12 @@ ghost use Rattle.deck_places.specs.Spots.{IsWithin};
 ghost use Rattle.check_core.specs.Reports.{AreTold};
 ghost use Rattle.check_core.specs.Spots.{IsSpotOf};
 
-use crate::guess::guess_of;
+use crate::guess::{called_at, guess_of};
+use crate::inside::inside_of;
 use crate::known::is_known;
 use crate::mark::spot_of;
 use crate::mended::Mended;
-use crate::report::{Checked, Report, Spot};
+use crate::report::{Checked, Inside, Report, Spot};
 use card_core::statement::Card;
 use deck_places::judge::{At, Judged, judge};
 use deck_places::laws::each_place_has_a_statement;
@@ -42,6 +43,24 @@ fn own_card(mended: &Mended, card: Option<usize>) -> Option<usize>
     }
 }
 
+/// The statement of a called procedure for which a call is refused.
+fn inside_at(
+    alloc: Global,
+    sources: &Sources<'_>,
+    mended: &Mended,
+    cause: Cause,
+    at: At,
+    spot: Spot,
+) -> Result<Option<Inside>, AllocError> {
+    match at {
+        At::Call(_) => match called_at(alloc, mended, spot)? {
+            Some(name) => inside_of(alloc, sources, mended, cause, name.as_slice()),
+            None => Ok(None),
+        },
+        _ => Ok(None),
+    }
+}
+
 /// What is told of a refusal.
 fn report_of(
     alloc: Global,
@@ -55,6 +74,7 @@ fn report_of(
         IfOk result (λ r. IsSpotOf (walk_of mended.now.lines.items).begun at r.spot.card) }
 {
     let spot = spot_of(alloc, mended, cause, at)?;
+    let inside = inside_at(alloc, sources, mended, cause, at, spot)?;
     let guess = guess_of(alloc, sources, mended, cause, spot)?;
     let spot = Spot {
         card: own_card(mended, spot.card),
@@ -64,6 +84,7 @@ fn report_of(
         cause,
         at,
         spot,
+        inside,
         guess,
     })
 }

@@ -3,6 +3,7 @@
 
 pub mod deck;
 mod guess;
+mod inside;
 mod known;
 mod mark;
 mod mended;

@@ -11,12 +11,21 @@ pub struct Spot {
     pub column: Option<usize>,
 }
 
-/// A refusal, where it is, the place that is marked, and a word that may have been meant.
+/// A statement of a called procedure: the procedure's name, on which of its lines it begins, which count from 1, and that line.
+#[derive(Drop)]
+pub struct Inside {
+    pub procedure: Text,
+    pub line: usize,
+    pub card: Text,
+}
+
+/// A refusal, where it is, the place that is marked, the statement of a called procedure for which it is, and a word that may have been meant.
 #[derive(Drop)]
 pub struct Report {
     pub cause: Cause,
     pub at: At,
     pub spot: Spot,
+    pub inside: Option<Inside>,
     pub guess: Option<Text>,
 }
 

@@ -3,7 +3,7 @@ ghost use Rattle.std.specs.Prelude.{◌≡◌, ◌++◌, ◌∷◌, IfOk, OnOk, 
 ghost use Rattle.jcl_plan.specs.Texts.{cause_text};
 ghost use Rattle.check_core.specs.Texts.{AddsToldText, head, line_of};
 
-use crate::report::{Checked, Report, Spot};
+use crate::report::{Checked, Inside, Report, Spot};
 use card_core::statement::Card;
 use itoa::Buffer;
 use jcl_plan::fault::Cause;
@@ -115,6 +115,16 @@ fn push_spot(text: &mut Vec<u8>, lines: &[Card<'_>], spot: Spot) -> Result<(), A
     }
 }
 
+/// The statement of a called procedure.
+fn push_inside(text: &mut Vec<u8>, inside: &Inside) -> Result<(), AllocError> {
+    text.extend_from_slice(b"    line ")?;
+    push_number(text, inside.line)?;
+    text.extend_from_slice(b" of the procedure ")?;
+    text.extend_from_slice(inside.procedure.as_slice())?;
+    text.extend_from_slice(b":\n")?;
+    push_card(text, inside.card.as_slice())
+}
+
 /// Puts what is wrong, where, and what to do behind the beginning of what is told of a refusal.
 fn push_words(text: &mut Vec<u8>, lines: &[Card<'_>], report: &Report) -> Result<(), AllocError> {
     let (letter, number) = number_of(report.cause);
@@ -124,6 +134,9 @@ fn push_words(text: &mut Vec<u8>, lines: &[Card<'_>], report: &Report) -> Result
     }
     text.push(b'\n')?;
     push_spot(text, lines, report.spot)?;
+    if let Some(inside) = &report.inside {
+        push_inside(text, inside)?;
+    }
     text.extend_from_slice(b"    ")?;
     if let Some(row) = row {
         text.extend_from_slice(row.to_do.as_bytes())?;
