@@ -1,5 +1,5 @@
 -- What a store of records means. A record in use is seen by its bytes with a link of zeros: what stands in a link is the store's own. (This profile)
-use Rattle.std.specs.Prelude.{◌≡◌, ◌≢◌, ℕ, zero, suc, ◌+◌, ◌≤◌, ◌<◌, ◌==◌, true, List, [], ◌∷◌, ◌++◌, length, take, drop, map, replicate, slice_get, slice_index_or, slice_set, Option, None, Some, IfSome, All, is_none, if◌then◌else◌}
+use Rattle.std.specs.Prelude.{◌≡◌, ◌≢◌, ℕ, zero, suc, ◌+◌, ◌≤◌, ◌<◌, ◌==◌, true, List, [], ◌∷◌, ◌++◌, length, map, replicate, slice_get, slice_index_or, slice_set, Option, None, Some, IfSome, All, is_none, if◌then◌else◌}
 use Rattle.std.specs.Option.{option_map}
 use Rattle.cb_meaning.specs.declared.layout.Layout.{Layout}
 use Rattle.cb_meaning.specs.declared.layout.TheConstants.{RECORD_BYTES}

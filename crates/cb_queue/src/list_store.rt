@@ -174,6 +174,13 @@ impl RecordStore for ListStore {
         self.free_count
     }
 
+    fn next_free(&self) -> Option<u32> {
+        if self.free_count == 0 {
+            return None;
+        }
+        Some(self.free[self.free_count as usize - 1])
+    }
+
     fn take_free(&mut self, owner: u16) -> Option<u32> {
         if self.free_count == 0 {
             return None;

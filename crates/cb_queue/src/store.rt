@@ -39,6 +39,10 @@ pub trait RecordStore {
     fn free_count(&self) -> u32
         ensures { result ≡ length (queue self.now).free };
 
+    /// The record that is taken next, if one is free.
+    fn next_free(&self) -> Option<u32>
+        ensures { result ≡ next_free (queue self.now) };
+
     /// Takes the next free record for a job, or tells that none is free. The record is of zeros but for its owner.
     fn take_free(&mut self, owner: u16) -> Option<u32>
         requires { owner ≢ 0 }

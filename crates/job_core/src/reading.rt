@@ -2,7 +2,6 @@
 ghost use Rattle.std.specs.Prelude.{◌≡◌, ◌≢◌, ◌<◌, ◌≤◌, All, OnErr, OnOk, length, ℕ};
 ghost use Rattle.cb_chain.specs.Written.{HoldsJobs};
 ghost use Rattle.cb_meaning.specs.Writable.{IsWritable};
-ghost use Rattle.cb_queue.specs.RecordQueues.{next_free};
 ghost use Rattle.job_core.specs.Entering.{IsEntered, WaitsFirst};
 
 use cb_chain::room::is_room;
@@ -22,18 +21,6 @@ pub enum EnterFault {
     Memory,
 }
 
-/// The number of the record that is taken next: it is taken and given back.
-fn first_free<Q: RecordStore>(queue: &mut Q, job: u16) -> Option<u32>
-    requires { job ≢ 0 }
-    ensures answer { result ≡ next_free (Q.queue queue.old) }
-    ensures same { Q.queue queue.new ≡ Q.queue queue.old }
-{
-    let _layout = queue.layout();
-    let first = queue.take_free(job)?;
-    queue.give_back(first);
-    Some(first)
-}
-
 /// The job waits, with the number of the record that is taken next.
 fn enter_waiting<Q: RecordStore>(queue: &mut Q, job: u16, plan: &JobPlan) -> Result<(), AllocError>
     requires owner { job ≢ 0 }
@@ -42,7 +29,7 @@ fn enter_waiting<Q: RecordStore>(queue: &mut Q, job: u16, plan: &JobPlan) -> Res
     ensures ok { OnOk result (WaitsFirst job plan.now (Q.queue queue.old) (Q.queue queue.new)) }
     ensures err { OnErr result (Q.queue queue.new ≡ Q.queue queue.old) }
 {
-    let first = first_free(queue, job).unwrap();
+    let first = queue.next_free().unwrap();
     queue.enter(Queued {
         job,
         jct: first,
