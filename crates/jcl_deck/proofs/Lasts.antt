@@ -1,5 +1,5 @@
 -- the last of a list
-use Rattle.std.proofs.Common.{◌≡◌, ℕ, ◌-◌, suc, zero, false, not, nat_eq, List, [], ◌∷◌, ◌++◌, length, map, slice_set, slice_index_or, Some, ap, arith}
+use Rattle.std.proofs.Common.{◌≡◌, ℕ, ◌-◌, suc, zero, false, not, nat_eq, List, [], ◌∷◌, ◌++◌, length, map, slice_set, slice_index_or, Some, refl, ap, arith}
 use Rattle.std.specs.List.{slice_get}
 use Rattle.card_core.specs.declared.statement.Statement.{Statement}
 use Rattle.jcl_cards.specs.declared.dd.DdCard.{DdCard}
@@ -49,3 +49,9 @@ onto_open_at s (x ∷ []) zero p h is = ap (λ (q : Procedure). with_statement s
 onto_open_at s (x ∷ []) (suc i) p h is = absurd (omega (arith, h))
 onto_open_at s (x ∷ y ∷ procedures) zero p h is = absurd (omega (arith, h))
 onto_open_at s (x ∷ y ∷ procedures) (suc i) p h is = ap (λ others. x ∷ others) (onto_open_at s (y ∷ procedures) i p (omega (arith, h)) is)
+
+-- what stands there already changes nothing
+pub set_itself : {X : Type 0} (xs : List X) (i : ℕ) (x : X) → x ≡ slice_index_or xs i x → slice_set xs i x ≡ xs
+set_itself [] i x is = refl
+set_itself (y ∷ xs) zero x is = ap (λ z. z ∷ xs) is
+set_itself (y ∷ xs) (suc i) x is = ap (λ others. y ∷ others) (set_itself xs i x is)

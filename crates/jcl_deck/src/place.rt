@@ -1,5 +1,5 @@
 //! The place in a deck: what was read of it so far.
-ghost use Rattle.std.specs.Prelude.{◌≡◌, [], ◌∷◌, ◌++◌, map, None, Some, OnOk, IsSome, if◌then◌else◌};
+ghost use Rattle.std.specs.Prelude.{◌≡◌, [], ◌∷◌, ◌++◌, map, None, Some, OnErr, OnOk, IsSome, if◌then◌else◌};
 ghost use Rattle.operand_core.specs.Faults.{or_fault, told, written_name_faults};
 ghost use Rattle.operand_core.specs.Keywords.{is_long};
 ghost use Rattle.jcl_deck.specs.Decks.{behind, dd_place_faults, ended_with, keeps, last_has_dd, not_first, outside, procedure_with, start};
@@ -123,7 +123,8 @@ impl Place {
     }
 
     fn take_job(&mut self, alloc: Global, statement: &Statement) -> Result<(), ReadError>
-        ensures { Moves result self.new (takes_job (denoted self.old) statement.now) }
+        ensures moves { Moves result self.new (takes_job (denoted self.old) statement.now) }
+        ensures same { OnErr result (denoted self.new ≡ denoted self.old) }
     {
         let operand = statement.operand.as_slice();
         let second = when(self.job.is_some(), Cause::P(StatementFault::NotOneJob));
@@ -134,7 +135,8 @@ impl Place {
     }
 
     fn add_step(&mut self, alloc: Global, exec: ExecCard) -> Result<(), AllocError>
-        ensures { OnOk result (denoted self.new ≡ with_step (denoted self.old) exec) }
+        ensures ok { OnOk result (denoted self.new ≡ with_step (denoted self.old) exec) }
+        ensures same { OnErr result (denoted self.new ≡ denoted self.old) }
     {
         let dds = Listed::empty(alloc);
         self.steps.push(DeckStep { exec, dds })?;
@@ -142,7 +144,8 @@ impl Place {
     }
 
     fn take_exec(&mut self, alloc: Global, statement: &Statement) -> Result<(), ReadError>
-        ensures { Moves result self.new (takes_exec (denoted self.old) statement.now) }
+        ensures moves { Moves result self.new (takes_exec (denoted self.old) statement.now) }
+        ensures same { OnErr result (denoted self.new ≡ denoted self.old) }
     {
         let operand = statement.operand.as_slice();
         let card = exec_card(alloc, statement.name.as_slice(), operand);
@@ -152,7 +155,8 @@ impl Place {
     }
 
     fn add_procedure(&mut self, procedure: Procedure) -> Result<(), AllocError>
-        ensures { OnOk result (denoted self.new ≡ with_procedure (denoted self.old) procedure) }
+        ensures ok { OnOk result (denoted self.new ≡ with_procedure (denoted self.old) procedure) }
+        ensures same { OnErr result (denoted self.new ≡ denoted self.old) }
     {
         self.procedures.push(procedure)?;
         self.is_open = true;
@@ -171,7 +175,8 @@ impl Place {
     }
 
     fn take_proc(&mut self, alloc: Global, statement: &Statement) -> Result<(), ReadError>
-        ensures { Moves result self.new (takes_proc (denoted self.old) statement.now) }
+        ensures moves { Moves result self.new (takes_proc (denoted self.old) statement.now) }
+        ensures same { OnErr result (denoted self.new ≡ denoted self.old) }
     {
         let operand = statement.operand.as_slice();
         let card = procedure_card(alloc, true, statement.name.as_slice(), operand);
@@ -195,7 +200,8 @@ impl Place {
     }
 
     fn add_dd(&mut self, dd: DdCard) -> Result<(), AllocError>
-        ensures { OnOk result (denoted self.new ≡ with_dd (denoted self.old) dd) }
+        ensures ok { OnOk result (denoted self.new ≡ with_dd (denoted self.old) dd) }
+        ensures same { OnErr result (denoted self.new ≡ denoted self.old) }
     {
         if self.steps.is_empty() {
             self.job_library = true;
@@ -207,7 +213,8 @@ impl Place {
 
     /// Adds a DD, unless its place has a fault.
     fn add_placed(&mut self, dd: DdCard, fault: Option<Cause>) -> Result<(), ReadError>
-        ensures { Moves result self.new (or_fault fault (with_dd (denoted self.old) dd)) }
+        ensures moves { Moves result self.new (or_fault fault (with_dd (denoted self.old) dd)) }
+        ensures same { OnErr result (denoted self.new ≡ denoted self.old) }
     {
         match fault {
             None => {
@@ -219,7 +226,8 @@ impl Place {
     }
 
     fn take_dd(&mut self, alloc: Global, statement: Statement) -> Result<(), ReadError>
-        ensures { Moves result self.new (takes_dd (denoted self.old) statement) }
+        ensures moves { Moves result self.new (takes_dd (denoted self.old) statement) }
+        ensures same { OnErr result (denoted self.new ≡ denoted self.old) }
     {
         let fault = self.dd_fault(&statement);
         let Statement {
@@ -254,7 +262,8 @@ impl Place {
         operation: Operation,
         statement: Statement,
     ) -> Result<(), ReadError>
-        ensures { Moves result self.new (outside operation (denoted self.old) statement) }
+        ensures moves { Moves result self.new (outside operation (denoted self.old) statement) }
+        ensures same { OnErr result (denoted self.new ≡ denoted self.old) }
     {
         match operation {
             Operation::IsJob => self.take_job(alloc, &statement),
@@ -269,7 +278,8 @@ impl Place {
 
     /// Adds a statement to the procedure that is open.
     fn keep(&mut self, statement: Statement) -> Result<(), AllocError>
-        ensures { OnOk result (denoted self.new ≡ keeps (denoted self.old) statement) }
+        ensures ok { OnOk result (denoted self.new ≡ keeps (denoted self.old) statement) }
+        ensures same { OnErr result (denoted self.new ≡ denoted self.old) }
     {
         if self.procedures.is_empty() {
             return Ok(());
@@ -279,7 +289,8 @@ impl Place {
     }
 
     fn take_within(&mut self, operation: Operation, statement: Statement) -> Result<(), ReadError>
-        ensures { Moves result self.new (within operation (denoted self.old) statement) }
+        ensures moves { Moves result self.new (within operation (denoted self.old) statement) }
+        ensures same { OnErr result (denoted self.new ≡ denoted self.old) }
     {
         let fault = match operation {
             Operation::IsExec | Operation::IsDd => {
@@ -299,7 +310,8 @@ impl Place {
 
     /// Takes the next statement of a deck.
     pub fn take(&mut self, alloc: Global, statement: Statement) -> Result<(), ReadError>
-        ensures { Moves result self.new (behind (denoted self.old) statement) }
+        ensures moves { Moves result self.new (behind (denoted self.old) statement) }
+        ensures same { OnErr result (denoted self.new ≡ denoted self.old) }
     {
         let operation = operation_of(statement.operation.as_slice());
         if self.is_open {

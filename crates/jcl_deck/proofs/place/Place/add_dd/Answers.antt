@@ -1,18 +1,18 @@
 use Rattle.std.proofs.Common.{◌≡◌, ◌-◌, suc, Bool, true, false, ◌||◌, nat_eq, List, length, slice_set, refl, sym, ap, ◌∙◌}
-use Rattle.std.proofs.lemmas.Result.{on_ok_weaker}
+use Rattle.std.proofs.lemmas.Result.{on_err_weaker, on_ok_weaker}
 use Rattle.jcl_cards.specs.declared.dd.DdCard.{DdCard}
 use Rattle.jcl_deck.specs.declared.deck.DeckStep.{DeckStep}
 use Rattle.jcl_deck.specs.Decks.{Place, onto_last}
 use Rattle.jcl_deck.specs.Places.{denoted}
-use Rattle.jcl_deck.proofs.Lasts.{one_more, onto_last_at}
+use Rattle.jcl_deck.proofs.Lasts.{one_more, onto_last_at, set_itself}
 use Rattle.jcl_deck.proofs.place.Place.add_dd.Goals as goal
 
 or_false : (b : Bool) → b ≡ (b || false)
 or_false true = refl
 or_false false = refl
 
-pub returns : goal.returns
-returns c =
+pub returns-clause-ok : goal.returns-clause-ok
+returns-clause-ok c =
     let place = denoted c.args.self.now in
     let at = c.len-last.result - 1 in
     let last = c.index_mut.result.now in
@@ -27,3 +27,13 @@ returns c =
     ap made pushed
     ∙ ap with_steps (onto_last_at c.args.dd place.steps at last some c.index_mut.ensures.value)
     ∙ ap kept (or_false place.job_library ∙ ap (λ b. place.job_library || b) none)) c.push.ensures.ok
+
+pub returns-clause-same : goal.returns-clause-same
+returns-clause-same c =
+    let place = denoted c.args.self.now in
+    let at = c.len-last.result - 1 in
+    let last = c.index_mut.result.now in
+    let with_steps : List DeckStep → Place = λ steps. record place { steps = steps } in
+    on_err_weaker c.push.result (λ unchanged.
+    ap (λ dds. with_steps (slice_set place.steps at (record last { dds = dds }))) unchanged
+    ∙ ap with_steps (set_itself place.steps at last c.index_mut.ensures.value)) c.push.ensures.err

@@ -6,8 +6,8 @@ use Rattle.jcl_deck.specs.Places.{Moves, denoted, with_dd}
 use Rattle.jcl_deck.proofs.Taken.{taken_card, taken_refused}
 use Rattle.jcl_deck.proofs.place.Place.take_dd.Goals as goal
 
-pub returns-in-Ok : goal.returns-in-Ok
-returns-in-Ok c =
+pub returns-in-Ok-clause-moves : goal.returns-in-Ok-clause-moves
+returns-in-Ok-clause-moves c =
     let place = denoted c.args.self.now in
     let s = c.args.statement in
     let P : Result Place Cause → Type 0 = λ moved. Moves c.add_placed.result c.add_placed.new.self moved in
@@ -15,10 +15,10 @@ returns-in-Ok c =
     (sym (taken_card s (λ name operand. dd_card name operand s.cards)
     (not_first place ++ dd_place_faults place.job_library (map (λ step. step.dds) place.steps) s) (with_dd place)
     c.as_slice.ensures c.as_slice-text.ensures c.dd_fault-fault.ensures c.unless_long-at.ensures c.in-Ok.ensures))
-    c.add_placed.ensures
+    c.add_placed.ensures.moves
 
-pub returns : goal.returns
-returns c =
+pub returns-clause-moves : goal.returns-clause-moves
+returns-clause-moves c =
     let place = denoted c.args.self.now in
     let s = c.args.statement in
     taken_refused s (λ name operand. dd_card name operand s.cards)

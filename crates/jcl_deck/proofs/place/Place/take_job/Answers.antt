@@ -14,8 +14,8 @@ has_one : (job : Option JobCard) → is_some job ≡ not (is_none job)
 has_one None = refl
 has_one (Some card) = refl
 
-pub returns-in_err-job : goal.returns-in_err-job
-returns-in_err-job c =
+pub returns-in_err-job-clause-moves : goal.returns-in_err-job-clause-moves
+returns-in_err-job-clause-moves c =
     let place = denoted c.args.self.now in
     taken_err c.args.statement.now job_card (when (not (is_none place.job)) (P NotOneJob)) (λ card. record place { job = Some card })
     c.job_card-card.result c.at_place.result c.args.self.now
@@ -23,8 +23,8 @@ returns-in_err-job c =
     (c.when-second.ensures ∙ ap (λ holds. told (when holds (P NotOneJob))) (c.is_some.ensures ∙ has_one place.job))
     c.job_card-card.ensures c.at_place.ensures c.in_err-job.was (err_from_is_err_and c.from_residual.result c.from_residual.ensures.1)
 
-pub returns : goal.returns
-returns c =
+pub returns-clause-moves : goal.returns-clause-moves
+returns-clause-moves c =
     let place = denoted c.args.self.now in
     taken_ok c.args.statement.now job_card (when (not (is_none place.job)) (P NotOneJob)) (λ card. record place { job = Some card })
     c.job_card-card.result

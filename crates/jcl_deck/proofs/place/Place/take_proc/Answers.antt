@@ -9,8 +9,8 @@ use Rattle.jcl_deck.proofs.Named.{named}
 use Rattle.jcl_deck.proofs.Taken.{taken_err, taken_ok}
 use Rattle.jcl_deck.proofs.place.Place.take_proc.Goals as goal
 
-pub returns-in_err-card : goal.returns-in_err-card
-returns-in_err-card c =
+pub returns-in_err-card-clause-moves : goal.returns-in_err-card-clause-moves
+returns-in_err-card-clause-moves c =
     let place = denoted c.args.self.now in
     taken_err c.args.statement.now (procedure_card true) (procedure_place_faults place) (λ card. with_procedure place (procedure_with card))
     c.procedure_card-card.result c.at_place.result c.args.self.now
@@ -22,8 +22,8 @@ procedure_with-requires c =
     named c.as_slice.result.now c.as_slice-operand.result.now (cond (is_long c.as_slice-operand.result.now) None c.procedure_fault.result)
     c.procedure_card-card.result c.in_ok-card.card c.procedure_card-card.ensures c.in_ok-card.ensures
 
-pub returns : goal.returns
-returns c =
+pub returns-clause-moves : goal.returns-clause-moves
+returns-clause-moves c =
     let place = denoted c.args.self.now in
     let ok : Place → Result Place Cause = λ p. Ok p in
     taken_ok c.args.statement.now (procedure_card true) (procedure_place_faults place) (λ card. with_procedure place (procedure_with card))
@@ -31,4 +31,4 @@ returns c =
     c.as_slice.ensures c.as_slice-operand.ensures c.procedure_fault.ensures
     c.procedure_card-card.ensures c.in_ok-card.ensures
     ∙ ap (λ p. ok (with_procedure place p)) (sym c.procedure_with.ensures)
-    ∙ ap ok (sym c.in_ok-add_procedure.ensures)
+    ∙ ap ok (sym c.in_ok-add_procedure.ensures.ok)
