@@ -1,15 +1,32 @@
 -- The cards that are shown for a place where a deck is refused. Cards count from 0. (This profile)
 use Rattle.std.specs.Prelude.{◌≡◌, ◌⊎◌, ◌<◌, ◌≤◌, ℕ, ◌+◌, List, [], length, Option, None, Some, slice_get}
 use Rattle.std.specs.List.{Contains}
+use Rattle.jcl_plan.specs.declared.fault.Cause.{Cause}
+use Rattle.deck_places.specs.Cards.{walk_of}
+use Rattle.deck_places.specs.Parts.{IsMark}
 use Rattle.deck_places.specs.Spots.{IsCardOf}
 use Rattle.deck_places.specs.declared.judge.At.{At}
 use Rattle.deck_places.specs.declared.judge.At.TheVariants as place
+use Rattle.deck_places.specs.declared.marks.Mark.{Mark}
 use Rattle.check_core.specs.declared.mended.Span.{Span}
+use Rattle.check_core.specs.declared.report.Spot.{Spot}
 
 -- the card that is shown is one of the place; none is at the end of a deck without statements alone
-abbrev pub IsSpotOf : List ℕ → At → Option ℕ → Type 0
-IsSpotOf begun at (Some n) = IsCardOf begun at n
-IsSpotOf begun at None = (at ≡ place.End) × (begun ≡ [])
+abbrev pub IsCardShown : List ℕ → At → Option ℕ → Type 0
+IsCardShown begun at (Some n) = IsCardOf begun at n
+IsCardShown begun at None = (at ≡ place.End) × (begun ≡ [])
+
+-- a mark is shown on its card, in its column
+abbrev pub spot_at : Mark → Spot
+spot_at mark = record { card = Some mark.card; column = mark.column }
+
+-- where a deck that is refused for this at a place is marked: at a statement by its mark, else on a card of the place
+abbrev pub IsSpotOf : List (List ℕ) → Cause → At → Spot → Type 0
+IsSpotOf lines cause (place.Card m) spot = IsCardShown (walk_of lines).begun (place.Card m) spot.card
+IsSpotOf lines cause (place.Statement k) spot = (mark : Mark) × IsMark lines k cause mark × (spot ≡ spot_at mark)
+IsSpotOf lines cause place.End spot = IsCardShown (walk_of lines).begun place.End spot.card
+IsSpotOf lines cause (place.Call k) spot = IsCardShown (walk_of lines).begun (place.Call k) spot.card
+IsSpotOf lines cause (place.Planned part k) spot = IsCardShown (walk_of lines).begun (place.Planned part k) spot.card
 
 -- one on which a statement begins; none where none begins
 abbrev pub IsAtFirst : List ℕ → Option ℕ → Type 0

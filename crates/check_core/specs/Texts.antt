@@ -1,9 +1,10 @@
 -- What is told of a deck, as text. Lines of the session count from 1, cards from 0. (This profile)
-use Rattle.std.specs.Prelude.{◌≡◌, ℕ, ◌+◌, ◌-◌, List, ◌++◌, Option, None, Some, codes, decimal}
+use Rattle.std.specs.Prelude.{◌≡◌, ℕ, ◌+◌, ◌-◌, ◌&&◌, nat_le, min, List, [], ◌∷◌, ◌++◌, map, replicate, take, slice_get, Option, None, Some, codes, decimal, if◌then◌else◌}
 use Rattle.jcl_plan.specs.Texts.{cause_text}
 use Rattle.jcl_plan.specs.declared.fault.Cause.{Cause}
 use Rattle.check_core.specs.declared.report.Checked.{Checked}
 use Rattle.check_core.specs.declared.report.Checked.TheVariants.{Refused, Taken}
+use Rattle.check_core.specs.declared.report.Spot.{Spot}
 
 -- what is told of a refusal begins with the line and the number
 abbrev pub head : ℕ → Cause → List ℕ
@@ -14,8 +15,37 @@ abbrev pub line_of : ℕ → Option ℕ → ℕ
 line_of first None = first - 1
 line_of first (Some n) = first + n
 
--- behind a text nothing is added of a deck that denotes a job; of another first the line and the number of its refusal
-abbrev pub AddsToldText : ℕ → Checked → List ℕ → List ℕ → Type 0
-AddsToldText first (Taken plan) old new = new ≡ old
-AddsToldText first (Refused report later) old new =
-    (rest : List ℕ) × (new ≡ old ++ head (line_of first report.spot.card) report.cause ++ rest)
+-- a character as it is shown: what is no printable one is a question mark
+abbrev pub shown : ℕ → ℕ
+shown c = if nat_le 32 c && nat_le c 126 then c else 63
+
+-- a card, of which 80 columns are shown
+abbrev pub card_text : List ℕ → List ℕ
+card_text card = codes "    " ++ map shown (take 80 card) ++ 10 ∷ []
+
+-- the mark below a column
+abbrev pub mark_text : Option ℕ → List ℕ
+mark_text None = []
+mark_text (Some column) = codes "    " ++ replicate (min column 80) 32 ++ codes "^\n"
+
+-- the card of a place, if there is one, and the mark below it
+abbrev pub marked_text : Option (List ℕ) → Option ℕ → List ℕ
+marked_text None column = []
+marked_text (Some card) column = card_text card ++ mark_text column
+
+abbrev pub card_of : List (List ℕ) → Option ℕ → Option (List ℕ)
+card_of lines None = None
+card_of lines (Some n) = slice_get lines n
+
+abbrev pub spot_text : List (List ℕ) → Spot → List ℕ
+spot_text lines spot = marked_text (card_of lines spot.card) spot.column
+
+-- what is wrong is told in words, then the card with its mark, then the rest
+abbrev pub TellsSpot : List (List ℕ) → Spot → List ℕ → Type 0
+TellsSpot lines spot text = (words : List ℕ) × (rest : List ℕ) × (text ≡ words ++ 10 ∷ spot_text lines spot ++ rest)
+
+-- behind a text nothing is added of a deck that denotes a job; of another first the line and the number of its refusal, then its words and its mark
+abbrev pub AddsToldText : ℕ → List (List ℕ) → Checked → List ℕ → List ℕ → Type 0
+AddsToldText first lines (Taken plan) old new = new ≡ old
+AddsToldText first lines (Refused report later) old new =
+    (rest : List ℕ) × (new ≡ old ++ head (line_of first report.spot.card) report.cause ++ rest) × TellsSpot lines report.spot rest

@@ -1,7 +1,7 @@
 //! What is wrong with a deck.
-ghost use Rattle.std.specs.Prelude.{◌≡◌, IfOk, false};
-ghost use Rattle.deck_places.specs.Cards.{walk_of};
-ghost use Rattle.deck_places.specs.Spots.{IsWithin};
+ghost use Rattle.std.specs.Prelude.{◌≡◌, ℕ, IfOk, List, false};
+ghost use Rattle.proc_library.specs.declared.library.LibraryProcedure.{LibraryProcedure};
+ghost use Rattle.deck_places.specs.Places.{IsPlace};
 ghost use Rattle.check_core.specs.Reports.{AreTold};
 ghost use Rattle.check_core.specs.Spots.{IsSpotOf};
 
@@ -13,7 +13,6 @@ use crate::mended::Mended;
 use crate::report::{Checked, Inside, Report, Spot};
 use card_core::statement::Card;
 use deck_places::judge::{At, Judged, judge};
-use deck_places::laws::each_place_has_a_statement;
 use jcl_plan::fault::Cause;
 use jcl_refs::units::UnitNames;
 use plain::text::Text;
@@ -70,8 +69,8 @@ fn report_of(
     at: At,
 ) -> Result<Report, AllocError>
     ensures told { IfOk result (λ r. (r.cause ≡ cause) × (r.at ≡ at)) }
-    ensures spot { mended.now.has_job_in_front ≡ false → IsWithin (walk_of mended.now.lines.items).begun at →
-        IfOk result (λ r. IsSpotOf (walk_of mended.now.lines.items).begun at r.spot.card) }
+    ensures spot { mended.now.has_job_in_front ≡ false → (units : List (List ℕ)) (library : List LibraryProcedure) →
+        IsPlace units library mended.now.lines.items cause at → IfOk result (λ r. IsSpotOf mended.now.lines.items cause at r.spot) }
 {
     let spot = spot_of(alloc, mended, cause, at)?;
     let inside = inside_at(alloc, sources, mended, cause, at, spot)?;
@@ -139,7 +138,6 @@ pub fn check_deck(
         Judged::Taken(plan) => return Ok(Checked::Taken(plan)),
         Judged::Refused(cause, at) => (cause, at),
     };
-    each_place_has_a_statement();
     let mut mended = Mended::of(alloc, lines)?;
     let first = report_of(alloc, sources, &mended, cause, at)?;
     let later = later_of(alloc, sources, &mut mended, cause, at)?;

@@ -1,153 +1,47 @@
 //! The place on a card where a statement is refused.
-ghost use Rattle.std.specs.Prelude.{◌≡◌, IfOk, IfSome};
+ghost use Rattle.std.specs.Prelude.{◌≡◌, ℕ, IfOk, List};
+ghost use Rattle.proc_library.specs.declared.library.LibraryProcedure.{LibraryProcedure};
 ghost use Rattle.deck_places.specs.Cards.{walk_of};
+ghost use Rattle.deck_places.specs.Places.{IsPlace};
 ghost use Rattle.deck_places.specs.Spots.{IsWithin};
-ghost use Rattle.check_core.specs.Spots.{IsAtFirst, IsFirstOrWithin, IsSpotOf};
+ghost use Rattle.check_core.specs.Spots.{IsAtFirst, IsCardShown, IsFirstOrWithin, IsSpotOf};
 
 use crate::mended::{Mended, Span, card_at};
 use crate::report::Spot;
 use card_core::card::{Kind, kind_of};
-use card_core::field::{continuation_of, ends_with_comma, fields_of, operand_text};
-use card_core::read::{ReadError as CardError, read_statements};
-use card_core::statement::{DataCard, Statement};
-use deck_places::copies::copy_of;
+use card_core::field::fields_of;
+use card_core::statement::DataCard;
 use deck_places::judge::At;
+use deck_places::laws::each_place_has_a_statement;
+use deck_places::marks::statement_mark;
 use deck_places::walk::walk_lines;
-use jcl_deck::place::Place;
 use jcl_plan::fault::{Cause, StatementFault};
-use operand_core::places::Places;
-use plain::lent::Lent;
-use plain::text::Text;
 use std::alloc::{AllocError, Global};
-use value_core::refusal::ReadError;
 
 /// The first column, from 0, behind the fields of a card that are read.
 const FIELD_END: usize = 71;
 
-/// The refusal of the last of these statements, those before it being read.
-fn last_refusal(
-    alloc: Global,
-    before: &[Statement],
-    last: Statement,
-) -> Result<Option<Cause>, AllocError> {
-    let mut place = Place::start(alloc);
-    for statement in before {
-        match place.take(alloc, copy_of(alloc, statement)?) {
-            Ok(()) => {}
-            Err(ReadError::Refused(cause)) => return Ok(Some(cause)),
-            Err(ReadError::Memory) => return Err(AllocError),
-        }
-    }
-    match place.take(alloc, last) {
-        Ok(()) => Ok(None),
-        Err(ReadError::Refused(cause)) => Ok(Some(cause)),
-        Err(ReadError::Memory) => Err(AllocError),
-    }
-}
-
-/// The most parts of an operand.
-const MOST_PARTS: usize = 1_024;
-
-/// The parts of an operand.
-fn parts_of<'a>(alloc: Global, operand: &'a [u8]) -> Result<Vec<Lent<'a>>, AllocError> {
-    let mut parts = Vec::new(alloc);
-    let mut places = Places::of_text(operand);
-    for _ in 0..MOST_PARTS {
-        match places.next() {
-            Some(part) => parts.push(Lent::new(part))?,
-            None => break,
-        }
-    }
-    Ok(parts)
-}
-
-/// An operand without one of its parts.
-fn without(alloc: Global, operand: &[u8], part: usize) -> Result<Text, AllocError> {
-    let parts = parts_of(alloc, operand)?;
-    let mut text = Vec::new(alloc);
-    let mut first = true;
-    for (n, other) in parts.iter().enumerate() {
-        if n != part {
-            if !first {
-                text.push(b',')?;
-            }
-            text.extend_from_slice(other.as_slice())?;
-            first = false;
-        }
-    }
-    Ok(Text::new(text))
-}
-
-/// Where a part of an operand begins in it.
-fn start_of(alloc: Global, operand: &[u8], part: usize) -> Result<usize, AllocError> {
-    let parts = parts_of(alloc, operand)?;
-    let mut start: usize = 0;
-    for other in parts.iter().take(part) {
-        start = start
-            .saturating_add(other.as_slice().len())
-            .saturating_add(1);
-    }
-    Ok(start)
-}
-
-/// Where the first part of the operand begins without which a statement is refused otherwise, or not at all.
-fn refused_part(
-    alloc: Global,
-    statements: &[Statement],
-    k: usize,
-) -> Result<Option<usize>, AllocError> {
-    let Some(statement) = statements.get(k) else {
-        return Ok(None);
-    };
-    let (before, _) = statements.split_at(k);
-    let own = last_refusal(alloc, before, copy_of(alloc, statement)?)?;
-    let operand = statement.operand.as_slice();
-    let count = parts_of(alloc, operand)?.len();
-    for part in 0..count {
-        let mut changed = copy_of(alloc, statement)?;
-        changed.operand = without(alloc, operand, part)?;
-        if last_refusal(alloc, before, changed)? != own {
-            return Ok(Some(start_of(alloc, operand, part)?));
-        }
-    }
-    Ok(None)
-}
-
-/// The operand's text on a card, and the column in which it begins.
-fn piece_of(card: &DataCard, first: bool) -> (usize, usize, bool) {
-    let text = if first {
-        fields_of(card).behind
+/// The first column of a card behind its operation, or none where it has no operand.
+fn operand_column(card: &DataCard) -> Option<usize> {
+    let behind = fields_of(card).behind;
+    if behind.is_empty() {
+        None
     } else {
-        continuation_of(card)
-    };
-    let column = FIELD_END.saturating_sub(text.len());
-    match operand_text(text) {
-        Some(piece) => (column, piece.len(), ends_with_comma(piece)),
-        None => (column, text.len(), false),
+        Some(FIELD_END.saturating_sub(behind.len()))
     }
 }
 
-/// The card and the column of a place in a statement's operand.
-fn spot_in(mended: &Mended, span: Span, place: usize) -> Spot
+/// The operand of a statement, on its first card.
+fn operand_spot(mended: &Mended, span: Span) -> Spot
     ensures { IsFirstOrWithin span result.card }
 {
-    let mut left = place;
-    for n in span.from..span.to {
-        let Some(card) = card_at(mended.lines.as_slice(), n) else {
-            break;
-        };
-        let (column, len, goes_on) = piece_of(&card, n == span.from);
-        if left < len || !goes_on {
-            return Spot {
-                card: Some(n),
-                column: Some(column.saturating_add(left)),
-            };
-        }
-        left = left.saturating_sub(len);
-    }
+    let column = match card_at(mended.lines.as_slice(), span.from) {
+        Some(card) => operand_column(&card),
+        None => None,
+    };
     Spot {
         card: Some(span.from),
-        column: None,
+        column,
     }
 }
 
@@ -184,7 +78,7 @@ fn word_spot(mended: &Mended, span: Span, word: &[u8]) -> Spot
             }
         }
     }
-    spot_in(mended, span, 0)
+    operand_spot(mended, span)
 }
 
 /// Of the cards on which statements begin the last that begins a procedure, or the first.
@@ -222,22 +116,40 @@ fn end_spot(alloc: Global, mended: &Mended, cause: Cause) -> Result<Spot, AllocE
     Ok(Spot { card, column: None })
 }
 
-/// The place in a statement.
-fn statement_spot(alloc: Global, mended: &Mended, span: Span, k: usize) -> Result<Spot, AllocError>
-    ensures { IfOk result (λ s. IsFirstOrWithin span s.card) }
+/// The mark of a statement that is refused.
+fn statement_spot(
+    alloc: Global,
+    mended: &Mended,
+    k: usize,
+    cause: Cause,
+) -> Result<Spot, AllocError>
+    ensures { (units : List (List ℕ)) (library : List LibraryProcedure) → IsPlace units library mended.now.lines.items cause (At.Statement k) →
+        IfOk result (IsSpotOf mended.now.lines.items cause (At.Statement k)) }
 {
     let lent = mended.lent(alloc)?;
-    let statements = match read_statements(alloc, lent.as_slice()) {
-        Ok(statements) => statements,
-        Err(CardError::Fault(_)) => Vec::new(alloc),
-        Err(CardError::Memory) => return Err(AllocError),
+    let mark = statement_mark(alloc, lent.as_slice(), k, cause)?;
+    Ok(Spot {
+        card: Some(mark.card),
+        column: mark.column,
+    })
+}
+
+/// The card of another place, and what is marked of it.
+fn card_spot(alloc: Global, mended: &Mended, cause: Cause, at: At) -> Result<Spot, AllocError>
+    ensures { IsWithin (walk_of mended.now.lines.items).begun at → IfOk result (λ s. IsCardShown (walk_of mended.now.lines.items).begun at s.card) }
+{
+    let Some(span) = mended.span_at(alloc, at)? else {
+        return end_spot(alloc, mended, cause);
     };
-    match refused_part(alloc, statements.as_slice(), k)? {
-        Some(place) => Ok(spot_in(mended, span, place)),
-        None => Ok(Spot {
-            card: Some(span.from),
+    match at {
+        At::Card(n) => Ok(Spot {
+            card: Some(n),
             column: None,
         }),
+        At::Statement(_) | At::Call(_) | At::Planned(_, _) => {
+            Ok(word_spot(mended, span, word_of(cause)))
+        }
+        At::End => end_spot(alloc, mended, cause),
     }
 }
 
@@ -248,18 +160,12 @@ pub(crate) fn spot_of(
     cause: Cause,
     at: At,
 ) -> Result<Spot, AllocError>
-    ensures { IsWithin (walk_of mended.now.lines.items).begun at → IfOk result (λ s. IsSpotOf (walk_of mended.now.lines.items).begun at s.card) }
+    ensures { (units : List (List ℕ)) (library : List LibraryProcedure) → IsPlace units library mended.now.lines.items cause at →
+        IfOk result (IsSpotOf mended.now.lines.items cause at) }
 {
-    let Some(span) = mended.span_at(alloc, at)? else {
-        return end_spot(alloc, mended, cause);
-    };
+    each_place_has_a_statement();
     match at {
-        At::Card(n) => Ok(Spot {
-            card: Some(n),
-            column: None,
-        }),
-        At::Statement(k) => statement_spot(alloc, mended, span, k),
-        At::Call(_) | At::Planned(_, _) => Ok(word_spot(mended, span, word_of(cause))),
-        At::End => end_spot(alloc, mended, cause),
+        At::Statement(k) => statement_spot(alloc, mended, k, cause),
+        _ => card_spot(alloc, mended, cause, at),
     }
 }

@@ -1,7 +1,7 @@
 //! Refusals as text.
-ghost use Rattle.std.specs.Prelude.{◌≡◌, ◌++◌, ◌∷◌, IfOk, OnOk, decimal};
+ghost use Rattle.std.specs.Prelude.{◌≡◌, ℕ, ◌++◌, ◌∷◌, List, IfOk, OnOk, Some, decimal, map, replicate, take};
 ghost use Rattle.jcl_plan.specs.Texts.{cause_text};
-ghost use Rattle.check_core.specs.Texts.{AddsToldText, head, line_of};
+ghost use Rattle.check_core.specs.Texts.{AddsToldText, TellsSpot, card_text, head, line_of, mark_text, marked_text, shown, spot_text};
 
 use crate::report::{Checked, Inside, Report, Spot};
 use card_core::statement::Card;
@@ -81,36 +81,85 @@ fn line_of(first_line: usize, card: Option<usize>) -> Result<usize, AllocError>
     }
 }
 
-/// A card as it can be printed: what is no printable character is a question mark.
-fn push_card(text: &mut Vec<u8>, card: &[u8]) -> Result<(), AllocError> {
-    text.extend_from_slice(b"    ")?;
-    for c in card.iter().take(COLUMNS) {
-        let c = if 0x20 <= *c && *c <= 0x7e { *c } else { b'?' };
-        text.push(c)?;
+/// A character as it can be printed.
+fn shown(c: u8) -> u8
+    ensures { result ≡ shown c }
+{
+    if 0x20 <= c && c <= 0x7e { c } else { b'?' }
+}
+
+/// The columns of a card that are shown.
+fn columns_of(card: &[u8]) -> &[u8]
+    ensures { result.now ≡ take 80 card.now }
+{
+    if COLUMNS < card.len() {
+        let (columns, _) = card.split_at(COLUMNS);
+        columns
+    } else {
+        card
     }
+}
+
+/// Puts characters behind a text, as they can be printed.
+fn push_shown(text: &mut Vec<u8>, columns: &[u8]) -> Result<(), AllocError>
+    ensures { OnOk result (text.new.items ≡ text.old.items ++ map shown columns.now) }
+{
+    for c in columns {
+        text.push(shown(*c))?;
+    }
+    Ok(())
+}
+
+/// A card as it can be printed: what is no printable character is a question mark.
+fn push_card(text: &mut Vec<u8>, card: &[u8]) -> Result<(), AllocError>
+    ensures { OnOk result (text.new.items ≡ text.old.items ++ card_text card.now) }
+{
+    text.extend_from_slice(b"    ")?;
+    push_shown(text, columns_of(card))?;
     text.push(b'\n')?;
     Ok(())
 }
 
-/// The mark below a card.
-fn push_mark(text: &mut Vec<u8>, column: usize) -> Result<(), AllocError> {
-    text.extend_from_slice(b"    ")?;
-    for _ in 0..column.min(COLUMNS) {
+/// Puts blanks behind a text.
+fn push_blanks(text: &mut Vec<u8>, count: usize) -> Result<(), AllocError>
+    ensures { OnOk result (text.new.items ≡ text.old.items ++ replicate count 32) }
+{
+    for n in 0..count {
         text.push(b' ')?;
     }
+    Ok(())
+}
+
+/// The mark below a card.
+fn push_mark(text: &mut Vec<u8>, column: usize) -> Result<(), AllocError>
+    ensures { OnOk result (text.new.items ≡ text.old.items ++ mark_text (Some column)) }
+{
+    text.extend_from_slice(b"    ")?;
+    push_blanks(text, column.min(COLUMNS))?;
     text.extend_from_slice(b"^\n")?;
     Ok(())
 }
 
-/// The card, with the place marked where it is known.
-fn push_spot(text: &mut Vec<u8>, lines: &[Card<'_>], spot: Spot) -> Result<(), AllocError> {
-    let Some(n) = spot.card else { return Ok(()) };
-    let Some(line) = lines.get(n) else {
-        return Ok(());
-    };
-    push_card(text, line.as_slice())?;
-    match spot.column {
+/// A card, with a column marked.
+fn push_marked(text: &mut Vec<u8>, card: &[u8], column: Option<usize>) -> Result<(), AllocError>
+    ensures { OnOk result (text.new.items ≡ text.old.items ++ marked_text (Some card.now) column) }
+{
+    push_card(text, card)?;
+    match column {
         Some(column) => push_mark(text, column),
+        None => Ok(()),
+    }
+}
+
+/// The card, with the place marked where it is known.
+fn push_spot(text: &mut Vec<u8>, lines: &[Card<'_>], spot: Spot) -> Result<(), AllocError>
+    ensures { OnOk result (text.new.items ≡ text.old.items ++ spot_text lines.now spot) }
+{
+    match spot.card {
+        Some(n) => match lines.get(n) {
+            Some(line) => push_marked(text, line.as_slice(), spot.column),
+            None => Ok(()),
+        },
         None => Ok(()),
     }
 }
@@ -125,29 +174,67 @@ fn push_inside(text: &mut Vec<u8>, inside: &Inside) -> Result<(), AllocError> {
     push_card(text, inside.card.as_slice())
 }
 
-/// Puts what is wrong, where, and what to do behind the beginning of what is told of a refusal.
-fn push_words(text: &mut Vec<u8>, lines: &[Card<'_>], report: &Report) -> Result<(), AllocError> {
-    let (letter, number) = number_of(report.cause);
-    let row = row_of(letter, number);
-    if let Some(row) = row {
-        text.extend_from_slice(row.wrong.as_bytes())?;
+/// What is wrong, in words.
+fn wrong_of(cause: Cause) -> &'static [u8] {
+    let (letter, number) = number_of(cause);
+    match row_of(letter, number) {
+        Some(row) => row.wrong.as_bytes(),
+        None => b"",
     }
-    text.push(b'\n')?;
-    push_spot(text, lines, report.spot)?;
+}
+
+/// What to do, in words.
+fn to_do_of(cause: Cause) -> &'static [u8] {
+    let (letter, number) = number_of(cause);
+    match row_of(letter, number) {
+        Some(row) => row.to_do.as_bytes(),
+        None => b"",
+    }
+}
+
+/// What is told behind the mark of a refusal.
+fn advice_of(alloc: Global, report: &Report) -> Result<Vec<u8>, AllocError> {
+    let mut text = Vec::new(alloc);
     if let Some(inside) = &report.inside {
-        push_inside(text, inside)?;
+        push_inside(&mut text, inside)?;
     }
     text.extend_from_slice(b"    ")?;
-    if let Some(row) = row {
-        text.extend_from_slice(row.to_do.as_bytes())?;
-    }
+    text.extend_from_slice(to_do_of(report.cause))?;
     if let Some(guess) = &report.guess {
         text.extend_from_slice(b"; did you mean ")?;
         text.extend_from_slice(guess.as_slice())?;
         text.push(b'?')?;
     }
     text.push(b'\n')?;
-    Ok(())
+    Ok(text)
+}
+
+/// What is told of a refusal behind its line and its number: what is wrong, where, and what to do.
+fn words_of(alloc: Global, lines: &[Card<'_>], report: &Report) -> Result<Vec<u8>, AllocError>
+    ensures { IfOk result (λ text. TellsSpot lines.now report.now.spot text.items) }
+{
+    let advice = advice_of(alloc, report)?;
+    let mut text = Vec::from_slice(alloc, wrong_of(report.cause))?;
+    text.push(b'\n')?;
+    push_spot(&mut text, lines, report.spot)?;
+    text.extend_from_slice(advice.as_slice())?;
+    Ok(text)
+}
+
+/// What is told of the refusals behind the first.
+fn later_of(
+    alloc: Global,
+    first_line: usize,
+    lines: &[Card<'_>],
+    later: &[Report],
+) -> Result<Vec<u8>, AllocError> {
+    let mut text = Vec::new(alloc);
+    for report in later {
+        let line = line_of(first_line, report.spot.card)?;
+        push_head(&mut text, line, report.cause)?;
+        text.extend_from_slice(words_of(alloc, lines, report)?.as_slice())?;
+    }
+    Ok(text)
 }
 
 /// The words of the first refusal, and what is told of the others.
@@ -157,14 +244,12 @@ fn rest_of(
     lines: &[Card<'_>],
     first: &Report,
     later: &[Report],
-) -> Result<Vec<u8>, AllocError> {
-    let mut text = Vec::new(alloc);
-    push_words(&mut text, lines, first)?;
-    for report in later {
-        let line = line_of(first_line, report.spot.card)?;
-        push_head(&mut text, line, report.cause)?;
-        push_words(&mut text, lines, report)?;
-    }
+) -> Result<Vec<u8>, AllocError>
+    ensures { IfOk result (λ text. TellsSpot lines.now first.now.spot text.items) }
+{
+    let later = later_of(alloc, first_line, lines, later)?;
+    let mut text = words_of(alloc, lines, first)?;
+    text.extend_from_slice(later.as_slice())?;
     Ok(text)
 }
 
@@ -175,7 +260,7 @@ pub fn push_checked(
     lines: &[Card<'_>],
     checked: &Checked,
 ) -> Result<(), AllocError>
-    ensures { OnOk result (AddsToldText first_line checked.now text.old.items text.new.items) }
+    ensures { OnOk result (AddsToldText first_line lines.now checked.now text.old.items text.new.items) }
 {
     match checked {
         Checked::Taken(_) => Ok(()),

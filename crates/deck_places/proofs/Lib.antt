@@ -1,7 +1,11 @@
+pub mod Before
 pub mod Begun
+pub mod Below
 pub mod Cards
 pub mod Cuts
 pub mod Judged
+pub mod Marked
+pub mod Read
 pub mod Spotted
 pub mod Statements
 pub mod Walked

@@ -14,7 +14,7 @@ use Rattle.deck_places.specs.declared.judge.At.{At}
 use Rattle.deck_places.specs.declared.judge.At.TheVariants as place
 use Rattle.deck_places.proofs.Begun.{as_many}
 
-number_in : (m n : ℕ) (a b : Cause) → RefusedAt m a ≡ RefusedAt n b → m ≡ n
+pub number_in : (m n : ℕ) (a b : Cause) → RefusedAt m a ≡ RefusedAt n b → m ≡ n
 number_in m n a b e = ap number_of e
   where
     number_of : Reading → ℕ
@@ -28,7 +28,7 @@ refused_turn : (k : ℕ) (moved : Result Place Cause) (statements : List Stateme
 refused_turn k (Err c) statements n cause more e = let h : k ≡ n = number_in k n c cause e in omega arith
 refused_turn k (Ok next) statements n cause more e = let h : n < k + 1 + length statements = more next e in omega arith
 
-refused_one : (k : ℕ) (place : Place) (statements : List Statement) (n : ℕ) (cause : Cause) → read_from k place statements ≡ RefusedAt n cause →
+pub refused_one : (k : ℕ) (place : Place) (statements : List Statement) (n : ℕ) (cause : Cause) → read_from k place statements ≡ RefusedAt n cause →
     n < k + length statements
 refused_one k place [] n cause e = absurd cc
 refused_one k place (s ∷ statements) n cause e =

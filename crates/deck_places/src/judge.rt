@@ -54,13 +54,13 @@ pub enum Judged {
 
 /// What statements are found to be one by one.
 #[derive(Drop)]
-enum Read {
+pub(crate) enum Read {
     Taken(Place),
     Refused(usize, Cause),
 }
 
 /// Reads statements one by one, to the first that is refused.
-fn read_all(alloc: Global, statements: &[Statement]) -> Result<Read, AllocError>
+pub(crate) fn read_all(alloc: Global, statements: &[Statement]) -> Result<Read, AllocError>
     ensures { IfOk result (AreRead statements.now) }
 {
     let mut place = Place::start(alloc);

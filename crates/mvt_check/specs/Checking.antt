@@ -49,7 +49,7 @@ pub record AddsDeck (units : List (List ℕ)) (library : List LibraryProcedure) 
   pub checked : Checked
   pub told : AreTold units library lines checked
   pub between : List ℕ
-  pub added : AddsToldText first checked old between
+  pub added : AddsToldText first lines checked old between
   pub on : GoesOn between new
 
 abbrev pub AddsEvent : List (List ℕ) → List LibraryProcedure → ℕ → Event → List ℕ → List ℕ → Type 0
