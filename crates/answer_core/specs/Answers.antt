@@ -6,7 +6,7 @@ use Rattle.jcl_plan.specs.declared.entry.Entry.TheVariants as entry
 use Rattle.jcl_plan.specs.declared.entry.JobLine.{JobLine}
 use Rattle.jcl_plan.specs.declared.entry.JobLine.TheVariants as line
 use Rattle.answer_core.specs.declared.answer.Answer.{Answer}
-use Rattle.answer_core.specs.declared.answer.Answer.TheVariants.{Assured, Risk, TooMany}
+use Rattle.answer_core.specs.declared.answer.Answer.TheVariants.{Assured, Risk, SpaceWait, TooMany}
 use Rattle.answer_core.specs.declared.answer.Answered.{Answered}
 
 -- a line of a job that a deck became, also where the deck was refused
@@ -20,12 +20,14 @@ abbrev pub is_answer : JobLine → Bool
 is_answer (line.Assured tracks actions) = true
 is_answer (line.Risk fault step dd path) = true
 is_answer (line.TooMany step) = true
+is_answer (line.WaitSpace serial) = true
 is_answer other = false
 
 abbrev pub answer_by : List JobLine → JobLine → Option Answer
 answer_by path (line.Assured tracks actions) = Some (Assured tracks actions)
 answer_by path (line.Risk fault step dd outcomes) = Some (Risk fault step dd outcomes path)
 answer_by path (line.TooMany step) = Some (TooMany step)
+answer_by path (line.WaitSpace serial) = Some (SpaceWait serial)
 answer_by path other = None
 
 -- the last of such lines, of the lines of an event

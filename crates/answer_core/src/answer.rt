@@ -2,6 +2,7 @@
 use jcl_plan::entry::JobLine;
 use jcl_plan::fault::Fault;
 use jcl_plan::outcome::Outcome;
+use jname_core::serial::Serial;
 use plain::listed::Listed;
 
 /// What admission answers a job.
@@ -23,6 +24,8 @@ pub enum Answer {
     },
     /// There are more views than the limit behind this step, which counts from 1, and up to there no path meets a fault.
     TooMany(usize),
+    /// Its sets have no room on this volume, and it asks again.
+    SpaceWait(Serial),
 }
 
 /// What became of a deck.

@@ -31,7 +31,7 @@ fn is_answer(line: &JobLine) -> bool
 {
     matches!(
         line,
-        JobLine::Assured { .. } | JobLine::Risk { .. } | JobLine::TooMany(_)
+        JobLine::Assured { .. } | JobLine::Risk { .. } | JobLine::TooMany(_) | JobLine::WaitSpace(_)
     )
 }
 
@@ -54,6 +54,7 @@ pub(crate) fn answer_by(line: JobLine, path: Listed<JobLine>) -> Option<Answer>
             lines: path,
         }),
         JobLine::TooMany(step) => Some(Answer::TooMany(step)),
+        JobLine::WaitSpace(serial) => Some(Answer::SpaceWait(serial)),
         _ => None,
     }
 }

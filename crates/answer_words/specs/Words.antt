@@ -1,7 +1,7 @@
 -- How the words for an answer begin. (This profile)
 use Rattle.std.specs.Prelude.{ℕ, List, [], ◌++◌, Option, Some, None, codes, decimal}
 use Rattle.answer_core.specs.declared.answer.Answer.{Answer}
-use Rattle.answer_core.specs.declared.answer.Answer.TheVariants.{Assured, Risk, TooMany}
+use Rattle.answer_core.specs.declared.answer.Answer.TheVariants.{Assured, Risk, SpaceWait, TooMany}
 
 -- the number of a job that has one
 abbrev pub number_text : Option ℕ → List ℕ
@@ -14,6 +14,7 @@ verdict_text None = codes " is not looked at: "
 verdict_text (Some (Assured tracks actions)) = codes " is ASSURED: "
 verdict_text (Some (Risk fault step dd path lines)) = codes " is at RISK: "
 verdict_text (Some (TooMany step)) = codes " has too many paths (TOOMANY): "
+verdict_text (Some (SpaceWait serial)) = codes " waits for space (WAIT SPACE): "
 
 -- the line of the session, the job and what is answered it
 abbrev pub beginning : ℕ → Option ℕ → List ℕ → Option Answer → List ℕ

@@ -16,6 +16,7 @@ fn verdict_of(answer: &Option<Answer>) -> &'static [u8]
         Some(Answer::Assured { .. }) => b" is ASSURED: ",
         Some(Answer::Risk { .. }) => b" is at RISK: ",
         Some(Answer::TooMany(_)) => b" has too many paths (TOOMANY): ",
+        Some(Answer::SpaceWait(_)) => b" waits for space (WAIT SPACE): ",
         None => b" is not looked at: ",
     }
 }
@@ -54,6 +55,13 @@ fn push_said(
             text.extend_from_slice(b"after ")?;
             push_step(text, plan, *step)?;
             text.extend_from_slice(b" more views than --views allows; up to there nothing fails")
+        }
+        Some(Answer::SpaceWait(serial)) => {
+            text.extend_from_slice(b"volume ")?;
+            text.extend_from_slice(serial.as_slice())?;
+            text.extend_from_slice(
+                b" has no room for a set that it may make, up to the end of the session",
+            )
         }
         None => text.extend_from_slice(b"it does not reach its admission in this session"),
     }

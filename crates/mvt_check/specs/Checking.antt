@@ -84,6 +84,7 @@ is_risk_answer None = false
 is_risk_answer (Some (answer.Assured tracks actions)) = false
 is_risk_answer (Some (answer.Risk fault step dd path lines)) = true
 is_risk_answer (Some (answer.TooMany step)) = true
+is_risk_answer (Some (answer.SpaceWait serial)) = false
 
 abbrev pub is_risk : Answered → Bool
 is_risk answered = is_risk_answer answered.answer
