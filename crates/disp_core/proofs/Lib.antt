@@ -1,8 +1,6 @@
-mod Asking
 mod Entering
 mod Passes
 mod Silent
 mod Backs
 mod Granted
 mod Taking
-mod Reading

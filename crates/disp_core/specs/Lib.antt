@@ -1,4 +1,3 @@
 pub mod Courses
 pub mod Grants
 pub mod Takings
-pub mod Requests

@@ -30,7 +30,7 @@ pub struct Course {
 
 impl Course {
     /// Writes a line. An `Err` changes nothing.
-    pub(crate) fn say(&mut self, line: JobLine) -> Result<(), AllocError>
+    pub fn say(&mut self, line: JobLine) -> Result<(), AllocError>
         ensures ok { OnOk result (self.new ≡ record self.old { lines = self.old.lines ++ line ∷ [] }) }
         ensures err { OnErr result (self.new ≡ self.old) }
     {
@@ -39,7 +39,7 @@ impl Course {
     }
 
     /// Takes the last line back.
-    pub(crate) fn unsay(&mut self)
+    pub fn unsay(&mut self)
         requires { 0 < length self.old.lines }
         ensures { (before : List JobLine) (line : JobLine) → self.old.lines ≡ before ++ line ∷ [] → self.new ≡ record self.old { lines = before } }
     {

@@ -1,13 +1,10 @@
 //! What a job does to its sets, action by action, over any store. (GC28-6704, DISP parameter; this profile)
 #![tactic(auto)]
 
-pub mod ask;
 pub mod change;
 pub mod course;
 pub mod dispose;
-mod put;
 mod refuse;
-pub mod request;
 pub mod resolve;
 pub mod step;
 pub mod take;

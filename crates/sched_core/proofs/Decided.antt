@@ -10,7 +10,7 @@ use Rattle.jcl_meaning.specs.Acts.{act}
 use Rattle.jcl_meaning.specs.Agendas.{Action, Ask, Take}
 use Rattle.jcl_meaning.specs.RequestActs.{asked, head_or}
 use Rattle.jcl_meaning.specs.States.{Done, State}
-use Rattle.disp_core.specs.Requests.{Growth, growth_asked}
+use Rattle.request_core.specs.Requests.{Growth, growth_asked}
 use Rattle.input_core.specs.declared.event.Event.{Event}
 use Rattle.world_meaning.specs.Choices.{AtAction, AtAdmission, Choice, choice_of}
 use Rattle.world_meaning.specs.Turns.{Advanced}

@@ -17,7 +17,7 @@ use Rattle.jcl_meaning.specs.Programs.{dd_of, emptied, empties, is_concatenated,
 use Rattle.jcl_meaning.specs.RequestActs.{asked, asks_at, asks_dd, dd_name, gets_by, head_or, put_grows, put_to_set, puts, puts_in, puts_unless, reads}
 use Rattle.jcl_meaning.specs.States.{Done, State, asks_open, cancel_due}
 use Rattle.jcl_meaning.specs.Takes.{secondary_of}
-use Rattle.disp_core.specs.Requests.{Growth, growth_asked, growth_at, growth_at_dd, growth_for, growth_in, growth_of_kind, growth_unless, here_at}
+use Rattle.request_core.specs.Requests.{Growth, growth_asked, growth_at, growth_at_dd, growth_for, growth_in, growth_of_kind, growth_unless, here_at}
 
 abbrev IsSb37 : Done → Type 0
 IsSb37 done = done.lines ≡ line.Abend abend.SB37 ∷ []

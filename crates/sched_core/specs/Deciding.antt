@@ -17,7 +17,7 @@ use Rattle.jcl_meaning.specs.declared.state.Resolution.TheVariants.{Means}
 use Rattle.jcl_meaning.specs.Agendas.{Ask, Take}
 use Rattle.jcl_meaning.specs.Resolutions.{meaning_at}
 use Rattle.jcl_meaning.specs.Takes.{primary_of}
-use Rattle.disp_core.specs.Requests.{Growth, growth_asked}
+use Rattle.request_core.specs.Requests.{Growth, growth_asked}
 use Rattle.input_core.specs.declared.event.Event.{Event}
 use Rattle.world_meaning.specs.Choices.{AtAction, AtAdmission, choice_of}
 use Rattle.world_meaning.specs.Turns.{Advanced}

@@ -13,7 +13,7 @@ use Rattle.jcl_meaning.specs.States.{Answers, Fixed, others}
 use Rattle.jcl_meaning.specs.Stores.{Store}
 use Rattle.jcl_meaning.specs.Takes.{looked_at}
 use Rattle.disp_core.specs.Grants.{granted_by, granted_on, primary_granted}
-use Rattle.disp_core.specs.Requests.{Grants, Growth, answers_left}
+use Rattle.request_core.specs.Requests.{Grants, Growth, answers_left}
 use Rattle.disp_core.specs.Takings.{target_in}
 
 granted_there : (n dd : ℕ) (p : SetPlan) (serial : Option (List ℕ)) → granted_on (λ place tracks. true) n dd p serial ≡ true

@@ -7,12 +7,13 @@ ghost use Rattle.jcl_meaning.specs.States.{cancel_due, others};
 ghost use Rattle.solo_core.specs.Runners.{Does};
 
 use disp_core::course::{Course, Given};
-use disp_core::{ask, dispose, request, step, take};
+use disp_core::{dispose, step, take};
 use jcl_meaning::program::Move;
 use jcl_plan::fault::Fault;
 use jcl_plan::outcome::{Code, Outcome};
 use jcl_plan::plan::{DdPlan, StepPlan};
 use plain::listed::Listed;
+use request_core::{ask, request};
 use std::alloc::{AllocError, Global};
 use store_core::alone::Alone;
 

@@ -2,10 +2,8 @@
 //! action is carried out again.
 use crate::kept::Known;
 use crate::shown::{tell_lines, tell_outputs, tell_seen};
-use disp_core::ask::ask;
 use disp_core::course::{Course, Given};
 use disp_core::dispose::{dispose, leave};
-use disp_core::request::receive;
 use disp_core::step::{begin, end, finish};
 use disp_core::take::take;
 use jcl_meaning::program::{Move, SoloProgram, moves_of};
@@ -15,6 +13,8 @@ use jcl_plan::outcome::{Code, Outcome};
 use jcl_plan::plan::{DdPlan, JobPlan, StepPlan};
 use jname_core::serial::Serial;
 use plain::listed::Listed;
+use request_core::ask::ask;
+use request_core::request::receive;
 use row_table::told::Told;
 use shared_core::store::SharedStore;
 use std::alloc::{AllocError, Global};

@@ -4,7 +4,6 @@ mod NoSets
 mod Passing
 mod Performing
 mod Places
-mod Reading
 mod Saying
 mod Standing
 mod Starting

@@ -21,8 +21,8 @@ use Rattle.jcl_meaning.specs.TakeActs.{started, takes}
 use Rattle.store_core.specs.Actions.{state_at}
 use Rattle.disp_core.specs.Courses.{Carried, CarriedAside, CarriedEnd, Does}
 use Rattle.disp_core.specs.Grants.{CarriedWith, made_of, primary_granted}
-use Rattle.disp_core.specs.Requests.{CarriedRequest, CarriedUnless, Grants, Growth, answers_left, growth_asked}
 use Rattle.disp_core.specs.declared.course.Course.{Course}
+use Rattle.request_core.specs.Requests.{CarriedRequest, CarriedUnless, Grants, Growth, answers_left, growth_asked}
 use Rattle.world_meaning.specs.Turns.{answers_due, end_of, outcomes_due}
 use Rattle.turn_core.specs.Performing.{HasActed, Performs, StoreAnswers, granting_by, growth_granted}
 use Rattle.turn_core.specs.Places.{IsOfStep, action_of}

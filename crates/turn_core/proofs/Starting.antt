@@ -22,7 +22,7 @@ use Rattle.jcl_meaning.specs.RequestActs.{asks_at, asks_dd, asks_of, dd_name, ge
 use Rattle.jcl_meaning.specs.States.{Answers, Done, Fixed, State, asks_open, cancel_due, if_runs, unless_cancelled}
 use Rattle.jcl_meaning.specs.Stores.{Store}
 use Rattle.jcl_meaning.specs.Takes.{secondary_of}
-use Rattle.disp_core.specs.Requests.{growth_at, growth_at_dd, growth_for, growth_in, growth_of, growth_of_kind, growth_unless, here_at}
+use Rattle.request_core.specs.Requests.{growth_at, growth_at_dd, growth_for, growth_in, growth_of, growth_of_kind, growth_unless, here_at}
 use Rattle.world_meaning.specs.Turns.{volume_needed}
 use Rattle.turn_core.specs.Ending.{ended_at}
 use Rattle.turn_core.specs.Passing.{is_idle}
@@ -30,7 +30,7 @@ use Rattle.turn_core.specs.Performing.{StoreAnswers, growth_by, growth_granted}
 use Rattle.turn_core.specs.TurnLaws.{IsVolumeOfSet, StartsWhereSetsAre}
 use Rattle.turn_core.specs.Turning.{volume_started}
 use Rattle.turn_core.proofs.Performing.{cancelled_now}
-use Rattle.turn_core.proofs.Reading.{sources_drop}
+use Rattle.request_core.proofs.Reading.{sources_drop}
 use Rattle.turn_core.proofs.Saying.{says}
 
 one_of : {X : Type 0} (a b : X) → Some a ≡ Some b → a ≡ b

@@ -11,8 +11,8 @@ use Rattle.jcl_meaning.specs.States.{Done, Fixed}
 use Rattle.jcl_meaning.specs.Stores.{Store}
 use Rattle.store_core.specs.Actions.{state_at}
 use Rattle.disp_core.specs.Grants.{made_of, primary_granted}
-use Rattle.disp_core.specs.Requests.{Growth, growth_asked}
 use Rattle.disp_core.specs.declared.course.Course.{Course}
+use Rattle.request_core.specs.Requests.{Growth, growth_asked}
 use Rattle.world_meaning.specs.Turns.{Granting, answers_due}
 
 -- whether the store grants the primary of the set that an action makes, and the growth that it asks for

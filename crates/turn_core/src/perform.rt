@@ -8,9 +8,10 @@ ghost use Rattle.turn_core.specs.Places.{IsCounted, IsOfStep, action_of};
 
 use crate::todo::Task;
 use disp_core::course::{Course, Given};
-use disp_core::{ask, dispose, request, step, take};
+use disp_core::{dispose, step, take};
 use jcl_meaning::state::Place;
 use prog_core::library::ProgramLibrary;
+use request_core::{ask, request};
 use std::alloc::{AllocError, Global};
 use store_core::job_store::JobStore;
 

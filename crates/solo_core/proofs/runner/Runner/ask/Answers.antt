@@ -2,7 +2,7 @@ use Rattle.std.proofs.Common.{◌∙◌, ◌++◌, ◌∷◌, [], None, ap, refl
 use Rattle.jcl_meaning.specs.Acts.{act}
 use Rattle.jcl_meaning.specs.Agendas.{Ask}
 use Rattle.jcl_meaning.specs.Stores.{store_of}
-use Rattle.disp_core.specs.Requests.{growth_asked}
+use Rattle.request_core.specs.Requests.{growth_asked}
 use Rattle.solo_core.specs.declared.runner.Runner.{Runner}
 use Rattle.solo_core.specs.Runners.{answers_by}
 use Rattle.solo_core.proofs.Answered.{grant_left, next_grants, no_grant_left, with_grants}

@@ -29,7 +29,7 @@ use Rattle.jcl_meaning.specs.Stores.{Store}
 use Rattle.store_core.specs.Actions.{changed_at, state_at}
 use Rattle.disp_core.specs.Courses.{Does}
 use Rattle.disp_core.specs.declared.course.Course.{Course}
-use Rattle.disp_core.specs.declared.put.Here.{Here}
+use Rattle.request_core.specs.declared.put.Here.{Here}
 
 -- the state of a DD changed, where it was taken
 abbrev pub with_dd_by : (DdState → DdState) → List DdState → ℕ → Option DdState → List DdState

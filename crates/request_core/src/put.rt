@@ -7,10 +7,10 @@ ghost use Rattle.jcl_meaning.specs.Takes.{secondary_of};
 ghost use Rattle.jcl_meaning.specs.declared.state.DdState.{DdState};
 ghost use Rattle.jcl_meaning.specs.declared.state.Due.TheVariants as due;
 ghost use Rattle.store_core.specs.Actions.{changed_at};
-ghost use Rattle.disp_core.specs.Requests.{CarriedGrown, IsHere, course_abended, course_grown, course_put, course_with, growth_in, growth_of_kind, store_grown, with_dd, with_mark, with_spooled};
+ghost use Rattle.request_core.specs.Requests.{CarriedGrown, IsHere, course_abended, course_grown, course_put, course_with, growth_in, growth_of_kind, store_grown, with_dd, with_mark, with_spooled};
 
-use crate::course::Course;
 use crate::request::{abend, one_more, say_done};
+use disp_core::course::Course;
 use jcl_meaning::state::{DdState, Due, TakenSet};
 use jcl_plan::entry::JobLine;
 use jcl_plan::outcome::Abend;

@@ -1,8 +1,8 @@
 use Rattle.std.proofs.Common.{◌≡◌, ap, sym, true, false, ◌∙◌}
 use Rattle.jcl_meaning.specs.Programs.{at_source, located, source_of, sources_from, taken_at}
-use Rattle.disp_core.specs.Requests.{is_read_on}
-use Rattle.disp_core.proofs.Reading.{reads_here, reads_on}
-use Rattle.disp_core.proofs.request.+located.Goals as goal
+use Rattle.request_core.specs.Requests.{is_read_on}
+use Rattle.request_core.proofs.Reading.{reads_here, reads_on}
+use Rattle.request_core.proofs.read.+located.Goals as goal
 
 pub returns-then-is_read_on : goal.returns-then-is_read_on
 returns-then-is_read_on g m c =

@@ -8,7 +8,7 @@ use Rattle.jcl_meaning.specs.declared.source.Source.{Source}
 use Rattle.jcl_meaning.specs.declared.state.DdState.{DdState}
 use Rattle.jcl_meaning.specs.Programs.{at_source, located, source_of, sources_from, taken_at}
 use Rattle.jcl_meaning.specs.Stores.{Store}
-use Rattle.disp_core.specs.Requests.{is_read_on}
+use Rattle.request_core.specs.Requests.{is_read_on}
 
 -- by whether the next is read
 by_bools : (b p : Bool) (x : Source) (rest : List Source) (a : FoundRecord) (m : ℕ) → (not b && p) ≡ true → cond b a (cond p (located rest m 0) a) ≡ located rest m 0

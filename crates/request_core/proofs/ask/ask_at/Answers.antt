@@ -1,8 +1,8 @@
 use Rattle.std.proofs.Common.{slice_get, sym, ap, ◌∙◌}
 use Rattle.std.specs.Option.{option_copied, option_map}
-use Rattle.disp_core.specs.Requests.{here_at}
-use Rattle.disp_core.proofs.Asking.{asked_at, on_ok_then}
-use Rattle.disp_core.proofs.ask.ask_at.Goals as goal
+use Rattle.request_core.specs.Requests.{here_at}
+use Rattle.request_core.proofs.Asking.{asked_at, on_ok_then}
+use Rattle.request_core.proofs.ask.ask_at.Goals as goal
 
 pub returns-clause-ok : goal.returns-clause-ok
 returns-clause-ok g c =

@@ -4,11 +4,11 @@ ghost use Rattle.std.specs.Option.{option_copied, option_map};
 ghost use Rattle.jcl_meaning.specs.Programs.{is_read_only};
 ghost use Rattle.jcl_meaning.specs.RequestActs.{asked, asks_at, asks_of, dd_name};
 ghost use Rattle.jcl_meaning.specs.declared.state.DdState.{DdState};
-ghost use Rattle.disp_core.specs.Requests.{CarriedGrown, CarriedRequest, IsHere, growth_asked, growth_at, growth_of, here_at};
+ghost use Rattle.request_core.specs.Requests.{CarriedGrown, CarriedRequest, IsHere, growth_asked, growth_at, growth_of, here_at};
 
-use crate::course::Course;
 use crate::put::{Here, put};
 use crate::request::{abend, get, is_open};
+use disp_core::course::Course;
 use jcl_meaning::names::is_shr;
 use jcl_meaning::program::Move;
 use jcl_meaning::state::DdState;
@@ -20,7 +20,7 @@ use store_core::job_store::JobStore;
 use store_core::source::{dd_of, is_concatenated};
 
 /// Whether no record may be put to a DD.
-fn is_read_only(kind: &DdKind) -> bool
+pub fn is_read_only(kind: &DdKind) -> bool
     ensures { result ≡ is_read_only kind.now }
 {
     match kind {
@@ -31,7 +31,8 @@ fn is_read_only(kind: &DdKind) -> bool
     }
 }
 
-fn dd_name(wants: &Move) -> &Name8
+/// The name of the DD that a request goes to.
+pub fn dd_name(wants: &Move) -> &Name8
     ensures { result.now ≡ dd_name wants.now }
 {
     match wants {
@@ -41,7 +42,7 @@ fn dd_name(wants: &Move) -> &Name8
 }
 
 /// A DD of a step, from 0.
-fn dd_at(dds: &[DdPlan], d: usize) -> Option<&DdPlan>
+pub fn dd_at(dds: &[DdPlan], d: usize) -> Option<&DdPlan>
     ensures dd { option_copied result ≡ slice_get dds.now d }
     ensures within { IsSome result → d < length dds.now }
 {
