@@ -1,9 +1,11 @@
 -- An action of a job carried out: what it left of the store as the job sees it, of the job's own part and of its lines.
-use Rattle.std.specs.Prelude.{◌≡◌, Bool, List, [], ◌++◌, Option, None}
+use Rattle.std.specs.Prelude.{◌≡◌, ℕ, Bool, List, [], ◌∷◌, ◌++◌, Option, Some, None}
 use Rattle.jcl_plan.specs.declared.fault.Fault.{Fault}
 use Rattle.jcl_plan.specs.declared.outcome.Outcome.{Outcome}
 use Rattle.jcl_plan.specs.declared.outcome.Outcome.TheVariants as outcomes
+use Rattle.jcl_meaning.specs.declared.state.Own.{Own}
 use Rattle.jcl_meaning.specs.declared.state.Place.{Place}
+use Rattle.jcl_meaning.specs.EndActs.{end_line, passed_after}
 use Rattle.jcl_meaning.specs.RequestActs.{head_or}
 use Rattle.jcl_meaning.specs.States.{Answers, Done, Fixed, State, cancel_due, with_answers_used}
 use Rattle.jcl_meaning.specs.Stores.{Store}
@@ -42,3 +44,16 @@ abbrev pub CarriedEnd : (State → Done) → Outcome → Bool → Course → Cou
 CarriedEnd action outcome cancelled before after =
     (seen : Store) (answers : Answers) → head_or (outcomes.Code 0) answers.outcomes ≡ outcome → cancel_due answers.cancels before.own.lines ≡ cancelled →
     Does (action (state_at seen before.own answers)) seen after before (with_answers_used answers) None []
+
+-- how a step ended, or its program, is entered
+abbrev pub own_ended : ℕ → Outcome → Own → Own
+own_ended n outcome own = record own {
+  passed = passed_after outcome n own.passed;
+  ended = record { step = n; outcome = outcome } ∷ own.ended;
+  over = Some outcome;
+  due = None;
+  lines = 0;
+}
+
+abbrev pub course_ended_by : ℕ → Outcome → Course → Course
+course_ended_by n outcome c = record { own = own_ended n outcome c.own; lines = c.lines ++ end_line outcome ∷ [] }

@@ -8,6 +8,7 @@ ghost use Rattle.jcl_meaning.specs.Dispositions.{catalogs, catalogs_by, catalogs
 ghost use Rattle.jcl_meaning.specs.Lists.{member_copied};
 ghost use Rattle.jcl_meaning.specs.Stores.{after_rolling, catalogued, generation_entered, generation_entered_by, group_of, is_unexpired, member_of, name_entered, rolled_off, uncatalogued};
 ghost use Rattle.store_core.specs.EnteredNumbers.{TakesNumber};
+ghost use Rattle.disp_core.specs.Entering.{EntersNumber};
 
 use group_core::group::{Group, GroupFault, Rolled};
 use jcl_meaning::state::{Change, Disposed, TakenSet};
@@ -221,8 +222,7 @@ fn enter_number<S: JobStore>(
     requires base { length base.now ≤ 35 }
     requires range { (0 < number) × (number ≤ 9999) }
     requires group { TakesNumber (group_of (S.seen job store.old) base.now) number serial }
-    ensures seen { (g : GroupState) → group_of (S.seen job store.old) base.now ≡ Some g → g.scratch ≡ scratches →
-        S.seen job store.new ≡ generation_entered_by (Some (number, g)) base.now serial date (S.seen job store.old) }
+    ensures seen { EntersNumber base.now number serial scratches date (S.seen job store.old) (S.seen job store.new) }
     ensures rest { S.rest job store.new ≡ S.rest job store.old }
 {
     let rolled = store.enter_number(job, base, number, serial);

@@ -1,18 +1,16 @@
 //! The disposition of a DD at the end of its step, and the job's end for a set that was passed and not received. (GC28-6704, DISP parameter; LEFT is
 //! this profile's)
-ghost use Rattle.std.specs.Prelude.{◌≡◌, ◌-◌, ◌<◌, ◌==◌, ◌&&◌, ◌∷◌, ◌++◌, [], IfNone, IfOk, IfSome, None, OnErr, OnOk, Some, length, remove, slice_get};
+ghost use Rattle.std.specs.Prelude.{◌≡◌, ◌<◌, ◌==◌, ◌&&◌, ◌∷◌, ◌++◌, [], IfNone, IfOk, IfSome, None, OnErr, OnOk, Some, length, remove, slice_get};
 ghost use Rattle.jcl_plan.specs.declared.entry.JobLine.TheVariants as line;
 ghost use Rattle.jcl_plan.specs.declared.words.DispWord.TheVariants as disp;
-ghost use Rattle.jcl_meaning.specs.Dispositions.{changed, disposed_by, left_word};
-ghost use Rattle.jcl_meaning.specs.EndActs.{after_abend, disposes, disposes_at, leaves, left_at, left_disposed, passed_by, passed_with, put_out, tracks_released, set_disposed, set_disposes, without_pass};
-ghost use Rattle.jcl_meaning.specs.Names.{is_temporary};
-ghost use Rattle.jcl_meaning.specs.Plans.{conditional_meaning, normal_meaning, word_done};
-ghost use Rattle.jcl_meaning.specs.States.{goes, if_runs, with_own};
+ghost use Rattle.jcl_meaning.specs.Dispositions.{changed};
+ghost use Rattle.jcl_meaning.specs.EndActs.{after_abend, disposes_at, leaves, left_at, left_disposed, passed_by, passed_with, tracks_released, set_disposed, set_disposes, without_pass};
 ghost use Rattle.jcl_meaning.specs.Takes.{releases};
-ghost use Rattle.disp_core.specs.Courses.{Carried, fixed_by};
+ghost use Rattle.disp_core.specs.Acting.{Acts, Meets, at_site, course_put_out, disposition, word_in};
 
 use crate::change::{change, disposed_by};
 use crate::course::{Course, Given, drop_last};
+use crate::site::Site;
 use jcl_meaning::history::is_abend;
 use jcl_meaning::names::is_temporary;
 use jcl_meaning::state::{Change, DdState, Disposed, Output, Passed, TakenSet};
@@ -21,11 +19,8 @@ use jcl_plan::day::Day;
 use jcl_plan::entry::JobLine;
 use jcl_plan::fault::Fault;
 use jcl_plan::outcome::Outcome;
-use jcl_plan::plan::{DdKind, DdPlan, Record, SetPlan, Space, Word};
+use jcl_plan::plan::{DdKind, Record, SetPlan, Space, Word};
 use jcl_plan::words::DispWord;
-use jname_core::key::Key;
-use jname_core::name8::Name8;
-use jname_core::serial::Serial;
 use plain::listed::Listed;
 use std::alloc::AllocError;
 use store_core::disposition::{as_taken, fault_in, left_word};
@@ -49,7 +44,7 @@ fn releases(space: &Option<Space>) -> bool
     }
 }
 
-/// Writes a line and carries a change out; RLSE then cuts the set. An `Err` changes nothing.
+/// Writes a line and carries a change out on a set. An `Err` changes nothing.
 fn say_and_change<S: JobStore>(
     store: &mut S,
     job: u16,
@@ -57,38 +52,41 @@ fn say_and_change<S: JobStore>(
     course: &mut Course,
     line: JobLine,
     what: Change,
-    cuts: bool,
-    key: &Key,
-    serial: Serial,
+    t: &TakenSet,
 ) -> Result<(), AllocError>
-    ensures seen { OnOk result (S.seen job store.new ≡ tracks_released cuts key.now serial (changed what (S.seen job store.old) key.now serial date)) }
+    ensures seen { OnOk result (S.seen job store.new ≡ changed what (S.seen job store.old) t.now.key t.now.serial date) }
     ensures said { OnOk result (course.new ≡ record course.old { lines = course.old.lines ++ line ∷ [] }) }
     ensures err { OnErr result ((store.new ≡ store.old) × (course.new ≡ course.old)) }
     ensures rest { S.rest job store.new ≡ S.rest job store.old }
 {
     course.say(line)?;
-    match change(store, job, what, key, serial, date) {
-        Ok(()) => {}
+    match change(store, job, what, &t.key, t.serial, date) {
+        Ok(()) => Ok(()),
         Err(error) => {
             course.unsay();
-            return Err(error);
+            Err(error)
         }
     }
-    if cuts {
-        store.trim(job, key, serial);
+}
+
+/// Cuts a set whose SPACE has RLSE.
+fn release<S: JobStore>(store: &mut S, job: u16, space: &Option<Space>, t: &TakenSet)
+    ensures seen { S.seen job store.new ≡ tracks_released (releases space.now) t.now.key t.now.serial (S.seen job store.old) }
+    ensures rest { S.rest job store.new ≡ S.rest job store.old }
+{
+    if releases(space) {
+        store.trim(job, &t.key, t.serial);
     }
-    Ok(())
 }
 
 /// Passes a set on, or not. An `Err` changes nothing.
 fn pass(
     passed: &mut Listed<Passed>,
     passes: bool,
-    n: usize,
-    dd: usize,
+    at: &Site,
     t: &TakenSet,
 ) -> Result<(), AllocError>
-    ensures ok { OnOk result (passed.new ≡ passed_with passes n dd t.now passed.old) }
+    ensures ok { OnOk result (passed.new ≡ passed_with passes at.now.step at.now.dd t.now passed.old) }
     ensures err { OnErr result (passed.new ≡ passed.old) }
 {
     if passes {
@@ -97,8 +95,8 @@ fn pass(
             serial: t.serial,
             made: t.made,
             by_catalog: t.by_catalog,
-            step: n,
-            dd,
+            step: at.step,
+            dd: at.dd,
             abend_later: false,
         })?;
     }
@@ -108,39 +106,27 @@ fn pass(
 /// Does with a set what its disposition decided. An `Err` changes nothing.
 fn set_disposed<S: JobStore>(
     store: &mut S,
-    job: u16,
     given: &Given,
     course: &mut Course,
-    n: usize,
-    dd: usize,
-    name: &Option<Name8>,
+    at: &Site,
     p: &SetPlan,
     t: &TakenSet,
     disposed: Disposed,
 ) -> Result<Option<Fault>, AllocError>
-    ensures ok { IfOk result (λ meets. Carried (λ s. set_disposed (fixed_by given.now) n dd name.now p.now t.now s disposed) (S.seen job store.old) course.old (S.seen job store.new) course.new meets []) }
-    ensures err { OnErr result ((store.new ≡ store.old) × (course.new ≡ course.old)) }
-    ensures rest { S.rest job store.new ≡ S.rest job store.old }
+    ensures { Acts S.JobStore at.now.job (Meets (λ s. at_site set_disposed given.now at.now p.now t.now s disposed))
+        result store.old course.old store.new course.new }
 {
-    pass(&mut course.own.passed, disposed.passes, n, dd, t)?;
+    pass(&mut course.own.passed, disposed.passes, at, t)?;
     let line = JobLine::Disp {
-        dd,
-        name: *name,
+        dd: at.dd,
+        name: at.name,
         word: disposed.word,
     };
-    let cuts = releases(&p.space);
-    match say_and_change(
-        store,
-        job,
-        given.date,
-        course,
-        line,
-        disposed.change,
-        cuts,
-        &t.key,
-        t.serial,
-    ) {
-        Ok(()) => Ok(fault_in(disposed.word)),
+    match say_and_change(store, at.job, given.date, course, line, disposed.change, t) {
+        Ok(()) => {
+            release(store, at.job, &p.space, t);
+            Ok(fault_in(disposed.word))
+        }
         Err(error) => {
             if disposed.passes {
                 drop_last(&mut course.own.passed);
@@ -152,7 +138,7 @@ fn set_disposed<S: JobStore>(
 
 /// The word done on a set at the end of its step.
 fn word_at(over: &Option<Outcome>, p: &SetPlan, t: &TakenSet) -> Word
-    ensures { result ≡ word_done (normal_meaning (is_temporary t.now.key) p.now.normal) (conditional_meaning (is_temporary t.now.key) p.now.conditional) (after_abend over.now) t.now.made }
+    ensures { result ≡ word_in over.now p.now t.now }
 {
     let temporary = is_temporary(&t.key);
     word_done(
@@ -165,36 +151,29 @@ fn word_at(over: &Option<Outcome>, p: &SetPlan, t: &TakenSet) -> Word
 
 fn dispose_set<S: JobStore>(
     store: &mut S,
-    job: u16,
     given: &Given,
     course: &mut Course,
-    n: usize,
-    dd: usize,
-    name: &Option<Name8>,
+    at: &Site,
     p: &SetPlan,
     t: &TakenSet,
 ) -> Result<Option<Fault>, AllocError>
-    ensures ok { IfOk result (λ meets. Carried (λ s. set_disposes (fixed_by given.now) n dd name.now p.now (Some t.now) s) (S.seen job store.old) course.old (S.seen job store.new) course.new meets []) }
-    ensures err { OnErr result ((store.new ≡ store.old) × (course.new ≡ course.old)) }
-    ensures rest { S.rest job store.new ≡ S.rest job store.old }
+    ensures { Acts S.JobStore at.now.job (Meets (at_site set_disposes given.now at.now p.now (Some t.now)))
+        result store.old course.old store.new course.new }
 {
     let word = word_at(&course.own.over, p, t);
-    let disposed = disposed_by(store, job, word, t, given.date);
-    set_disposed(store, job, given, course, n, dd, name, p, t, disposed)
+    let disposed = disposed_by(store, at.job, word, t, given.date);
+    set_disposed(store, given, course, at, p, t, disposed)
 }
 
 /// Says that nothing becomes of a DD. An `Err` changes nothing.
-fn say_nothing(
-    course: &mut Course,
-    dd: usize,
-    name: &Option<Name8>,
-) -> Result<Option<Fault>, AllocError>
-    ensures ok { IfOk result (λ meets. (meets ≡ None) × (course.new ≡ record course.old { lines = course.old.lines ++ line.Disp dd name.now disp.Nothing ∷ [] })) }
+fn say_nothing(course: &mut Course, at: &Site) -> Result<Option<Fault>, AllocError>
+    ensures meets { IfOk result (λ meets. meets ≡ None) }
+    ensures course { OnOk result (course.new ≡ record course.old { lines = course.old.lines ++ line.Disp at.now.dd at.now.name disp.Nothing ∷ [] }) }
     ensures err { OnErr result (course.new ≡ course.old) }
 {
     course.say(JobLine::Disp {
-        dd,
-        name: *name,
+        dd: at.dd,
+        name: at.name,
         word: DispWord::Nothing,
     })?;
     Ok(None)
@@ -203,27 +182,23 @@ fn say_nothing(
 /// Hands the records of a SYSOUT DD to the writers. An `Err` changes nothing.
 fn put_out(
     course: &mut Course,
-    n: usize,
-    dd: usize,
-    name: &Option<Name8>,
+    at: &Site,
     class: u8,
     records: Listed<Record>,
 ) -> Result<Option<Fault>, AllocError>
-    ensures ok { IfOk result (λ meets. (meets ≡ None) × (course.new ≡ record {
-      own = record course.old.own { outputs = course.old.own.outputs ++ record { step = n; dd = dd; class = class; records = records } ∷ [] };
-      lines = course.old.lines ++ line.Disp dd name.now (disp.Spooled (length records)) ∷ [];
-    })) }
+    ensures meets { IfOk result (λ meets. meets ≡ None) }
+    ensures course { OnOk result (course.new ≡ course_put_out at.now class records course.old) }
     ensures err { OnErr result (course.new ≡ course.old) }
 {
     let count = records.len();
     course.say(JobLine::Disp {
-        dd,
-        name: *name,
+        dd: at.dd,
+        name: at.name,
         word: DispWord::Spooled(count),
     })?;
     let output = Output {
-        step: n,
-        dd,
+        step: at.step,
+        dd: at.dd,
         class,
         records,
     };
@@ -239,27 +214,23 @@ fn put_out(
 /// The disposition of the set of a DD, which has none where it took none. An `Err` changes nothing.
 fn dispose_taken<S: JobStore>(
     store: &mut S,
-    job: u16,
     given: &Given,
     course: &mut Course,
-    n: usize,
-    dd: usize,
-    name: &Option<Name8>,
+    at: &Site,
     p: &SetPlan,
     taken: &Option<TakenSet>,
 ) -> Result<Option<Fault>, AllocError>
-    ensures ok { IfOk result (λ meets. Carried (λ s. set_disposes (fixed_by given.now) n dd name.now p.now taken.now s) (S.seen job store.old) course.old (S.seen job store.new) course.new meets []) }
-    ensures err { OnErr result ((store.new ≡ store.old) × (course.new ≡ course.old)) }
-    ensures rest { S.rest job store.new ≡ S.rest job store.old }
+    ensures { Acts S.JobStore at.now.job (Meets (at_site set_disposes given.now at.now p.now taken.now))
+        result store.old course.old store.new course.new }
 {
     match taken {
-        None => say_nothing(course, dd, name),
-        Some(t) => dispose_set(store, job, given, course, n, dd, name, p, t),
+        None => say_nothing(course, at),
+        Some(t) => dispose_set(store, given, course, at, p, t),
     }
 }
 
 /// A copy of the state of a DD, from 0.
-pub(crate) fn dd_state(dds: &[DdState], d: usize) -> Result<Option<DdState>, AllocError>
+fn dd_state(dds: &[DdState], d: usize) -> Result<Option<DdState>, AllocError>
     ensures { IfOk result (λ x. x ≡ slice_get dds.now d) }
 {
     match dds.get(d) {
@@ -271,48 +242,41 @@ pub(crate) fn dd_state(dds: &[DdState], d: usize) -> Result<Option<DdState>, All
 /// The disposition of a DD whose state is this. An `Err` changes nothing.
 fn dispose_at<S: JobStore>(
     store: &mut S,
-    job: u16,
     given: &Given,
     course: &mut Course,
-    n: usize,
-    dd: usize,
-    d: &DdPlan,
+    at: &Site,
+    kind: &DdKind,
     x: DdState,
 ) -> Result<Option<Fault>, AllocError>
-    ensures ok { IfOk result (λ meets. Carried (λ s. disposes_at (fixed_by given.now) n dd d.now.name d.now.kind x s) (S.seen job store.old) course.old (S.seen job store.new) course.new meets []) }
-    ensures err { OnErr result ((store.new ≡ store.old) × (course.new ≡ course.old)) }
-    ensures rest { S.rest job store.new ≡ S.rest job store.old }
+    ensures { Acts S.JobStore at.now.job (Meets (at_site disposes_at given.now at.now kind.now x))
+        result store.old course.old store.new course.new }
 {
-    match &d.kind {
-        DdKind::Sysout(class) => put_out(course, n, dd, &d.name, *class, x.spooled),
-        DdKind::Dummy => say_nothing(course, dd, &d.name),
-        DdKind::Cards(_) => say_nothing(course, dd, &d.name),
-        DdKind::Set(p) => dispose_taken(store, job, given, course, n, dd, &d.name, p, &x.taken),
+    match kind {
+        DdKind::Sysout(class) => put_out(course, at, *class, x.spooled),
+        DdKind::Dummy => say_nothing(course, at),
+        DdKind::Cards(_) => say_nothing(course, at),
+        DdKind::Set(p) => dispose_taken(store, given, course, at, p, &x.taken),
     }
 }
 
 /// The disposition of a DD. A step that does not run passes it over. An `Err` changes nothing.
 pub fn dispose<S: JobStore>(
     store: &mut S,
-    job: u16,
     given: &Given,
     course: &mut Course,
-    n: usize,
-    dd: usize,
-    d: &DdPlan,
+    at: &Site,
+    kind: &DdKind,
 ) -> Result<Option<Fault>, AllocError>
-    requires { 0 < dd }
-    ensures ok { IfOk result (λ meets. Carried (λ s. if_runs s.own.runs s (disposes (slice_get s.own.dds (dd - 1)) (fixed_by given.now) n dd d.now.name d.now.kind s)) (S.seen job store.old) course.old (S.seen job store.new) course.new meets []) }
-    ensures err { OnErr result ((store.new ≡ store.old) × (course.new ≡ course.old)) }
-    ensures rest { S.rest job store.new ≡ S.rest job store.old }
+    requires { 0 < at.now.dd }
+    ensures { Acts S.JobStore at.now.job (Meets (disposition given.now at.now kind.now)) result store.old course.old store.new course.new }
 {
     if !course.own.runs {
         return Ok(None);
     }
-    let Some(x) = dd_state(course.own.dds.as_slice(), dd - 1)? else {
+    let Some(x) = dd_state(course.own.dds.as_slice(), at.dd - 1)? else {
         return Ok(None);
     };
-    dispose_at(store, job, given, course, n, dd, d, x)
+    dispose_at(store, given, course, at, kind, x)
 }
 
 /// What a DD passed and no DD received.
@@ -357,83 +321,62 @@ fn drop_pass(passed: &mut Listed<Passed>, n: usize, dd: usize)
 /// Does with a set that was not received what its disposition decided. An `Err` changes nothing.
 fn left_disposed<S: JobStore>(
     store: &mut S,
-    job: u16,
     given: &Given,
     course: &mut Course,
-    n: usize,
-    dd: usize,
-    name: &Option<Name8>,
+    at: &Site,
     q: &Passed,
     disposed: Disposed,
 ) -> Result<Option<Fault>, AllocError>
-    ensures ok { IfOk result (λ meets. Carried (λ s. left_disposed (fixed_by given.now) n dd name.now q.now s disposed) (S.seen job store.old) course.old (S.seen job store.new) course.new meets []) }
-    ensures err { OnErr result ((store.new ≡ store.old) × (course.new ≡ course.old)) }
-    ensures rest { S.rest job store.new ≡ S.rest job store.old }
+    ensures { Acts S.JobStore at.now.job (Meets (λ s. at_site left_disposed given.now at.now q.now s disposed))
+        result store.old course.old store.new course.new }
 {
     let line = JobLine::Left {
-        step: n,
-        dd,
-        name: *name,
+        step: at.step,
+        dd: at.dd,
+        name: at.name,
         word: disposed.word,
     };
-    say_and_change(
-        store,
-        job,
-        given.date,
-        course,
-        line,
-        disposed.change,
-        false,
-        &q.key,
-        q.serial,
-    )?;
-    drop_pass(&mut course.own.passed, n, dd);
+    let t = as_taken(q);
+    say_and_change(store, at.job, given.date, course, line, disposed.change, &t)?;
+    drop_pass(&mut course.own.passed, at.step, at.dd);
     Ok(fault_in(disposed.word))
 }
 
 /// The job's end for this set, which a DD passed and no DD received. An `Err` changes nothing.
 fn leave_set<S: JobStore>(
     store: &mut S,
-    job: u16,
     given: &Given,
     course: &mut Course,
-    n: usize,
-    dd: usize,
-    name: &Option<Name8>,
+    at: &Site,
     p: &SetPlan,
     q: &Passed,
 ) -> Result<Option<Fault>, AllocError>
-    ensures ok { IfOk result (λ meets. Carried (λ s. leaves (fixed_by given.now) n dd name.now p.now (Some q.now) s) (S.seen job store.old) course.old (S.seen job store.new) course.new meets []) }
-    ensures err { OnErr result ((store.new ≡ store.old) × (course.new ≡ course.old)) }
-    ensures rest { S.rest job store.new ≡ S.rest job store.old }
+    ensures { Acts S.JobStore at.now.job (Meets (at_site leaves given.now at.now p.now (Some q.now)))
+        result store.old course.old store.new course.new }
 {
     let temporary = is_temporary(&q.key);
     let conditional = conditional_meaning(temporary, p.conditional);
     let word = left_word(temporary, q.abend_later, conditional, q.made);
-    let disposed = disposed_by(store, job, word, &as_taken(q), given.date);
-    left_disposed(store, job, given, course, n, dd, name, q, disposed)
+    let disposed = disposed_by(store, at.job, word, &as_taken(q), given.date);
+    left_disposed(store, given, course, at, q, disposed)
 }
 
 /// The job's end for what a DD passed and no DD received. An `Err` changes nothing.
 pub fn leave<S: JobStore>(
     store: &mut S,
-    job: u16,
     given: &Given,
     course: &mut Course,
-    n: usize,
-    dd: usize,
-    d: &DdPlan,
+    at: &Site,
+    kind: &DdKind,
 ) -> Result<Option<Fault>, AllocError>
-    ensures ok { IfOk result (λ meets. Carried (λ s. left_at (fixed_by given.now) n dd d.now.name d.now.kind s) (S.seen job store.old) course.old (S.seen job store.new) course.new meets []) }
-    ensures err { OnErr result ((store.new ≡ store.old) × (course.new ≡ course.old)) }
-    ensures rest { S.rest job store.new ≡ S.rest job store.old }
+    ensures { Acts S.JobStore at.now.job (Meets (at_site left_at given.now at.now kind.now)) result store.old course.old store.new course.new }
 {
-    let DdKind::Set(p) = &d.kind else {
+    let DdKind::Set(p) = kind else {
         return Ok(None);
     };
-    let passed = passed_by(course.own.passed.as_slice(), n, dd);
+    let passed = passed_by(course.own.passed.as_slice(), at.step, at.dd);
     match &passed {
         None => Ok(None),
-        Some(q) => leave_set(store, job, given, course, n, dd, &d.name, p, q),
+        Some(q) => leave_set(store, given, course, at, p, q),
     }
 }

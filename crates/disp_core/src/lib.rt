@@ -6,5 +6,6 @@ pub mod course;
 pub mod dispose;
 mod refuse;
 pub mod resolve;
+pub mod site;
 pub mod step;
 pub mod take;

@@ -3,9 +3,10 @@ ghost use Rattle.std.specs.Prelude.{◌≡◌, ◌++◌, ◌∷◌, [], List, On
 ghost use Rattle.jcl_plan.specs.declared.entry.JobLine.{JobLine};
 ghost use Rattle.jcl_plan.specs.declared.entry.JobLine.TheVariants as line;
 ghost use Rattle.jcl_meaning.specs.TakeActs.{all_given_back, back_line, back_lines, set_given_back, refused};
-ghost use Rattle.disp_core.specs.Courses.{Carried};
+ghost use Rattle.disp_core.specs.Acting.{Acts, Meets};
 
 use crate::course::Course;
+use crate::site::Site;
 use jcl_meaning::state::{DdState, TakenSet};
 use jcl_plan::entry::JobLine;
 use jcl_plan::fault::Fault;
@@ -55,15 +56,18 @@ fn say_refusal(
     alloc: Global,
     lines: &mut Listed<JobLine>,
     dds: &[DdState],
-    n: usize,
-    dd: usize,
+    at: &Site,
     fault: Fault,
 ) -> Result<(), AllocError>
-    ensures ok { OnOk result (lines.new ≡ lines.old ++ line.Fault fault n dd ∷ back_lines dds.now) }
+    ensures ok { OnOk result (lines.new ≡ lines.old ++ line.Fault fault at.now.step at.now.dd ∷ back_lines dds.now) }
     ensures err { OnErr result (lines.new ≡ lines.old) }
 {
     let count = lines.len();
-    lines.push(JobLine::Fault { fault, step: n, dd })?;
+    lines.push(JobLine::Fault {
+        fault,
+        step: at.step,
+        dd: at.dd,
+    })?;
     match say_backs(lines, dds) {
         Ok(()) => Ok(()),
         Err(error) => {
@@ -98,31 +102,26 @@ fn give_all_back<S: JobStore>(store: &mut S, job: u16, dds: &[DdState])
     }
 }
 
-/// Ends a job's running by a fault at a DD. An `Err` changes nothing.
+/// Ends a job's running by a fault at a DD, and tells it. An `Err` changes nothing.
 pub(crate) fn refuse<S: JobStore>(
     alloc: Global,
     store: &mut S,
-    job: u16,
     course: &mut Course,
-    n: usize,
-    dd: usize,
+    at: &Site,
     fault: Fault,
-) -> Result<(), AllocError>
-    ensures ok { OnOk result (Carried (λ s. refused n dd fault s) (S.seen job store.old) course.old (S.seen job store.new) course.new (Some fault) []) }
-    ensures err { OnErr result ((store.new ≡ store.old) × (course.new ≡ course.old)) }
-    ensures rest { S.rest job store.new ≡ S.rest job store.old }
+) -> Result<Option<Fault>, AllocError>
+    ensures { Acts S.JobStore at.now.job (Meets (refused at.now.step at.now.dd fault)) result store.old course.old store.new course.new }
 {
     say_refusal(
         alloc,
         &mut course.lines,
         course.own.dds.as_slice(),
-        n,
-        dd,
+        at,
         fault,
     )?;
-    give_all_back(store, job, course.own.dds.as_slice());
+    give_all_back(store, at.job, course.own.dds.as_slice());
     course.own.dds.clear();
     course.own.faulted = true;
     course.own.runs = false;
-    Ok(())
+    Ok(Some(fault))
 }

@@ -1,10 +1,11 @@
 //! The start of a step, its end, and the job's end. (GC28-6704, COND parameter)
-ghost use Rattle.std.specs.Prelude.{◌≡◌, ◌++◌, ◌∷◌, [], None, OnErr, OnOk, Some, IfOk};
+ghost use Rattle.std.specs.Prelude.{◌≡◌, ◌∷◌, [], OnErr, OnOk};
 ghost use Rattle.jcl_plan.specs.declared.entry.JobLine.TheVariants as line;
-ghost use Rattle.jcl_meaning.specs.EndActs.{end_line, finished, passed_after};
+ghost use Rattle.jcl_meaning.specs.EndActs.{end_line, finished};
 ghost use Rattle.jcl_meaning.specs.States.{at_step, goes};
 ghost use Rattle.jcl_meaning.specs.TakeActs.{started};
-ghost use Rattle.disp_core.specs.Courses.{CarriedAside, CarriedEnd, fixed_by};
+ghost use Rattle.disp_core.specs.Acting.{ActsAside};
+ghost use Rattle.disp_core.specs.Courses.{CarriedAside, CarriedEnd, course_ended_by, fixed_by, own_ended};
 
 use crate::course::{Course, Given};
 use jcl_meaning::ending::{as_ending, end_line, marked_later};
@@ -33,8 +34,7 @@ pub fn begin(
     n: usize,
     step: &StepPlan,
 ) -> Result<(), AllocError>
-    ensures ok { OnOk result (CarriedAside (λ s. started (fixed_by given.now) n step.now s) course.old course.new) }
-    ensures err { OnErr result (course.new ≡ course.old) }
+    ensures { ActsAside (CarriedAside (started (fixed_by given.now) n step.now)) result course.old course.new }
 {
     let ended = course.own.ended.as_slice();
     let fate = fate(
@@ -56,13 +56,7 @@ pub fn begin(
 
 /// Enters how a step ended. An `Err` changes nothing.
 fn end_with(alloc: Global, own: &mut Own, n: usize, outcome: &Outcome) -> Result<(), AllocError>
-    ensures ok { OnOk result (own.new ≡ record own.old {
-      passed = passed_after outcome.now n own.old.passed;
-      ended = record { step = n; outcome = outcome.now } ∷ own.old.ended;
-      over = Some outcome.now;
-      due = None;
-      lines = 0;
-    }) }
+    ensures ok { OnOk result (own.new ≡ own_ended n outcome.now own.old) }
     ensures err { OnErr result (own.new ≡ own.old) }
 {
     if is_abend(*outcome) {
@@ -86,16 +80,7 @@ fn end_with(alloc: Global, own: &mut Own, n: usize, outcome: &Outcome) -> Result
 
 /// Enters how a program ended, with its line. An `Err` changes nothing.
 fn end_by(alloc: Global, course: &mut Course, n: usize, outcome: &Outcome) -> Result<(), AllocError>
-    ensures ok { OnOk result (course.new ≡ record {
-      own = record course.old.own {
-        passed = passed_after outcome.now n course.old.own.passed;
-        ended = record { step = n; outcome = outcome.now } ∷ course.old.own.ended;
-        over = Some outcome.now;
-        due = None;
-        lines = 0;
-      };
-      lines = course.old.lines ++ end_line outcome.now ∷ [];
-    }) }
+    ensures ok { OnOk result (course.new ≡ course_ended_by n outcome.now course.old) }
     ensures err { OnErr result (course.new ≡ course.old) }
 {
     course.say(end_line(outcome))?;
@@ -116,8 +101,7 @@ pub fn finish(
     outcome: &Outcome,
     cancelled: bool,
 ) -> Result<(), AllocError>
-    ensures ok { OnOk result (CarriedEnd (λ s. finished n s) outcome.now cancelled course.old course.new) }
-    ensures err { OnErr result (course.new ≡ course.old) }
+    ensures { ActsAside (CarriedEnd (finished n) outcome.now cancelled) result course.old course.new }
 {
     if !course.own.runs {
         return Ok(());
@@ -137,8 +121,7 @@ pub fn finish(
 
 /// The job's end. An `Err` changes nothing.
 pub fn end(course: &mut Course) -> Result<(), AllocError>
-    ensures ok { OnOk result (CarriedAside (λ s. goes (line.End ∷ []) s) course.old course.new) }
-    ensures err { OnErr result (course.new ≡ course.old) }
+    ensures { ActsAside (CarriedAside (goes (line.End ∷ []))) result course.old course.new }
 {
     course.say(JobLine::End)
 }

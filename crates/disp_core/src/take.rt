@@ -1,29 +1,28 @@
 //! The taking of a DD. (GC28-6704, DISP parameter)
-ghost use Rattle.std.specs.Prelude.{◌≡◌, ◌++◌, ◌∷◌, [], ◌<◌, Err, IfNone, IfOk, IfSome, None, OnErr, OnOk, Some, false, is_some, length, remove, true};
+ghost use Rattle.std.specs.Prelude.{◌≡◌, ◌<◌, Err, IfNone, IfOk, IfSome, None, OnErr, OnOk, Some, false, is_some, length, remove, true};
 ghost use Rattle.jcl_plan.specs.declared.entry.JobLine.{JobLine};
-ghost use Rattle.jcl_plan.specs.declared.entry.JobLine.TheVariants as line;
-ghost use Rattle.jcl_meaning.specs.Resolutions.{meaning_at, place_of};
-ghost use Rattle.jcl_meaning.specs.States.{if_runs};
-ghost use Rattle.jcl_meaning.specs.TakeActs.{decided, decision_at, new_dd, own_with_set, passed_left, place_made, refused, store_made, take_word, takes, takes_no_set, takes_set, target_at};
-ghost use Rattle.jcl_meaning.specs.Takes.{is_there, looked_at, primary_of, where_of, without_passed};
-ghost use Rattle.disp_core.specs.Courses.{Carried, fixed_by};
-ghost use Rattle.disp_core.specs.Grants.{CarriedWith, granted_by, granted_on, made_of, primary_granted};
-ghost use Rattle.disp_core.specs.Takings.{decision_in, granted_or_refused, target_in};
+ghost use Rattle.jcl_meaning.specs.Resolutions.{place_of};
+ghost use Rattle.jcl_meaning.specs.TakeActs.{new_dd, passed_left, refused, take_word};
+ghost use Rattle.jcl_meaning.specs.Takes.{is_there, primary_of, where_of, without_passed};
+ghost use Rattle.disp_core.specs.Acting.{Makes, MeetsAndMakes};
+ghost use Rattle.disp_core.specs.Choices.{Took, TookChosen, TookKey, TookSet, course_kept, course_taken, course_taken_without, granted_at, made_at, store_taken};
+ghost use Rattle.disp_core.specs.Courses.{fixed_by};
+ghost use Rattle.disp_core.specs.Grants.{made_of};
+ghost use Rattle.disp_core.specs.Takings.{decision_in, target_in};
 ghost use Rattle.disp_core.specs.declared.course.Course.{Course};
-ghost use Rattle.jcl_meaning.specs.declared.take.Decision.TheVariants.{Takes};
-ghost use Rattle.jcl_meaning.specs.declared.state.Resolution.TheVariants.{Means};
 ghost use Rattle.jcl_meaning.specs.declared.state.DdState.{DdState};
 ghost use Rattle.jcl_meaning.specs.declared.state.DdVolume.{DdVolume};
 
 use crate::change::{catalogued, is_on};
 use crate::course::{Course, Given, drop_last};
 use crate::refuse::refuse;
+use crate::site::Site;
 use jcl_meaning::names::{is_temporary, same_key};
 use jcl_meaning::state::{DdState, DdVolume, Own, Passed, Place, Resolution, TakenSet};
 use jcl_meaning::take::{Decision, How, Target, Where};
 use jcl_plan::entry::JobLine;
 use jcl_plan::fault::Fault;
-use jcl_plan::plan::{DdKind, DdPlan, SetPlan, Space, VolumePlan};
+use jcl_plan::plan::{DdKind, SetPlan, Space, VolumePlan};
 use jcl_plan::words::TakeWord;
 use jname_core::key::Key;
 use jname_core::name8::Name8;
@@ -45,6 +44,14 @@ pub struct Taken {
     pub made: Option<Place>,
 }
 
+/// The set that a DD takes: its key, its volume, and how it comes to the DD.
+#[derive(Clone, Copy)]
+pub(crate) struct Chosen {
+    pub(crate) key: Key,
+    pub(crate) serial: Serial,
+    pub(crate) how: How,
+}
+
 fn new_dd(alloc: Global, dd: usize, name: &Option<Name8>, taken: Option<TakenSet>) -> DdState
     ensures { result ≡ new_dd dd name.now taken }
 {
@@ -63,22 +70,19 @@ fn new_dd(alloc: Global, dd: usize, name: &Option<Name8>, taken: Option<TakenSet
 fn take_no_set(
     alloc: Global,
     course: &mut Course,
-    dd: usize,
-    name: &Option<Name8>,
+    at: &Site,
     word: TakeWord,
 ) -> Result<Taken, AllocError>
-    ensures ok { IfOk result (λ told. (told ≡ record { meets = None; made = None }) × (course.new ≡ record {
-      own = record course.old.own { dds = course.old.own.dds ++ new_dd dd name.now None ∷ [] };
-      lines = course.old.lines ++ line.Take dd name.now word ∷ [];
-    })) }
+    ensures told { IfOk result (λ told. told ≡ record { meets = None; made = None }) }
+    ensures course { OnOk result (course.new ≡ course_taken_without at.now word course.old) }
     ensures err { OnErr result (course.new ≡ course.old) }
 {
     course.say(JobLine::Take {
-        dd,
-        name: *name,
+        dd: at.dd,
+        name: at.name,
         word,
     })?;
-    match course.own.dds.push(new_dd(alloc, dd, name, None)) {
+    match course.own.dds.push(new_dd(alloc, at.dd, &at.name, None)) {
         Ok(()) => Ok(Taken {
             meets: None,
             made: None,
@@ -97,10 +101,7 @@ fn keep_taken(
     state: DdState,
     line: JobLine,
 ) -> Result<(), AllocError>
-    ensures ok { OnOk result (course.new ≡ record {
-      own = record course.old.own { volumes = course.old.own.volumes ++ volume ∷ []; dds = course.old.own.dds ++ state ∷ [] };
-      lines = course.old.lines ++ line ∷ [];
-    }) }
+    ensures ok { OnOk result (course.new ≡ course_kept volume state line course.old) }
     ensures err { OnErr result (course.new ≡ course.old) }
 {
     course.say(line)?;
@@ -126,10 +127,8 @@ fn forget_taken(course: &mut Course)
     requires lines { 0 < length course.old.lines }
     requires volumes { 0 < length course.old.own.volumes }
     requires dds { 0 < length course.old.own.dds }
-    ensures { (before : Course) (volume : DdVolume) (state : DdState) (line : JobLine) → course.old ≡ record {
-      own = record before.own { volumes = before.own.volumes ++ volume ∷ []; dds = before.own.dds ++ state ∷ [] };
-      lines = before.lines ++ line ∷ [];
-    } → course.new ≡ before }
+    ensures { (before : Course) (volume : DdVolume) (state : DdState) (line : JobLine) →
+        course.old ≡ course_kept volume state line before → course.new ≡ before }
 {
     drop_last(&mut course.own.dds);
     drop_last(&mut course.own.volumes);
@@ -203,14 +202,14 @@ fn receive(passed: &mut Listed<Passed>, how: How, key: &Key)
 }
 
 /// Where a set was made, if it was.
-fn place_made(how: How, n: usize, dd: usize, serial: Serial) -> Option<Place>
-    ensures { made_of result ≡ place_made how n dd serial }
+fn place_made(at: &Site, chosen: &Chosen) -> Option<Place>
+    ensures { made_of result ≡ made_at at.now chosen.now }
 {
-    match how {
+    match chosen.how {
         How::Made => Some(Place {
-            step: n,
-            dd,
-            serial,
+            step: at.step,
+            dd: at.dd,
+            serial: chosen.serial,
         }),
         How::Found => None,
         How::FoundByCatalog => None,
@@ -244,31 +243,27 @@ fn where_of<S: JobStore>(
 /// Makes the set of a DD where its take makes one. An `Err` changes nothing.
 fn make_for<S: JobStore>(
     store: &mut S,
-    job: u16,
     given: &Given,
-    n: usize,
-    dd: usize,
+    at: &Site,
     p: &SetPlan,
-    key: &Key,
-    serial: Serial,
-    how: How,
+    chosen: &Chosen,
 ) -> Result<(), RoomFault>
-    requires { how ≡ How.Made → (S.seen job store.old).set key.now serial ≡ None }
-    ensures seen { OnOk result (S.seen job store.new ≡ store_made how (fixed_by given.now) p.now key.now serial (S.seen job store.old)) }
-    ensures rest { OnOk result (S.rest job store.new ≡ S.spent job (place_made how n dd serial) (S.rest job store.old)) }
-    ensures granted { OnOk result (how ≡ How.Made → granted_on (S.grants_new job store.old key.now) n dd p.now (Some serial) ≡ true) }
-    ensures refused { result ≡ Err RoomFault.NotGranted → (how ≡ How.Made) × (granted_on (S.grants_new job store.old key.now) n dd p.now (Some serial) ≡ false) }
+    requires { chosen.now.how ≡ How.Made → (S.seen at.now.job store.old).set chosen.now.key chosen.now.serial ≡ None }
+    ensures seen { OnOk result (S.seen at.now.job store.new ≡ store_taken (fixed_by given.now) p.now chosen.now (S.seen at.now.job store.old)) }
+    ensures rest { OnOk result (S.rest at.now.job store.new ≡ S.spent at.now.job (made_at at.now chosen.now) (S.rest at.now.job store.old)) }
+    ensures granted { OnOk result (chosen.now.how ≡ How.Made → granted_at (S.grants_new at.now.job store.old) at.now p.now chosen.now ≡ true) }
+    ensures refused { result ≡ Err RoomFault.NotGranted → (chosen.now.how ≡ How.Made) × (granted_at (S.grants_new at.now.job store.old) at.now p.now chosen.now ≡ false) }
     ensures err { OnErr result (store.new ≡ store.old) }
 {
-    match how {
+    match chosen.how {
         How::Made => {
             let place = Place {
-                step: n,
-                dd,
-                serial,
+                step: at.step,
+                dd: at.dd,
+                serial: chosen.serial,
             };
-            let day = day_of(p.expiry, is_temporary(key), given.date);
-            store.make(job, key, &place, primary_of(&p.space), day)
+            let day = day_of(p.expiry, is_temporary(&chosen.key), given.date);
+            store.make(at.job, &chosen.key, &place, primary_of(&p.space), day)
         }
         How::Found => Ok(()),
         How::FoundByCatalog => Ok(()),
@@ -280,45 +275,38 @@ fn make_for<S: JobStore>(
 fn accept<S: JobStore>(
     alloc: Global,
     store: &mut S,
-    job: u16,
     given: &Given,
     course: &mut Course,
-    n: usize,
-    dd: usize,
-    name: &Option<Name8>,
+    at: &Site,
     p: &SetPlan,
-    key: &Key,
-    serial: Serial,
-    how: How,
+    chosen: &Chosen,
 ) -> Result<(), RoomFault>
-    requires { how ≡ How.Made → (S.seen job store.old).set key.now serial ≡ None }
-    ensures seen { OnOk result (S.seen job store.new ≡ store_made how (fixed_by given.now) p.now key.now serial (S.seen job store.old)) }
-    ensures course { OnOk result (course.new ≡ record {
-      own = own_with_set n dd name.now key.now serial how course.old.own;
-      lines = course.old.lines ++ line.Take dd name.now (take_word how serial) ∷ [];
-    }) }
-    ensures rest { OnOk result (S.rest job store.new ≡ S.spent job (place_made how n dd serial) (S.rest job store.old)) }
-    ensures granted { OnOk result (how ≡ How.Made → granted_on (S.grants_new job store.old key.now) n dd p.now (Some serial) ≡ true) }
-    ensures refused { result ≡ Err RoomFault.NotGranted → (how ≡ How.Made) × (granted_on (S.grants_new job store.old key.now) n dd p.now (Some serial) ≡ false) }
+    requires { chosen.now.how ≡ How.Made → (S.seen at.now.job store.old).set chosen.now.key chosen.now.serial ≡ None }
+    ensures seen { OnOk result (S.seen at.now.job store.new ≡ store_taken (fixed_by given.now) p.now chosen.now (S.seen at.now.job store.old)) }
+    ensures course { OnOk result (course.new ≡ course_taken at.now chosen.now course.old) }
+    ensures rest { OnOk result (S.rest at.now.job store.new ≡ S.spent at.now.job (made_at at.now chosen.now) (S.rest at.now.job store.old)) }
+    ensures granted { OnOk result (chosen.now.how ≡ How.Made → granted_at (S.grants_new at.now.job store.old) at.now p.now chosen.now ≡ true) }
+    ensures refused { result ≡ Err RoomFault.NotGranted → (chosen.now.how ≡ How.Made) × (granted_at (S.grants_new at.now.job store.old) at.now p.now chosen.now ≡ false) }
     ensures err { OnErr result ((store.new ≡ store.old) × (course.new ≡ course.old)) }
 {
     let volume = DdVolume {
-        step: n,
-        dd,
-        serial,
+        step: at.step,
+        dd: at.dd,
+        serial: chosen.serial,
     };
-    let state = new_dd(alloc, dd, name, Some(taken(key, serial, how)));
+    let set = taken(&chosen.key, chosen.serial, chosen.how);
+    let state = new_dd(alloc, at.dd, &at.name, Some(set));
     let line = JobLine::Take {
-        dd,
-        name: *name,
-        word: take_word(how, serial),
+        dd: at.dd,
+        name: at.name,
+        word: take_word(chosen.how, chosen.serial),
     };
     let Ok(()) = keep_taken(course, volume, state, line) else {
         return Err(RoomFault::Memory);
     };
-    match make_for(store, job, given, n, dd, p, key, serial, how) {
+    match make_for(store, given, at, p, chosen) {
         Ok(()) => {
-            receive(&mut course.own.passed, how, key);
+            receive(&mut course.own.passed, chosen.how, &chosen.key);
             Ok(())
         }
         Err(fault) => {
@@ -331,23 +319,21 @@ fn accept<S: JobStore>(
 /// What a DD goes for.
 fn target<S: JobStore>(
     store: &S,
-    job: u16,
     given: &Given,
     own: &Own,
-    n: usize,
-    dd: usize,
+    at: &Site,
     p: &SetPlan,
     key: &Key,
 ) -> Target
-    ensures { result ≡ target_in (fixed_by given.now) n dd p.now key.now (S.seen job store.now) own.now }
+    ensures { result ≡ target_in (fixed_by given.now) at.now.step at.now.dd p.now key.now (S.seen at.now.job store.now) own.now }
 {
     let passed = own.passed.as_slice();
     target_of(
         p.status,
-        where_of(store, job, &p.volume, passed, own.volumes.as_slice()),
+        where_of(store, at.job, &p.volume, passed, own.volumes.as_slice()),
         first_passed(passed, key),
-        catalogued(store, job, key),
-        place_of(given.places, n, dd),
+        catalogued(store, at.job, key),
+        place_of(given.places, at.step, at.dd),
     )
 }
 
@@ -383,54 +369,36 @@ fn decision<S: JobStore>(
 fn take_refused<S: JobStore>(
     alloc: Global,
     store: &mut S,
-    job: u16,
     course: &mut Course,
-    n: usize,
-    dd: usize,
+    at: &Site,
     fault: Fault,
 ) -> Result<Taken, AllocError>
-    ensures ok { IfOk result (λ told. Carried (λ s. refused n dd fault s) (S.seen job store.old) course.old (S.seen job store.new) course.new told.meets (made_of told.made)) }
-    ensures err { OnErr result ((store.new ≡ store.old) × (course.new ≡ course.old)) }
-    ensures told { IfOk result (λ told. told.made ≡ None) }
-    ensures rest { S.rest job store.new ≡ S.rest job store.old }
+    ensures { Makes S.JobStore at.now.job (MeetsAndMakes (refused at.now.step at.now.dd fault)) result store.old course.old store.new course.new }
 {
-    refuse(alloc, store, job, course, n, dd, fault)?;
-    Ok(Taken {
-        meets: Some(fault),
-        made: None,
-    })
+    let meets = refuse(alloc, store, course, at, fault)?;
+    Ok(Taken { meets, made: None })
 }
 
 /// Takes a set, where its primary is granted if it is to be made; else the fault is F6. An `Err` changes nothing.
 fn accept_or_refuse<S: JobStore>(
     alloc: Global,
     store: &mut S,
-    job: u16,
     given: &Given,
     course: &mut Course,
-    n: usize,
-    dd: usize,
-    name: &Option<Name8>,
+    at: &Site,
     p: &SetPlan,
-    key: &Key,
-    serial: Serial,
-    how: How,
+    chosen: &Chosen,
 ) -> Result<Taken, AllocError>
-    requires { how ≡ How.Made → (S.seen job store.old).set key.now serial ≡ None }
-    ensures ok { IfOk result (λ told. Carried
-        (λ s. decided (fixed_by given.now) n dd name.now p.now key.now s (granted_or_refused (Takes serial how) (granted_on (S.grants_new job store.old key.now) n dd p.now (Some serial))))
-        (S.seen job store.old) course.old (S.seen job store.new) course.new told.meets (made_of told.made)) }
-    ensures rest { IfOk result (λ told. S.rest job store.new ≡ S.spent job (made_of told.made) (S.rest job store.old)) }
-    ensures err { OnErr result ((store.new ≡ store.old) × (course.new ≡ course.old)) }
+    requires { chosen.now.how ≡ How.Made → (S.seen at.now.job store.old).set chosen.now.key chosen.now.serial ≡ None }
+    ensures { Makes S.JobStore at.now.job (TookChosen (S.grants_new at.now.job store.old) given.now at.now p.now chosen.now)
+        result store.old course.old store.new course.new }
 {
-    match accept(
-        alloc, store, job, given, course, n, dd, name, p, key, serial, how,
-    ) {
+    match accept(alloc, store, given, course, at, p, chosen) {
         Ok(()) => Ok(Taken {
             meets: None,
-            made: place_made(how, n, dd, serial),
+            made: place_made(at, chosen),
         }),
-        Err(RoomFault::NotGranted) => take_refused(alloc, store, job, course, n, dd, Fault::F6),
+        Err(RoomFault::NotGranted) => take_refused(alloc, store, course, at, Fault::F6),
         Err(RoomFault::Memory) => Err(AllocError),
     }
 }
@@ -439,27 +407,26 @@ fn accept_or_refuse<S: JobStore>(
 fn take_key<S: JobStore>(
     alloc: Global,
     store: &mut S,
-    job: u16,
     given: &Given,
     course: &mut Course,
-    n: usize,
-    dd: usize,
-    name: &Option<Name8>,
+    at: &Site,
     p: &SetPlan,
     key: &Key,
 ) -> Result<Taken, AllocError>
-    ensures ok { IfOk result (λ told. CarriedWith (granted_by (S.grants_new job store.old) (fixed_by given.now) n dd p.now (S.seen job store.old) course.old.own (Means key.now))
-        (λ s. takes_set (fixed_by given.now) n dd name.now p.now s (Means key.now))
-        (S.seen job store.old) course.old (S.seen job store.new) course.new told.meets (made_of told.made)) }
-    ensures rest { IfOk result (λ told. S.rest job store.new ≡ S.spent job (made_of told.made) (S.rest job store.old)) }
-    ensures err { OnErr result ((store.new ≡ store.old) × (course.new ≡ course.old)) }
+    ensures { Makes S.JobStore at.now.job (TookKey (S.grants_new at.now.job store.old) given.now at.now p.now key.now)
+        result store.old course.old store.new course.new }
 {
-    let target = target(store, job, given, &course.own, n, dd, p, key);
-    match decision(store, job, given, p, key, &target) {
-        Decision::Refuses(fault) => take_refused(alloc, store, job, course, n, dd, fault),
-        Decision::Takes(serial, how) => accept_or_refuse(
-            alloc, store, job, given, course, n, dd, name, p, key, serial, how,
-        ),
+    let target = target(store, given, &course.own, at, p, key);
+    match decision(store, at.job, given, p, key, &target) {
+        Decision::Refuses(fault) => take_refused(alloc, store, course, at, fault),
+        Decision::Takes(serial, how) => {
+            let chosen = Chosen {
+                key: *key,
+                serial,
+                how,
+            };
+            accept_or_refuse(alloc, store, given, course, at, p, &chosen)
+        }
     }
 }
 
@@ -467,25 +434,17 @@ fn take_key<S: JobStore>(
 fn take_set<S: JobStore>(
     alloc: Global,
     store: &mut S,
-    job: u16,
     given: &Given,
     course: &mut Course,
-    n: usize,
-    dd: usize,
-    name: &Option<Name8>,
+    at: &Site,
     p: &SetPlan,
 ) -> Result<Taken, AllocError>
-    ensures ok { IfOk result (λ told. CarriedWith (granted_by (S.grants_new job store.old) (fixed_by given.now) n dd p.now (S.seen job store.old) course.old.own (meaning_at given.now.meanings.now n dd))
-        (λ s. takes_set (fixed_by given.now) n dd name.now p.now s (meaning_at given.now.meanings.now n dd))
-        (S.seen job store.old) course.old (S.seen job store.new) course.new told.meets (made_of told.made)) }
-    ensures rest { IfOk result (λ told. S.rest job store.new ≡ S.spent job (made_of told.made) (S.rest job store.old)) }
-    ensures err { OnErr result ((store.new ≡ store.old) × (course.new ≡ course.old)) }
+    ensures { Makes S.JobStore at.now.job (TookSet (S.grants_new at.now.job store.old) given.now at.now p.now)
+        result store.old course.old store.new course.new }
 {
-    match meaning_at(given.meanings, n, dd) {
-        Resolution::Fails(fault) => take_refused(alloc, store, job, course, n, dd, fault),
-        Resolution::Means(key) => {
-            take_key(alloc, store, job, given, course, n, dd, name, p, &key)
-        }
+    match meaning_at(given.meanings, at.step, at.dd) {
+        Resolution::Fails(fault) => take_refused(alloc, store, course, at, fault),
+        Resolution::Means(key) => take_key(alloc, store, given, course, at, p, &key),
     }
 }
 
@@ -494,18 +453,13 @@ fn take_set<S: JobStore>(
 pub fn take<S: JobStore>(
     alloc: Global,
     store: &mut S,
-    job: u16,
     given: &Given,
     course: &mut Course,
-    n: usize,
-    dd: usize,
-    d: &DdPlan,
+    at: &Site,
+    kind: &DdKind,
 ) -> Result<Taken, AllocError>
-    ensures ok { IfOk result (λ told. CarriedWith (primary_granted (S.grants_new job store.old) (fixed_by given.now) n dd d.now.kind (S.seen job store.old) course.old.own)
-        (λ s. if_runs s.own.runs s (takes (fixed_by given.now) n dd d.now.name d.now.kind s))
-        (S.seen job store.old) course.old (S.seen job store.new) course.new told.meets (made_of told.made)) }
-    ensures rest { IfOk result (λ told. S.rest job store.new ≡ S.spent job (made_of told.made) (S.rest job store.old)) }
-    ensures err { OnErr result ((store.new ≡ store.old) × (course.new ≡ course.old)) }
+    ensures { Makes S.JobStore at.now.job (Took (S.grants_new at.now.job store.old) given.now at.now kind.now)
+        result store.old course.old store.new course.new }
 {
     if !course.own.runs {
         return Ok(Taken {
@@ -513,14 +467,10 @@ pub fn take<S: JobStore>(
             made: None,
         });
     }
-    match &d.kind {
-        DdKind::Sysout(class) => {
-            take_no_set(alloc, course, dd, &d.name, TakeWord::Sysout(*class))
-        }
-        DdKind::Dummy => take_no_set(alloc, course, dd, &d.name, TakeWord::Dummy),
-        DdKind::Cards(cards) => {
-            take_no_set(alloc, course, dd, &d.name, TakeWord::Cards(cards.len()))
-        }
-        DdKind::Set(p) => take_set(alloc, store, job, given, course, n, dd, &d.name, p),
+    match kind {
+        DdKind::Sysout(class) => take_no_set(alloc, course, at, TakeWord::Sysout(*class)),
+        DdKind::Dummy => take_no_set(alloc, course, at, TakeWord::Dummy),
+        DdKind::Cards(cards) => take_no_set(alloc, course, at, TakeWord::Cards(cards.len())),
+        DdKind::Set(p) => take_set(alloc, store, given, course, at, p),
     }
 }

@@ -13,7 +13,7 @@ use Rattle.store_core.specs.Actions.{state_at}
 use Rattle.disp_core.specs.Courses.{Does}
 use Rattle.request_core.specs.Requests.{CarriedGrown, Grants, IsHere, answers_left, growth_at_dd, growth_of, here_at}
 use Rattle.disp_core.specs.declared.course.Course.{Course}
-use Rattle.request_core.specs.declared.put.Here.{Here}
+use Rattle.request_core.specs.declared.here.Here.{Here}
 
 pub on_ok_then : {X E P Q : Type 0} (r : Result X E) → (P → Q) → OnOk r P → OnOk r Q
 on_ok_then (Ok x) f h = f h

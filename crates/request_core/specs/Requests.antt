@@ -1,5 +1,5 @@
 -- A program's request carried out, with the answers that it takes.
-use Rattle.std.specs.Prelude.{◌≡◌, ℕ, ◌+◌, Bool, true, false, not, ◌&&◌, ◌||◌, ◌==◌, nat_lt, length, List, [], ◌∷◌, ◌++◌, drop, slice_get, slice_set, Option, Some, None, if◌then◌else◌}
+use Rattle.std.specs.Prelude.{◌≡◌, ℕ, ◌+◌, Bool, true, false, not, ◌&&◌, ◌||◌, ◌==◌, nat_lt, length, List, [], ◌∷◌, ◌++◌, drop, slice_get, slice_set, Option, Some, None, is_some, if◌then◌else◌}
 use Rattle.jname_core.specs.declared.key.Key.{Key}
 use Rattle.jcl_plan.specs.declared.entry.JobLine.{JobLine}
 use Rattle.jcl_plan.specs.declared.entry.JobLine.TheVariants as line
@@ -22,14 +22,14 @@ use Rattle.jcl_meaning.specs.declared.state.Own.{Own}
 use Rattle.jcl_meaning.specs.declared.state.TakenSet.{TakenSet}
 use Rattle.jcl_meaning.specs.declared.store.DataSet.{DataSet}
 use Rattle.jcl_meaning.specs.Programs.{dd_of, emptied, empties, grown_by, is_concatenated, is_full, is_read_only, or_nothing}
-use Rattle.jcl_meaning.specs.RequestActs.{dd_name, head_or}
+use Rattle.jcl_meaning.specs.RequestActs.{asked, asks_at, asks_of, dd_name, gets, head_or, puts, puts_in, reads, received, received_now}
 use Rattle.jcl_meaning.specs.States.{Answers, Done, State, asks_open, cancel_due, others}
 use Rattle.jcl_meaning.specs.Takes.{secondary_of}
 use Rattle.jcl_meaning.specs.Stores.{Store}
 use Rattle.store_core.specs.Actions.{changed_at, state_at}
-use Rattle.disp_core.specs.Courses.{Does}
+use Rattle.disp_core.specs.Courses.{Carried, Does}
 use Rattle.disp_core.specs.declared.course.Course.{Course}
-use Rattle.request_core.specs.declared.put.Here.{Here}
+use Rattle.request_core.specs.declared.here.Here.{Here}
 
 -- the state of a DD changed, where it was taken
 abbrev pub with_dd_by : (DdState → DdState) → List DdState → ℕ → Option DdState → List DdState
@@ -157,6 +157,48 @@ abbrev pub CarriedRequest : Bool → (Key → List ℕ → ℕ → Bool) → Opt
 CarriedRequest cancelled grants growth action old before new after =
     (answers : Answers) → cancel_due answers.cancels before.own.lines ≡ cancelled → Grants grants growth answers →
     Does (action (state_at old before.own answers)) new after before (answers_left growth answers) None []
+
+-- a request's first action was carried out: whether it asked for tracks is told, and the answer to that is the store's own
+pub record IsAsked (cancelled : Bool) (grants : Key → List ℕ → ℕ → Bool) (step : StepPlan) (wants : Move)
+    (old : Store) (before : Course) (new : Store) (after : Course) (told : Bool) : Type 0 where
+  pub its_growth : told ≡ is_some (growth_asked cancelled step wants before.own old)
+  pub its_act : CarriedRequest cancelled grants (growth_asked cancelled step wants before.own old) (λ s. asked step wants s) old before new after
+
+-- at the d-th DD of its step, from 0
+abbrev pub CarriedAt : (Key → List ℕ → ℕ → Bool) → StepPlan → Move → ℕ → Store → Course → Store → Course → Type 0
+CarriedAt grants step wants d old before new after =
+    CarriedGrown grants (growth_at (Some d) step wants before.own.dds old) (λ s. asks_at (Some d) step wants s) old before new after
+
+-- at a DD whose state is this
+abbrev pub CarriedHere : (Key → List ℕ → ℕ → Bool) → Here → Option Growth → (DdState → State → Done) → Store → Course → Store → Course → Type 0
+CarriedHere grants here growth action old before new after =
+    (x : DdState) → IsHere before.own.dds here x → CarriedGrown grants growth (λ s. action x s) old before new after
+
+abbrev pub AsksOf : (Key → List ℕ → ℕ → Bool) → StepPlan → Move → Here → DdPlan → Store → Course → Store → Course → Type 0
+AsksOf grants step wants here dd old before new after =
+    CarriedHere grants here (growth_of step wants here dd old) (λ x s. asks_of step wants here.d x dd s) old before new after
+
+-- a PUT, by the kind of its DD
+abbrev pub Puts : (Key → List ℕ → ℕ → Bool) → List ℕ → List ℕ → Here → DdKind → Store → Course → Store → Course → Type 0
+Puts grants name text here kind old before new after =
+    CarriedHere grants here (growth_of_kind here kind old) (λ x s. puts name text here.d x kind s) old before new after
+
+-- to a set
+abbrev pub PutsIn : (Key → List ℕ → ℕ → Bool) → List ℕ → List ℕ → Here → SetPlan → TakenSet → Store → Course → Store → Course → Type 0
+PutsIn grants name text here p t old before new after =
+    CarriedHere grants here (growth_in p here.written (Some t) old) (λ x s. puts_in name text here.d x p (Some t) s) old before new after
+
+-- a GET
+abbrev pub Gets : StepPlan → List ℕ → Here → Store → Course → Course → Type 0
+Gets step name here seen before after =
+    (x : DdState) → IsHere before.own.dds here x → Carried (λ s. gets name here.d x s (reads step here.d x s)) seen before seen after None []
+
+-- what is due was carried out, where a cancel stands in its place or none does
+abbrev pub IsReceived : Bool → Store → Course → Store → Course → Unit {0} → Type 0
+IsReceived cancelled old before new after told = CarriedUnless cancelled (λ s. received s) old before new after
+
+abbrev pub IsReceivedNow : Due → Store → Course → Store → Course → Unit {0} → Type 0
+IsReceivedNow waits old before new after told = Carried (λ s. received_now waits s) old before new after None []
 
 -- a PUT that asks for tracks: the store and the course, by whether they are granted
 abbrev pub store_grown : Bool → Bool → ℕ → Store → TakenSet → Store

@@ -2,11 +2,12 @@
 ghost use Rattle.std.specs.Prelude.{◌≡◌, ◌<◌, IfOk, IsSome, OnErr, OnOk, Some, is_some, length, slice_get};
 ghost use Rattle.std.specs.Option.{option_copied, option_map};
 ghost use Rattle.jcl_meaning.specs.Programs.{is_read_only};
-ghost use Rattle.jcl_meaning.specs.RequestActs.{asked, asks_at, asks_of, dd_name};
-ghost use Rattle.jcl_meaning.specs.declared.state.DdState.{DdState};
-ghost use Rattle.request_core.specs.Requests.{CarriedGrown, CarriedRequest, IsHere, growth_asked, growth_at, growth_of, here_at};
+ghost use Rattle.jcl_meaning.specs.RequestActs.{dd_name};
+ghost use Rattle.disp_core.specs.Acting.{Acts};
+ghost use Rattle.request_core.specs.Requests.{AsksOf, CarriedAt, IsAsked, growth_at, growth_of, here_at};
 
-use crate::put::{Here, put};
+use crate::here::Here;
+use crate::put::put;
 use crate::request::{abend, get, is_open};
 use disp_core::course::Course;
 use jcl_meaning::names::is_shr;
@@ -78,25 +79,14 @@ fn ask_of<S: JobStore>(
 ) -> Result<bool, AllocError>
     requires { here.now.d < length step.now.dds }
     ensures asked { IfOk result (λ asked. asked ≡ is_some (growth_of step.now wants.now here.now dd.now (S.seen job store.old))) }
-    ensures ok { OnOk result ((x : DdState) → IsHere course.old.own.dds here.now x → CarriedGrown (S.grants_growth job store.old)
-        (growth_of step.now wants.now here.now dd.now (S.seen job store.old))
-        (λ s. asks_of step.now wants.now here.now.d x dd.now s) (S.seen job store.old) course.old (S.seen job store.new) course.new) }
+    ensures ok { OnOk result (AsksOf (S.grants_growth job store.old) step.now wants.now here.now dd.now
+        (S.seen job store.old) course.old (S.seen job store.new) course.new) }
     ensures err { OnErr result ((store.new ≡ store.old) × (course.new ≡ course.old)) }
     ensures rest { S.rest job store.new ≡ S.rest job store.old }
 {
     match wants {
         Move::From(name) => {
-            get(
-                alloc,
-                &*store,
-                job,
-                course,
-                step,
-                name,
-                here.d,
-                here.member,
-                here.position,
-            )?;
+            get(alloc, &*store, job, course, step, name, here)?;
             Ok(false)
         }
         Move::To { dd: name, text } => {
@@ -122,8 +112,8 @@ fn ask_at<S: JobStore>(
     d: usize,
 ) -> Result<bool, AllocError>
     ensures asked { IfOk result (λ asked. asked ≡ is_some (growth_at (Some d) step.now wants.now course.old.own.dds (S.seen job store.old))) }
-    ensures ok { OnOk result (CarriedGrown (S.grants_growth job store.old) (growth_at (Some d) step.now wants.now course.old.own.dds (S.seen job store.old))
-        (λ s. asks_at (Some d) step.now wants.now s) (S.seen job store.old) course.old (S.seen job store.new) course.new) }
+    ensures ok { OnOk result (CarriedAt (S.grants_growth job store.old) step.now wants.now d
+        (S.seen job store.old) course.old (S.seen job store.new) course.new) }
     ensures err { OnErr result ((store.new ≡ store.old) × (course.new ≡ course.old)) }
     ensures rest { S.rest job store.new ≡ S.rest job store.old }
 {
@@ -148,12 +138,8 @@ pub fn ask<S: JobStore>(
     wants: &Move,
     cancelled: bool,
 ) -> Result<bool, AllocError>
-    ensures asked { IfOk result (λ asked. asked ≡ is_some (growth_asked cancelled step.now wants.now course.old.own (S.seen job store.old))) }
-    ensures ok { OnOk result (CarriedRequest cancelled (S.grants_growth job store.old)
-        (growth_asked cancelled step.now wants.now course.old.own (S.seen job store.old))
-        (λ s. asked step.now wants.now s) (S.seen job store.old) course.old (S.seen job store.new) course.new) }
-    ensures err { OnErr result ((store.new ≡ store.old) × (course.new ≡ course.old)) }
-    ensures rest { S.rest job store.new ≡ S.rest job store.old }
+    ensures { Acts S.JobStore job (IsAsked cancelled (S.grants_growth job store.old) step.now wants.now)
+        result store.old course.old store.new course.new }
 {
     if !is_open(&course.own) {
         return Ok(false);

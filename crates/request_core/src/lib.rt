@@ -2,6 +2,7 @@
 #![tactic(auto)]
 
 pub mod ask;
+mod here;
 mod put;
 pub mod read;
 pub mod request;

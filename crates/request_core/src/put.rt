@@ -1,14 +1,13 @@
 //! PUT. (This profile)
-ghost use Rattle.std.specs.Prelude.{◌≡◌, ◌+◌, ◌++◌, ◌∷◌, [], IfOk, None, OnErr, OnOk, Some, is_some};
+ghost use Rattle.std.specs.Prelude.{◌≡◌, IfOk, None, OnErr, OnOk, Some, is_some};
 ghost use Rattle.jcl_plan.specs.declared.entry.JobLine.TheVariants as line;
-ghost use Rattle.jcl_meaning.specs.Programs.{emptied, empties, is_full, is_read_only, or_nothing};
-ghost use Rattle.jcl_meaning.specs.RequestActs.{puts, puts_in};
+ghost use Rattle.jcl_meaning.specs.Programs.{emptied, empties, is_full, or_nothing};
 ghost use Rattle.jcl_meaning.specs.Takes.{secondary_of};
-ghost use Rattle.jcl_meaning.specs.declared.state.DdState.{DdState};
 ghost use Rattle.jcl_meaning.specs.declared.state.Due.TheVariants as due;
 ghost use Rattle.store_core.specs.Actions.{changed_at};
-ghost use Rattle.request_core.specs.Requests.{CarriedGrown, IsHere, course_abended, course_grown, course_put, course_with, growth_in, growth_of_kind, store_grown, with_dd, with_mark, with_spooled};
+ghost use Rattle.request_core.specs.Requests.{Puts, PutsIn, course_grown, course_put, course_with, growth_in, growth_of_kind, store_grown, with_dd, with_mark, with_spooled};
 
+use crate::here::Here;
 use crate::request::{abend, one_more, say_done};
 use disp_core::course::Course;
 use jcl_meaning::state::{DdState, Due, TakenSet};
@@ -21,16 +20,6 @@ use std::alloc::{AllocError, Global};
 use std::mem;
 use store_core::job_store::{JobStore, RoomFault};
 use store_core::laws::{grown_and_emptied_in_either_order, not_emptied_stays};
-
-/// The DD that a request goes to, from 0, and what the request needs of its state.
-#[derive(Clone, Copy)]
-pub(crate) struct Here {
-    pub(crate) d: usize,
-    pub(crate) member: usize,
-    pub(crate) position: usize,
-    pub(crate) written: bool,
-    pub(crate) taken: Option<TakenSet>,
-}
 
 /// A record was put by a DD.
 fn mark(alloc: Global, dds: &mut Listed<DdState>, d: usize)
@@ -209,9 +198,8 @@ fn put_in<S: JobStore>(
     t: &TakenSet,
 ) -> Result<bool, AllocError>
     ensures asked { IfOk result (λ asked. asked ≡ is_some (growth_in p.now here.now.written (Some t.now) (S.seen job store.old))) }
-    ensures ok { OnOk result ((x : DdState) → IsHere course.old.own.dds here.now x → CarriedGrown (S.grants_growth job store.old)
-        (growth_in p.now here.now.written (Some t.now) (S.seen job store.old))
-        (λ s. puts_in name.now text.now here.now.d x p.now (Some t.now) s) (S.seen job store.old) course.old (S.seen job store.new) course.new) }
+    ensures ok { OnOk result (PutsIn (S.grants_growth job store.old) name.now text.now here.now p.now t.now
+        (S.seen job store.old) course.old (S.seen job store.new) course.new) }
     ensures err { OnErr result ((store.new ≡ store.old) × (course.new ≡ course.old)) }
     ensures rest { S.rest job store.new ≡ S.rest job store.old }
 {
@@ -270,9 +258,8 @@ pub(crate) fn put<S: JobStore>(
     kind: &DdKind,
 ) -> Result<bool, AllocError>
     ensures asked { IfOk result (λ asked. asked ≡ is_some (growth_of_kind here.now kind.now (S.seen job store.old))) }
-    ensures ok { OnOk result ((x : DdState) → IsHere course.old.own.dds here.now x → CarriedGrown (S.grants_growth job store.old)
-        (growth_of_kind here.now kind.now (S.seen job store.old))
-        (λ s. puts name.now text.now here.now.d x kind.now s) (S.seen job store.old) course.old (S.seen job store.new) course.new) }
+    ensures ok { OnOk result (Puts (S.grants_growth job store.old) name.now text.now here.now kind.now
+        (S.seen job store.old) course.old (S.seen job store.new) course.new) }
     ensures err { OnErr result ((store.new ≡ store.old) × (course.new ≡ course.old)) }
     ensures rest { S.rest job store.new ≡ S.rest job store.old }
 {

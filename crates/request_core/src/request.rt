@@ -1,12 +1,12 @@
 //! What a program's requests do. (This profile)
-ghost use Rattle.std.specs.Prelude.{◌≡◌, ◌+◌, ◌<◌, ◌++◌, ◌∷◌, [], IfOk, None, OnErr, OnOk, Some, length, slice_get};
+ghost use Rattle.std.specs.Prelude.{◌≡◌, ◌+◌, ◌<◌, ◌++◌, ◌∷◌, [], IfOk, OnErr, OnOk, length, slice_get};
 ghost use Rattle.jcl_plan.specs.declared.entry.JobLine.TheVariants as line;
-ghost use Rattle.jcl_meaning.specs.RequestActs.{gets, reads, received, received_now, store_appended};
+ghost use Rattle.jcl_meaning.specs.RequestActs.{store_appended};
 ghost use Rattle.jcl_meaning.specs.States.{asks_open, wrote};
-ghost use Rattle.jcl_meaning.specs.declared.state.DdState.{DdState};
-ghost use Rattle.disp_core.specs.Courses.{Carried};
-ghost use Rattle.request_core.specs.Requests.{CarriedUnless, course_abended, course_with, got, moved, with_dd};
+ghost use Rattle.disp_core.specs.Acting.{Acts};
+ghost use Rattle.request_core.specs.Requests.{Gets, IsReceived, IsReceivedNow, course_abended, got, moved, with_dd};
 
+use crate::here::Here;
 use crate::read::reads;
 use disp_core::course::Course;
 use jcl_meaning::source::FoundRecord;
@@ -107,8 +107,7 @@ fn get_at(
     Ok(())
 }
 
-/// A GET's first action, at the d-th DD of its step, from 0, which reads next at this member of its concatenation, from 0, and this record of it. An
-/// `Err` changes nothing.
+/// A GET's first action, at a DD whose state is this. An `Err` changes nothing.
 pub(crate) fn get<S: JobStore>(
     alloc: Global,
     store: &S,
@@ -116,25 +115,15 @@ pub(crate) fn get<S: JobStore>(
     course: &mut Course,
     step: &StepPlan,
     name: &Name8,
-    d: usize,
-    member: usize,
-    position: usize,
+    here: &Here,
 ) -> Result<(), AllocError>
-    requires { d < length step.now.dds }
-    ensures ok { OnOk result ((x : DdState) → slice_get course.old.own.dds d ≡ Some x → x.member ≡ member → x.position ≡ position →
-        Carried (λ s. gets name.now d x s (reads step.now d x s)) (S.seen job store.now) course.old (S.seen job store.now) course.new None []) }
+    requires { here.now.d < length step.now.dds }
+    ensures ok { OnOk result (Gets step.now name.now here.now (S.seen job store.now) course.old course.new) }
     ensures err { OnErr result (course.new ≡ course.old) }
 {
-    let found = reads(
-        store,
-        job,
-        step,
-        course.own.dds.as_slice(),
-        d,
-        member,
-        position,
-    );
-    get_at(alloc, course, name, d, &found)
+    let states = course.own.dds.as_slice();
+    let found = reads(store, job, step, states, here.d, here.member, here.position);
+    get_at(alloc, course, name, here.d, &found)
 }
 
 /// A record behind those of the set that a DD took, if it took one. An `Err` changes nothing.
@@ -205,9 +194,7 @@ fn receive_due<S: JobStore>(
     course: &mut Course,
     due: &Due,
 ) -> Result<(), AllocError>
-    ensures ok { OnOk result (Carried (λ s. received_now due.now s) (S.seen job store.old) course.old (S.seen job store.new) course.new None []) }
-    ensures err { OnErr result ((store.new ≡ store.old) × (course.new ≡ course.old)) }
-    ensures rest { S.rest job store.new ≡ S.rest job store.old }
+    ensures { Acts S.JobStore job (IsReceivedNow due.now) result store.old course.old store.new course.new }
 {
     match due {
         Due::Data { name, text } => say_done(
@@ -228,9 +215,7 @@ pub fn receive<S: JobStore>(
     course: &mut Course,
     cancelled: bool,
 ) -> Result<(), AllocError>
-    ensures ok { OnOk result (CarriedUnless cancelled (λ s. received s) (S.seen job store.old) course.old (S.seen job store.new) course.new) }
-    ensures err { OnErr result ((store.new ≡ store.old) × (course.new ≡ course.old)) }
-    ensures rest { S.rest job store.new ≡ S.rest job store.old }
+    ensures { Acts S.JobStore job (IsReceived cancelled) result store.old course.old store.new course.new }
 {
     if !is_open(&course.own) {
         return Ok(());

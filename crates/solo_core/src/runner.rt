@@ -7,6 +7,7 @@ ghost use Rattle.jcl_meaning.specs.States.{cancel_due, others};
 ghost use Rattle.solo_core.specs.Runners.{Does};
 
 use disp_core::course::{Course, Given};
+use disp_core::site::Site;
 use disp_core::{dispose, step, take};
 use jcl_meaning::program::Move;
 use jcl_plan::fault::Fault;
@@ -97,15 +98,19 @@ impl<'a> Runner<'a> {
     pub(crate) fn take(&mut self, n: usize, dd: usize, d: &DdPlan) -> Result<(), AllocError>
         ensures { OnOk result (Does (Take n dd d.now) self.old self.new) }
     {
+        let at = Site {
+            job: JOB,
+            step: n,
+            dd,
+            name: d.name,
+        };
         let taken = take::take(
             self.alloc,
             &mut self.store,
-            JOB,
             &self.given,
             &mut self.course,
-            n,
-            dd,
-            d,
+            &at,
+            &d.kind,
         )?;
         self.met(taken.meets)?;
         Ok(())
@@ -129,15 +134,13 @@ impl<'a> Runner<'a> {
         requires { 0 < dd }
         ensures { OnOk result (Does (Dispose n dd d.now) self.old self.new) }
     {
-        let meets = dispose::dispose(
-            &mut self.store,
-            JOB,
-            &self.given,
-            &mut self.course,
-            n,
+        let at = Site {
+            job: JOB,
+            step: n,
             dd,
-            d,
-        )?;
+            name: d.name,
+        };
+        let meets = dispose::dispose(&mut self.store, &self.given, &mut self.course, &at, &d.kind)?;
         self.met(meets)?;
         Ok(())
     }
@@ -146,15 +149,13 @@ impl<'a> Runner<'a> {
     pub(crate) fn leave(&mut self, n: usize, dd: usize, d: &DdPlan) -> Result<(), AllocError>
         ensures { OnOk result (Does (Left n dd d.now) self.old self.new) }
     {
-        let meets = dispose::leave(
-            &mut self.store,
-            JOB,
-            &self.given,
-            &mut self.course,
-            n,
+        let at = Site {
+            job: JOB,
+            step: n,
             dd,
-            d,
-        )?;
+            name: d.name,
+        };
+        let meets = dispose::leave(&mut self.store, &self.given, &mut self.course, &at, &d.kind)?;
         self.met(meets)?;
         Ok(())
     }

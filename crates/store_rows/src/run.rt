@@ -4,6 +4,7 @@ use crate::kept::Known;
 use crate::shown::{tell_lines, tell_outputs, tell_seen};
 use disp_core::course::{Course, Given};
 use disp_core::dispose::{dispose, leave};
+use disp_core::site::Site;
 use disp_core::step::{begin, end, finish};
 use disp_core::take::take;
 use jcl_meaning::program::{Move, SoloProgram, moves_of};
@@ -105,6 +106,18 @@ struct At<'a> {
     step: &'a StepPlan,
 }
 
+impl At<'_> {
+    /// A DD of the step.
+    fn site(&self, dd: usize, d: &DdPlan) -> Site {
+        Site {
+            job: JOB,
+            step: self.n,
+            dd,
+            name: d.name,
+        }
+    }
+}
+
 /// All behind the first.
 fn others<T>(answers: &[T]) -> &[T] {
     match answers.split_first() {
@@ -181,7 +194,8 @@ impl Way<'_> {
         match action {
             Action::Start => begin(given, course, at.n, at.step),
             Action::Take(dd, d) => {
-                take(self.alloc, store, JOB, given, course, at.n, dd, d)?;
+                let site = at.site(dd, d);
+                take(self.alloc, store, given, course, &site, &d.kind)?;
                 Ok(())
             }
             Action::Ask(wants) => self.ask(store, at.step, wants),
@@ -190,9 +204,9 @@ impl Way<'_> {
                 receive(store, JOB, course, cancelled)
             }
             Action::Finish => self.answers.finish(self.alloc, course, at.n),
-            Action::Dispose(dd, d) => dispose_of(store, given, course, at.n, dd, d),
+            Action::Dispose(dd, d) => dispose_of(store, given, course, &at.site(dd, d), d),
             Action::Left(dd, d) => {
-                leave(store, JOB, given, course, at.n, dd, d)?;
+                leave(store, given, course, &at.site(dd, d), &d.kind)?;
                 Ok(())
             }
             Action::Over => end(course),
@@ -205,12 +219,11 @@ fn dispose_of<S: JobStore>(
     store: &mut S,
     given: &Given<'_>,
     course: &mut Course,
-    n: usize,
-    dd: usize,
+    site: &Site,
     d: &DdPlan,
 ) -> Result<(), AllocError> {
-    if dd > 0 {
-        dispose(store, JOB, given, course, n, dd, d)?;
+    if site.dd > 0 {
+        dispose(store, given, course, site, &d.kind)?;
     }
     Ok(())
 }

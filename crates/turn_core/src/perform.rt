@@ -8,6 +8,7 @@ ghost use Rattle.turn_core.specs.Places.{IsCounted, IsOfStep, action_of};
 
 use crate::todo::Task;
 use disp_core::course::{Course, Given};
+use disp_core::site::Site;
 use disp_core::{dispose, step, take};
 use jcl_meaning::state::Place;
 use prog_core::library::ProgramLibrary;
@@ -39,7 +40,13 @@ pub(crate) fn perform<S: JobStore>(
             Ok(None)
         }
         Task::Take { n, dd, d } => {
-            let taken = take::take(alloc, store, job, given, course, *n, *dd, d)?;
+            let at = Site {
+                job,
+                step: *n,
+                dd: *dd,
+                name: d.name,
+            };
+            let taken = take::take(alloc, store, given, course, &at, &d.kind)?;
             Ok(taken.made)
         }
         Task::Ask { step, wants } => {
@@ -56,11 +63,23 @@ pub(crate) fn perform<S: JobStore>(
             Ok(None)
         }
         Task::Dispose { n, dd, d } => {
-            dispose::dispose(store, job, given, course, *n, *dd, d)?;
+            let at = Site {
+                job,
+                step: *n,
+                dd: *dd,
+                name: d.name,
+            };
+            dispose::dispose(store, given, course, &at, &d.kind)?;
             Ok(None)
         }
         Task::Left { n, dd, d } => {
-            dispose::leave(store, job, given, course, *n, *dd, d)?;
+            let at = Site {
+                job,
+                step: *n,
+                dd: *dd,
+                name: d.name,
+            };
+            dispose::leave(store, given, course, &at, &d.kind)?;
             Ok(None)
         }
     }

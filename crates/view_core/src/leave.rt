@@ -7,6 +7,7 @@ ghost use Rattle.view_core.specs.Lefts.{LeavesAll, left_actions};
 use crate::walk::{JOB, Under};
 use disp_core::course::Given;
 use disp_core::dispose;
+use disp_core::site::Site;
 use jcl_meaning::words::passes;
 use jcl_plan::plan::{DdPlan, StepPlan};
 use std::alloc::{AllocError, Global};
@@ -71,14 +72,18 @@ pub(crate) fn leave_all(
     ensures { IfOk result (λ stop. LeavesAll (fixed_by given.now) steps lefts.now under.old stop under.new) }
 {
     for (i, left) in lefts.iter().enumerate() {
+        let at = Site {
+            job: JOB,
+            step: left.step,
+            dd: left.dd,
+            name: left.plan.name,
+        };
         let meets = dispose::leave(
             &mut under.store,
-            JOB,
             given,
             &mut under.course,
-            left.step,
-            left.dd,
-            left.plan,
+            &at,
+            &left.plan.kind,
         )?;
         if let Some(fault) = meets {
             return Ok(Some(Stop {

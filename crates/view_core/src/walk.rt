@@ -8,6 +8,7 @@ ghost use Rattle.view_core.specs.Walks.{DisposesAll, TakesAll, WalksTo};
 
 use crate::scene::{Scene, course_of};
 use disp_core::course::{Course, Given};
+use disp_core::site::Site;
 use disp_core::{dispose, step, take};
 use jcl_meaning::state::Place;
 use jcl_plan::outcome::Outcome;
@@ -85,15 +86,19 @@ fn take_all(
     ensures { IfOk result (λ stop. TakesAll (fixed_by given.now) n dds.now under.old made.old.items stop under.new made.new.items) }
 {
     for (i, d) in dds.iter().enumerate() {
+        let at = Site {
+            job: JOB,
+            step: n,
+            dd: i + 1,
+            name: d.name,
+        };
         let taken = take::take(
             alloc,
             &mut under.store,
-            JOB,
             given,
             &mut under.course,
-            n,
-            i + 1,
-            d,
+            &at,
+            &d.kind,
         )?;
         if let Some(fault) = taken.meets {
             return Ok(Some(Stop {
@@ -119,7 +124,13 @@ fn dispose_all(
     ensures { IfOk result (λ stop. DisposesAll (fixed_by given.now) n dds.now under.old stop under.new) }
 {
     for (i, d) in dds.iter().enumerate() {
-        let meets = dispose::dispose(&mut under.store, JOB, given, &mut under.course, n, i + 1, d)?;
+        let at = Site {
+            job: JOB,
+            step: n,
+            dd: i + 1,
+            name: d.name,
+        };
+        let meets = dispose::dispose(&mut under.store, given, &mut under.course, &at, &d.kind)?;
         if let Some(fault) = meets {
             return Ok(Some(Stop {
                 at: dds.len() + 2 + i,

@@ -37,7 +37,7 @@ returns-in_ok-ask-in-Ask-clause-ok g c =
     let cancel = c.args.cancelled in
     let before = c.args.course.now in
     subst (PerformsTask programs grants cancel fixed seen before (g.S.JobStore.seen c.args.job c.ask.new.store) c.ask.new.course None) (sym c.in-Ask.is)
-    (λ steps q. performs_ask programs steps grants cancel fixed c.in-Ask.step.now c.in-Ask.wants seen (g.S.JobStore.seen c.args.job c.ask.new.store) before c.ask.new.course c.in_ok-ask-in-Ask.ensures.ok)
+    (λ steps q. performs_ask programs steps grants cancel fixed c.in-Ask.step.now c.in-Ask.wants seen (g.S.JobStore.seen c.args.job c.ask.new.store) before c.ask.new.course c.in_ok-ask-in-Ask.ensures.ok.its_act)
 
 pub returns-in_ok-receive-in-Receive-clause-ok : goal.returns-in_ok-receive-in-Receive-clause-ok
 returns-in_ok-receive-in-Receive-clause-ok g c =

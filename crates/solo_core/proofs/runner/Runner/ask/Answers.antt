@@ -20,14 +20,14 @@ returns c =
       | then-asked w ↦
           does_cleanly (Ask c.args.step.now c.args.wants.now) old (record old { grants = w.others-self.result; store = c.ask.new.store; course = c.ask.new.course })
           c.met.new.self
-          (with_answers (grant_left growth (answers_by old) c.in_ok-asked.asked c.in_ok-asked.ensures.asked w.if-asked.true ∙ ap (with_grants (answers_by old)) (sym w.others-self.ensures))
-          (c.in_ok-asked.ensures.ok (answers_by old) (sym c.cancel_due-cancelled.ensures) (next_grants growth (answers_by old) c.next_grant-self.result c.next_grant-self.ensures)))
+          (with_answers (grant_left growth (answers_by old) c.in_ok-asked.asked c.in_ok-asked.ensures.ok.its_growth w.if-asked.true ∙ ap (with_grants (answers_by old)) (sym w.others-self.ensures))
+          (c.in_ok-asked.ensures.ok.its_act (answers_by old) (sym c.cancel_due-cancelled.ensures) (next_grants growth (answers_by old) c.next_grant-self.result c.next_grant-self.ensures)))
           (record { given = refl; volumes = c.in_ok-asked.ensures.rest }) refl
           (met ∙ ap (λ (r : Runner). record r { meets = r.meets ++ None ∷ [] }) w.self-is)
       | else-asked w ↦
           does_cleanly (Ask c.args.step.now c.args.wants.now) old (record old { store = c.ask.new.store; course = c.ask.new.course }) c.met.new.self
-          (with_answers (no_grant_left growth (answers_by old) c.in_ok-asked.asked c.in_ok-asked.ensures.asked w.if-asked.false)
-          (c.in_ok-asked.ensures.ok (answers_by old) (sym c.cancel_due-cancelled.ensures) (next_grants growth (answers_by old) c.next_grant-self.result c.next_grant-self.ensures)))
+          (with_answers (no_grant_left growth (answers_by old) c.in_ok-asked.asked c.in_ok-asked.ensures.ok.its_growth w.if-asked.false)
+          (c.in_ok-asked.ensures.ok.its_act (answers_by old) (sym c.cancel_due-cancelled.ensures) (next_grants growth (answers_by old) c.next_grant-self.result c.next_grant-self.ensures)))
           (record { given = refl; volumes = c.in_ok-asked.ensures.rest }) refl
           (met ∙ ap (λ (r : Runner). record r { meets = r.meets ++ None ∷ [] }) w.self-is)
     ]
