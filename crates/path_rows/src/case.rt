@@ -1,9 +1,12 @@
 //! A job and what it finds, read from a text of one item a line.
-use crate::words::{count_in, fault_in, path_in, serial_in, set_name_in};
+use crate::repeat::Repeat;
+use crate::words::{count_in, fault_in, path_in, serial_in, set_name_in, short_in, wanted};
 use jcl_meaning::state::Place;
 use jcl_meaning::store::{DataSet, SoloSet};
+use jcl_refs::units::UnitNames;
 use jname_core::ds_name::DsName;
 use jname_core::key::Key;
+use jname_core::name8::UnitName;
 use jname_core::serial::Serial;
 use path_search::verdict::RiskReport;
 use plain::lent::Lent;
@@ -32,7 +35,13 @@ pub struct Case<'a> {
     /// Names of the catalog, each with its volume.
     pub entries: Listed<(DsName, Serial)>,
     pub places: Listed<Place>,
+    /// The volume of each set that may be made and has no other place.
+    pub every_place: Option<Serial>,
     pub most_views: usize,
+    /// Whether it is analysed over packed views alone.
+    pub only_packed: bool,
+    pub units: UnitNames,
+    pub repeats: Listed<Repeat>,
     pub deck: Listed<Lent<'a>>,
     pub reports: Listed<RiskReport>,
 }
@@ -53,7 +62,11 @@ impl<'a> Reader<'a> {
                 sets: Listed::empty(alloc),
                 entries: Listed::empty(alloc),
                 places: Listed::empty(alloc),
+                every_place: None,
                 most_views: 1024,
+                only_packed: false,
+                repeats: Listed::empty(alloc),
+                units: UnitNames::new(alloc),
                 deck: Listed::empty(alloc),
                 reports: Listed::empty(alloc),
             },
@@ -69,6 +82,25 @@ impl<'a> Reader<'a> {
                 expires: None,
                 records: Listed::empty(self.alloc),
             },
+        })?;
+        Ok(())
+    }
+
+    fn add_unit(&mut self, name: &str) -> Result<(), Unread> {
+        let name = wanted(UnitName::read(name.as_bytes()).ok())?;
+        let units = &mut self.case.units;
+        if units.number(&name).is_some() || units.len() >= 65_535 {
+            return Err(Unread::Wrong);
+        }
+        units.add(name)?;
+        Ok(())
+    }
+
+    fn add_repeat(&mut self, step: &str, times: &str, rise: &str) -> Result<(), Unread> {
+        self.case.repeats.push(Repeat {
+            step: short_in(step)?,
+            times: short_in(times)?,
+            rise: short_in(rise)?,
         })?;
         Ok(())
     }
@@ -103,6 +135,11 @@ impl<'a> Reader<'a> {
                 dd: count_in(dd)?,
                 serial: serial_in(serial)?,
             })?,
+            ["UNIT", name] => self.add_unit(name)?,
+            ["PLACES", serial] => self.case.every_place = Some(serial_in(serial)?),
+            ["TIMES", step, times] => self.add_repeat(step, times, "0")?,
+            ["TIMES", step, times, rise] => self.add_repeat(step, times, rise)?,
+            ["PACKED"] => self.case.only_packed = true,
             ["VIEWS", count] => self.case.most_views = count_in(count)?,
             ["REPORT", fault, step, dd, ref path @ ..] => self.add_report(fault, step, dd, path)?,
             [] => {}

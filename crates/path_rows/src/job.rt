@@ -4,7 +4,10 @@ ghost use Rattle.jcl_meaning.specs.Stores.{store_of};
 ghost use Rattle.jcl_meaning.specs.WellFormed.{IsWellFormedPlan};
 ghost use Rattle.part_laws.specs.Keeping.{HasSoundGroups};
 
-use crate::case::Case;
+use crate::case::{Case, Unread};
+use crate::places::places_of;
+use crate::plain_views::analyse_plainly;
+use crate::repeat::with_repeats;
 use crate::start::start_of;
 use crate::words::push_number;
 use jcl_job::job::job_of;
@@ -88,27 +91,70 @@ fn push_checks(
     Ok(())
 }
 
-/// What may become of a job, and whether an analysis' own report is taken.
+/// What may become of a job, in words.
+fn told_verdict(alloc: Global, verdict: Verdict) -> Result<Draft, AllocError> {
+    let mut told = Draft::empty(alloc);
+    push_verdict(&mut told, verdict)?;
+    told.keep();
+    Ok(told)
+}
+
+/// Whether the path of an analysis' own report leads to its fault.
+fn is_taken(
+    alloc: Global,
+    plan: &JobPlan,
+    start: &StartView,
+    verdict: &Verdict,
+) -> Result<bool, AllocError> {
+    match verdict {
+        Verdict::Risk(report) => check_path(alloc, plan, start, report),
+        Verdict::Safe(_) => Ok(true),
+        Verdict::TooMany { step: _ } => Ok(true),
+    }
+}
+
+/// What plain views tell of a job, if it is not this.
+fn push_otherwise(
+    alloc: Global,
+    out: &mut Draft,
+    plan: &JobPlan,
+    start: &StartView,
+    told: &[u8],
+) -> Result<(), AllocError>
+    requires plan { IsWellFormedPlan plan.now }
+    requires groups { HasSoundGroups (store_of start.now.store) }
+{
+    let verdict = analyse_plainly(alloc, plan, start)?;
+    let plain = told_verdict(alloc, verdict)?;
+    if plain.kept() != told {
+        out.push(b"BY PLAIN VIEWS ")?;
+        out.push(plain.kept())?;
+    }
+    Ok(())
+}
+
+/// What may become of a job, whether an analysis' own report is taken, and what plain views tell where that is something else.
 fn push_analysis(
     alloc: Global,
     out: &mut Draft,
     plan: &JobPlan,
     start: &StartView,
+    only_packed: bool,
 ) -> Result<(), AllocError>
     requires plan { IsWellFormedPlan plan.now }
     requires groups { HasSoundGroups (store_of start.now.store) }
 {
     let verdict = analyse(alloc, plan, start)?;
-    let taken = match &verdict {
-        Verdict::Risk(report) => check_path(alloc, plan, start, report)?,
-        Verdict::Safe(_) => true,
-        Verdict::TooMany { step: _ } => true,
-    };
-    push_verdict(out, verdict)?;
+    let taken = is_taken(alloc, plan, start, &verdict)?;
+    let told = told_verdict(alloc, verdict)?;
+    out.push(told.kept())?;
     if !taken {
         out.push(b"ITS PATH IS NOT TAKEN\n")?;
     }
-    Ok(())
+    if only_packed {
+        return Ok(());
+    }
+    push_otherwise(alloc, out, plan, start, told.kept())
 }
 
 /// The job that a deck denotes.
@@ -123,19 +169,45 @@ fn job_denoted(
     job_of(alloc, units, library, deck)
 }
 
-/// Tells what may become of the job of a case on the first day of 1970, and of each path that is told with a fault whether it leads there.
-pub(crate) fn push_job(alloc: Global, out: &mut Draft, case: &Case<'_>) -> Result<(), AllocError> {
+/// Tells what may become of a job on the first day of 1970, and of each path that is told with a fault whether it leads there.
+fn push_plan(
+    alloc: Global,
+    out: &mut Draft,
+    case: &Case<'_>,
+    plan: &JobPlan,
+) -> Result<(), AllocError>
+    requires plan { IsWellFormedPlan plan.now }
+{
     let Some(date) = Day::new(25_567) else {
         return out.push(b"? no day\n");
     };
-    let start = start_of(alloc, case, date)?;
-    let units = UnitNames::new(alloc);
+    let places = places_of(case, plan)?;
+    let start = start_of(alloc, case, places, date)?;
+    push_analysis(alloc, out, plan, &start, case.only_packed)?;
+    push_checks(alloc, out, plan, &start, case.reports.as_slice())
+}
+
+/// Tells of the job in whose plan steps of the deck stand as often as the case says.
+fn push_repeated(
+    alloc: Global,
+    out: &mut Draft,
+    case: &Case<'_>,
+    plan: JobPlan,
+) -> Result<(), AllocError>
+    requires plan { IsWellFormedPlan plan }
+{
+    match with_repeats(alloc, plan, case.repeats.as_slice()) {
+        Ok(plan) => push_plan(alloc, out, case, &plan),
+        Err(Unread::Wrong) => out.push(b"? TIMES\n"),
+        Err(Unread::Memory) => Err(AllocError),
+    }
+}
+
+/// Tells of the job of a case.
+pub(crate) fn push_job(alloc: Global, out: &mut Draft, case: &Case<'_>) -> Result<(), AllocError> {
     let library = ProcLibrary::new(alloc);
-    match job_denoted(alloc, &units, &library, case.deck.as_slice()) {
-        Ok(plan) => {
-            push_analysis(alloc, out, &plan, &start)?;
-            push_checks(alloc, out, &plan, &start, case.reports.as_slice())
-        }
+    match job_denoted(alloc, &case.units, &library, case.deck.as_slice()) {
+        Ok(plan) => push_repeated(alloc, out, case, plan),
         Err(ReadError::Refused(_)) => out.push(b"REFUSED\n"),
         Err(ReadError::Memory) => Err(AllocError),
     }

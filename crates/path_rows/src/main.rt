@@ -4,6 +4,9 @@
 
 mod case;
 mod job;
+mod places;
+mod plain_views;
+mod repeat;
 mod start;
 mod words;
 

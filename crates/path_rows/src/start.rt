@@ -6,6 +6,7 @@ ghost use Rattle.path_rows.specs.Catalogs.{AreVolumes};
 
 use crate::case::Case;
 use group_core::entry::CatEntry;
+use jcl_meaning::state::Place;
 use jcl_meaning::store::{SoloEntry, SoloSet, SoloStore};
 use jcl_plan::day::Day;
 use jname_core::ds_name::DsName;
@@ -36,14 +37,18 @@ fn sets_of(alloc: Global, sets: &[SoloSet]) -> Result<Listed<SoloSet>, AllocErro
     Ok(copies)
 }
 
-/// What the job of a case finds on this day.
-pub(crate) fn start_of(alloc: Global, case: &Case<'_>, date: Day) -> Result<StartView, AllocError>
+/// What the job of a case finds on this day, whose sets are made at these places.
+pub(crate) fn start_of(
+    alloc: Global,
+    case: &Case<'_>,
+    places: Listed<Place>,
+    date: Day,
+) -> Result<StartView, AllocError>
     ensures { IfOk result (λ start. HasSoundGroups (store_of start.store)) }
 {
     let volumes = case.volumes.clone()?;
     let sets = sets_of(alloc, case.sets.as_slice())?;
     let catalog = catalog_of(alloc, case.entries.as_slice())?;
-    let places = case.places.clone()?;
     Ok(StartView {
         store: SoloStore {
             volumes,

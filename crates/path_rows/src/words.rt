@@ -24,7 +24,7 @@ pub(crate) fn set_name_in(text: &str) -> Result<DsName, Unread> {
     wanted(read_ds_name(text.as_bytes()).ok())
 }
 
-fn short_in(text: &str) -> Result<u16, Unread> {
+pub(crate) fn short_in(text: &str) -> Result<u16, Unread> {
     wanted(text.parse::<u16>().ok())
 }
 
