@@ -35,10 +35,10 @@ def step(name, tests=(), dds=0):
     return cards + [f"//D{k} DD DSN=A.B{k},DISP=(OLD,KEEP)" for k in range(1, dds + 1)]
 
 
-def row(name, views, times, cards):
-    """A row: a plan that finds six sets and meets no fault, with no view more than the limit."""
+def row(name, views, times, cards, sets=0):
+    """A row: a plan that finds so many sets and meets no fault, with no view more than the limit."""
     lines = [f"== {name}", "VOLUME VOL001"]
-    for k in range(1, 7):
+    for k in range(1, sets + 1):
         lines += [f"SET VOL001 A.B{k}", f"ENTRY A.B{k} VOL001"]
     lines += ["PACKED", f"VIEWS {views}"] + [f"TIMES {words}" for words in times]
     return "\n".join(lines + [f"CARD {card}" for card in ["//J JOB 1", *cards]] + ["=>", "SAFE -", ""]) + "\n"
@@ -51,7 +51,7 @@ def subsets(steps, tests):
     last = [named[k:k + 8] for k in range(0, tests, 8)]
     cards = first + step("M", (), 6) + [card for k, some in enumerate(last) for card in step(f"L{k}", some, 6)]
     name = f"{steps} steps, {tests} tests of one step each"
-    return row(name, 2 << tests, [f"{tests + 1} {steps - tests - len(last)}"], cards) * 2
+    return row(name, 2 << tests, [f"{tests + 1} {steps - tests - len(last)}"], cards, 6) * 2
 
 
 def chain(steps, tests):
@@ -62,23 +62,23 @@ def chain(steps, tests):
 
 
 def chain_and_one(steps, tests):
-    """A job of {steps} steps: a chain of {tests} tests LT, and one test EQ of its middle"""
+    """A job of {steps} steps: a chain of {tests} tests LT, and one test EQ of its lowest code, which any of them may be met with"""
     count = tests // 8
-    cards = step("M") + step("E", [f"({tests // 2},EQ)"]) + step("L", [f"({k},LT)" for k in range(1, 9)])
+    cards = step("M") + step("E", ["(1,EQ)"]) + step("L", [f"({k},LT)" for k in range(1, 9)])
     name = f"{steps} steps, {tests} tests LT and one EQ"
-    return row(name, 3 * tests + 8, [f"1 {steps - count - 1}", f"3 {count} 8"], cards)
+    return row(name, 4 * (tests + 1), [f"1 {steps - count - 1}", f"3 {count} 8"], cards)
 
 
 def both_ways(steps, tests):
-    """A job of {steps} steps: {tests} tests, LT and GT in turn, so that no class has all that another has"""
+    """A job of {steps} steps: 16 tests GT and {tests} tests LT of higher codes, so that no class has all that another has"""
     count = tests // 8
-    pairs = [test for k in range(2, 10, 2) for test in (f"({k},LT)", f"({k},GT)")]
-    cards = step("M") + step("L", pairs)
-    return row(f"{steps} steps, {tests} tests LT and GT", 1024, [f"1 {steps - count}", f"2 {count} 8"], cards)
+    low = step("G", [f"({k},GT)" for k in range(1, 9)])
+    cards = step("M") + low + step("L", [f"({k},LT)" for k in range(17, 25)])
+    return row(f"{steps} steps, 16 tests GT and {tests} LT", 34 * (tests + 1), [f"1 {steps - count - 2}", "2 2 8", f"3 {count} 8"], cards)
 
 
 # Each case: its size, and the number of tests with which it has half the views.
-CASES = [(subsets, 9, 8), (chain, 504, 248), (chain_and_one, 336, 168), (both_ways, 56, 40)]
+CASES = [(subsets, 9, 8), (chain, 504, 248), (chain_and_one, 248, 120), (both_ways, 16, 8)]
 
 
 def written(folder, name, text):
