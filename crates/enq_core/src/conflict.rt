@@ -1,5 +1,5 @@
 //! The first of a job's wants that a hold stands in the way of.
-ghost use Rattle.std.specs.Prelude.{◌≡◌, ◌≤◌, ◌<◌, ◌⊎◌, All, IfNone, IfSome, MatchResult, Some, false, length};
+ghost use Rattle.std.specs.Prelude.{◌≡◌, ◌≤◌, ◌<◌, ◌⊎◌, All, IfNone, IfSome, MatchResult, Some, false, length, take};
 ghost use Rattle.std.specs.Cmp.Lexicographic.{slice_cmp};
 ghost use Rattle.std.specs.Ordering.{nat_cmp};
 ghost use Rattle.std.specs.declared.cmp.Ordering.TheVariants.{Equal};
@@ -132,22 +132,34 @@ fn lowest_holder(holds: &[MarkedHold], want: &Want) -> Option<u16>
     lowest
 }
 
-/// The first want that a hold conflicts with. The first of all is looked at alone: a job that waits for all that another holds waits there.
-pub(crate) fn first_block(holds: &[MarkedHold], wants: &[Want]) -> Option<Blocked>
+/// What stands in the way of the first want of all: a job that waits for all that another holds waits there.
+pub(crate) fn block_at_first(holds: &[MarkedHold], wants: &[Want]) -> Option<Blocked>
+    ensures none { IfNone result (All (λ want. is_blocked holds.now want ≡ false) (take 1 wants.now)) }
+    ensures some { IfSome result (IsFirstBlock holds.now wants.now) }
+{
+    let Some((first, _)) = wants.split_first() else {
+        return None;
+    };
+    match lowest_holder(holds, first) {
+        Some(job) => Some(Blocked {
+            job,
+            name: first.name,
+        }),
+        None => None,
+    }
+}
+
+/// The first want that a hold conflicts with, where none conflicts with the first of all.
+pub(crate) fn block_behind_first(holds: &[MarkedHold], wants: &[Want]) -> Option<Blocked>
     requires holds { AreInOrder holds.now }
     requires wants { AreWants wants.now }
+    requires first { All (λ want. is_blocked holds.now want ≡ false) (take 1 wants.now) }
     ensures none { IfNone result (All (λ want. is_blocked holds.now want ≡ false) wants.now) }
     ensures some { IfSome result (IsFirstBlock holds.now wants.now) }
 {
-    let Some((first, others)) = wants.split_first() else {
+    let Some((_, others)) = wants.split_first() else {
         return None;
     };
-    if let Some(job) = lowest_holder(holds, first) {
-        return Some(Blocked {
-            job,
-            name: first.name,
-        });
-    }
     if others.is_empty() {
         return None;
     }

@@ -1,12 +1,12 @@
 //! What stands in the way of jobs that wait, noted as long as no hold changes: a job that waits asks again in each of its turns.
-ghost use Rattle.std.specs.Prelude.{◌≡◌, List, [], All, IfNone, IfSome, false};
+ghost use Rattle.std.specs.Prelude.{◌≡◌, List, [], All, IfNone, IfSome, false, take};
 ghost use Rattle.std.specs.Bool.{OnTrue};
 ghost use Rattle.enq_core.specs.declared.table.Hold.{Hold};
 ghost use Rattle.enq_core.specs.Holds.{AreWants, IsFirstBlock, is_blocked};
 ghost use Rattle.enq_core.specs.Order.{AreInOrder};
 ghost use Rattle.enq_core.specs.Waits.{AreRight};
 
-use crate::conflict::first_block;
+use crate::conflict::{block_at_first, block_behind_first};
 use crate::marked::MarkedHold;
 use crate::table::{Blocked, Want};
 use plain::listed::Listed;
@@ -75,15 +75,16 @@ pub(crate) fn forget(waits: &mut Vec<Wait>)
     waits.clear();
 }
 
-/// Finds the first want that a hold conflicts with, and notes it.
+/// Finds the first want that a hold conflicts with, where none conflicts with the first of all, and notes it.
 fn find(holds: &[MarkedHold], waits: &mut Vec<Wait>, job: u16, wants: &[Want]) -> Option<Blocked>
     requires holds { AreInOrder holds.now }
     requires wants { AreWants wants.now }
+    requires first { All (λ want. is_blocked holds.now want ≡ false) (take 1 wants.now) }
     ensures none { IfNone result (All (λ want. is_blocked holds.now want ≡ false) wants.now) }
     ensures some { IfSome result (IsFirstBlock holds.now wants.now) }
     ensures right { AreRight holds.now waits.old.items → AreRight holds.now waits.new.items }
 {
-    match first_block(holds, wants) {
+    match block_behind_first(holds, wants) {
         Some(blocked) => {
             note(waits, job, wants, &blocked);
             Some(blocked)
@@ -92,7 +93,8 @@ fn find(holds: &[MarkedHold], waits: &mut Vec<Wait>, job: u16, wants: &[Want]) -
     }
 }
 
-/// The first want that a hold conflicts with: what is noted for the job, or else what is found, which is noted then.
+/// The first want that a hold conflicts with. The first of all is looked up; for those behind it there is what is noted for the job, or else what is
+/// found, which is noted then.
 pub(crate) fn what_blocks(
     holds: &[MarkedHold],
     waits: &mut Vec<Wait>,
@@ -106,6 +108,9 @@ pub(crate) fn what_blocks(
     ensures some { IfSome result (IsFirstBlock holds.now wants.now) }
     ensures right { AreRight holds.now waits.new.items }
 {
+    if let Some(blocked) = block_at_first(holds, wants) {
+        return Some(blocked);
+    }
     match noted(waits.as_slice(), job, wants) {
         Some(blocked) => Some(blocked),
         None => find(holds, waits, job, wants),
