@@ -1,4 +1,5 @@
 //! The inputs of the machine, as far as a session brings them.
+use crate::boxed::Boxed;
 use jname_core::serial::Serial;
 use plain::lent::Lent;
 use plain::listed::Listed;
@@ -14,7 +15,7 @@ pub const MOST_ZAPPED: usize = 32;
 #[derive(Drop)]
 pub enum Event<'a> {
     /// A deck is read: its lines.
-    Read(Listed<Lent<'a>>),
+    Read(Boxed<Listed<Lent<'a>>>),
     /// The initiator of this number acts once.
     Turn(u8),
     /// The operation under way on this volume ends.
@@ -27,7 +28,7 @@ pub enum Event<'a> {
     Zap {
         record: u32,
         offset: u8,
-        bytes: Short<MOST_ZAPPED>,
+        bytes: Boxed<Short<MOST_ZAPPED>>,
     },
     /// The volumes and the queue are shown.
     Display,

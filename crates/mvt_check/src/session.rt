@@ -198,7 +198,7 @@ fn check_event(
 {
     match event {
         Event::Read(deck) => {
-            let lines = deck.as_slice();
+            let lines = deck.get().as_slice();
             check_lines(alloc, sources, fixed, first, lines, answered, text)
         }
         _ => Ok(false),
@@ -297,15 +297,16 @@ fn names_in(alloc: Global, statements: &[Statement<'_>]) -> Result<Names, AllocE
     let mut units = Vec::new(alloc);
     let mut procedures = Vec::new(alloc);
     for statement in statements {
-        match &statement.says {
-            Says::Config {
-                statement: ConfigStatement::Unit { name, .. },
-                ..
-            } => units.push(Text::copy_of(alloc, name.as_slice())?)?,
-            Says::Config {
-                statement: ConfigStatement::Procedure { name, .. },
-                ..
-            } => procedures.push(Text::copy_of(alloc, name.as_slice())?)?,
+        let Says::Config { statement, .. } = &statement.says else {
+            continue;
+        };
+        match statement.get() {
+            ConfigStatement::Unit { name, .. } => {
+                units.push(Text::copy_of(alloc, name.as_slice())?)?;
+            }
+            ConfigStatement::Procedure { name, .. } => {
+                procedures.push(Text::copy_of(alloc, name.as_slice())?)?;
+            }
             _ => {}
         }
     }

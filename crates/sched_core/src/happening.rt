@@ -89,7 +89,7 @@ fn happen<Q: RecordStore>(
     ensures same { OnErr result (IsSameMachine Q.queue profile.now state.old state.new) }
 {
     match event {
-        Event::Read(deck) => read(alloc, state, profile, units, library, deck.as_slice()),
+        Event::Read(deck) => read(alloc, state, profile, units, library, deck.get().as_slice()),
         Event::Turn(number) => turn(alloc, state, profile, *number),
         Event::DeviceEnd(serial) => end_device(alloc, state, profile, *serial),
         Event::Write(class) => write(alloc, state, profile, *class),
@@ -98,7 +98,7 @@ fn happen<Q: RecordStore>(
             record: n,
             offset,
             bytes,
-        } => zap(alloc, state, profile, *n, *offset, bytes.as_slice()),
+        } => zap(alloc, state, profile, *n, *offset, bytes.get().as_slice()),
         Event::Display => display(alloc, state, profile),
     }
 }

@@ -47,7 +47,7 @@ pub(crate) fn late_in(config: &mut Config, statements: &[Statement<'_>]) -> Opti
             has_end,
         } = &statement.says
         {
-            return Some(late_fault(config, says, *has_end));
+            return Some(late_fault(config, says.get(), *has_end));
         }
     }
     None
@@ -73,7 +73,7 @@ pub(crate) fn configure(
             Says::Config {
                 statement: says,
                 has_end,
-            } => match config.add(says) {
+            } => match config.add(says.get()) {
                 Ok(()) if *has_end => {}
                 Ok(()) => return Err(SessionFault::Stopped(Fault::NoEnd, line)),
                 Err(ConfigError::Refused(fault)) => {

@@ -7,6 +7,7 @@ ghost use Rattle.sched_core.specs.Starting.{IsForMachine};
 use cb_meaning::layout::LAYOUT_1;
 use cb_queue::list_store::ListStore;
 use config_core::config::Config;
+use input_core::boxed::Boxed;
 use input_core::event::Event;
 use jcl_plan::entry::Entry;
 use plain::draft::Draft;
@@ -19,8 +20,8 @@ use session_text::statement::{Ending, Says, Statement};
 use std::alloc::{AllocError, Global};
 
 /// The same event. A deck is read once.
-fn again<'a>(event: &Event<'a>) -> Option<Event<'a>> {
-    match event {
+fn again<'a>(alloc: Global, event: &Event<'_>) -> Result<Option<Event<'a>>, AllocError> {
+    let same = match event {
         Event::Read(_) => None,
         Event::Turn(number) => Some(Event::Turn(*number)),
         Event::DeviceEnd(serial) => Some(Event::DeviceEnd(*serial)),
@@ -33,20 +34,22 @@ fn again<'a>(event: &Event<'a>) -> Option<Event<'a>> {
         } => Some(Event::Zap {
             record: *record,
             offset: *offset,
-            bytes: *bytes,
+            bytes: Boxed::new(alloc, *bytes.get())?,
         }),
         Event::Display => Some(Event::Display),
-    }
+    };
+    Ok(same)
 }
 
 /// An event so many times.
 fn push_times<'a>(
+    alloc: Global,
     events: &mut Vec<Event<'a>>,
     event: Event<'a>,
     times: u16,
 ) -> Result<(), AllocError> {
     for _ in 1..times {
-        if let Some(same) = again(&event) {
+        if let Some(same) = again(alloc, &event)? {
             events.push(same)?;
         }
     }
@@ -56,6 +59,7 @@ fn push_times<'a>(
 
 /// Adds what a session configures, and gathers its events. A statement that is refused is left out.
 fn gather<'a>(
+    alloc: Global,
     config: &mut Config,
     events: &mut Vec<Event<'a>>,
     statements: Vec<Statement<'a>>,
@@ -66,11 +70,11 @@ fn gather<'a>(
                 statement: says,
                 ..
             } => {
-                let Ok(()) = config.add(&says) else {
+                let Ok(()) = config.add(says.get()) else {
                     return Err(AllocError);
                 };
             }
-            Says::Events(event, times) => push_times(events, event, times)?,
+            Says::Events(event, times) => push_times(alloc, events, event, times)?,
             Says::Refused(_) => {}
         }
     }
@@ -137,6 +141,6 @@ pub(crate) fn list_driven(
     let read = statements(alloc, text, Ending::Whole)?;
     let mut config = Config::new(alloc);
     let mut events = Vec::new(alloc);
-    gather(&mut config, &mut events, read.into_vec())?;
+    gather(alloc, &mut config, &mut events, read.into_vec())?;
     drive(alloc, config, options, events.as_slice())
 }

@@ -135,7 +135,7 @@ fn tell_event(told: &mut Told, event: &Event<'_>) {
     match event {
         Event::Read(cards) => {
             told.word(b"READ");
-            tell_lines(told, cards.as_slice())
+            tell_lines(told, cards.get().as_slice())
         }
         Event::Turn(number) => tell_count(told, b"TURN ", u16::from(*number)),
         Event::DeviceEnd(serial) => told.two(b"DEV ", serial.as_slice()),
@@ -145,7 +145,7 @@ fn tell_event(told: &mut Told, event: &Event<'_>) {
             record,
             offset,
             bytes,
-        } => tell_zap(told, *record, *offset, bytes.as_slice()),
+        } => tell_zap(told, *record, *offset, bytes.get().as_slice()),
         Event::Display => told.two(b"DISPLAY", b""),
     }
 }
@@ -153,7 +153,7 @@ fn tell_event(told: &mut Told, event: &Event<'_>) {
 fn tell_says(told: &mut Told, says: &Says<'_>) {
     match says {
         Says::Config { statement, has_end } => {
-            tell_config(told, statement);
+            tell_config(told, statement.get());
             if !*has_end {
                 told.word(b"\nWITHOUT END");
             }

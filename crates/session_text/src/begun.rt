@@ -2,11 +2,13 @@
 ghost use Rattle.std.specs.Prelude.{◌≡◌, not, IfOk, OnOk};
 ghost use Rattle.session_text.specs.Begun.{begun_of, has_request, is_kept, lines_of_block, lines_told, lines_told_open, lines_with, program_told, program_with, records_with, told_at_end, told_cut, told_open, with_line};
 ghost use Rattle.session_text.specs.Records.{is_no_record, record_in};
+ghost use Rattle.session_text.specs.declared.statement.Says.TheVariants as says;
 
 use crate::fault::Fault;
 use crate::programs::{is_ending, request_of};
 use crate::sets::record_in;
 use crate::statement::{Block, Ending, Says};
+use input_core::boxed::Boxed;
 use input_core::event::Event;
 use input_core::statement::{ConfigStatement, SetStatement};
 use jcl_meaning::program::Request;
@@ -53,13 +55,16 @@ fn lines_of_block<'a>(alloc: Global, block: &Block) -> BlockLines<'a>
             name: *name,
             lines: Listed::empty(alloc),
         },
-        Block::Set(set) => BlockLines::Set(SetStatement {
-            name: set.name,
-            serial: set.serial,
-            tracks: set.tracks,
-            catalogued: set.catalogued,
-            records: Listed::empty(alloc),
-        }),
+        Block::Set(boxed) => {
+            let set = boxed.get();
+            BlockLines::Set(SetStatement {
+                name: set.name,
+                serial: set.serial,
+                tracks: set.tracks,
+                catalogued: set.catalogued,
+                records: Listed::empty(alloc),
+            })
+        }
         Block::Program(name) => BlockLines::Program(ProgramLines {
             name: *name,
             requests: Listed::empty(alloc),
@@ -146,8 +151,26 @@ pub(crate) fn take_line<'a>(begun: &mut Begun<'a>, line: &'a [u8]) -> Result<(),
     Ok(())
 }
 
-fn program_told<'a>(program: ProgramLines, has_end: bool) -> Says<'a>
-    ensures { result ≡ program_told program has_end }
+/// Configuration that a block holds, and whether the block has an END.
+fn config_told<'a>(
+    alloc: Global,
+    statement: ConfigStatement<'a>,
+    has_end: bool,
+) -> Result<Says<'a>, AllocError>
+    ensures { IfOk result (λ s. s ≡ says.Config statement.entry has_end) }
+{
+    Ok(Says::Config {
+        statement: Boxed::new(alloc, statement)?,
+        has_end,
+    })
+}
+
+fn program_told<'a>(
+    alloc: Global,
+    program: ProgramLines,
+    has_end: bool,
+) -> Result<Says<'a>, AllocError>
+    ensures { IfOk result (λ s. s ≡ program_told program has_end) }
 {
     let ProgramLines {
         name,
@@ -155,84 +178,81 @@ fn program_told<'a>(program: ProgramLines, has_end: bool) -> Says<'a>
         ended,
     } = program;
     if ended {
-        Says::Config {
-            statement: ConfigStatement::Program { name, requests },
-            has_end,
-        }
+        config_told(alloc, ConfigStatement::Program { name, requests }, has_end)
     } else {
-        Says::Refused(Fault::BadValue)
+        Ok(Says::Refused(Fault::BadValue))
     }
 }
 
-fn lines_told<'a>(lines: BlockLines<'a>) -> Says<'a>
-    ensures { result ≡ lines_told lines.entry }
+fn lines_told<'a>(alloc: Global, lines: BlockLines<'a>) -> Result<Says<'a>, AllocError>
+    ensures { IfOk result (λ s. s ≡ lines_told lines.entry) }
 {
     match lines {
-        BlockLines::Deck(cards) => Says::Events(Event::Read(cards), 1),
-        BlockLines::Procedure { name, lines: cards } => Says::Config {
-            statement: ConfigStatement::Procedure { name, lines: cards },
-            has_end: true,
-        },
-        BlockLines::Set(set) => Says::Config {
-            statement: ConfigStatement::Set(set),
-            has_end: true,
-        },
-        BlockLines::Program(program) => program_told(program, true),
+        BlockLines::Deck(cards) => Ok(Says::Events(Event::Read(Boxed::new(alloc, cards)?), 1)),
+        BlockLines::Procedure { name, lines: cards } => config_told(
+            alloc,
+            ConfigStatement::Procedure { name, lines: cards },
+            true,
+        ),
+        BlockLines::Set(set) => config_told(alloc, ConfigStatement::Set(set), true),
+        BlockLines::Program(program) => program_told(alloc, program, true),
     }
 }
 
-fn lines_told_open(alloc: Global, lines: BlockLines<'_>) -> Says<'static>
-    ensures { result ≡ lines_told_open lines.entry }
+fn lines_told_open<'a>(alloc: Global, lines: BlockLines<'_>) -> Result<Says<'a>, AllocError>
+    ensures { IfOk result (λ s. s ≡ lines_told_open lines.entry) }
 {
     match lines {
-        BlockLines::Deck(_cards) => Says::Refused(Fault::NoEnd),
+        BlockLines::Deck(_cards) => Ok(Says::Refused(Fault::NoEnd)),
         BlockLines::Procedure {
             name,
             lines: _cards,
-        } => Says::Config {
-            statement: ConfigStatement::Procedure {
+        } => config_told(
+            alloc,
+            ConfigStatement::Procedure {
                 name,
                 lines: Listed::empty(alloc),
             },
-            has_end: false,
-        },
-        BlockLines::Set(set) => Says::Config {
-            statement: ConfigStatement::Set(set),
-            has_end: false,
-        },
-        BlockLines::Program(program) => program_told(program, false),
+            false,
+        ),
+        BlockLines::Set(set) => config_told(alloc, ConfigStatement::Set(set), false),
+        BlockLines::Program(program) => program_told(alloc, program, false),
     }
 }
 
 /// What a block says at its END.
-pub(crate) fn told_at_end<'a>(begun: Begun<'a>) -> Says<'a>
-    ensures { result ≡ told_at_end begun.entry }
+pub(crate) fn told_at_end<'a>(alloc: Global, begun: Begun<'a>) -> Result<Says<'a>, AllocError>
+    ensures { IfOk result (λ s. s ≡ told_at_end begun.entry) }
 {
     let Begun { lines, fault } = begun;
     match fault {
-        Some(own) => Says::Refused(own),
-        None => lines_told(lines),
+        Some(own) => Ok(Says::Refused(own)),
+        None => lines_told(alloc, lines),
     }
 }
 
 /// What a block says that the end of a whole text leaves open.
-fn told_open(alloc: Global, begun: Begun<'_>) -> Says<'static>
-    ensures { result ≡ told_open begun.entry }
+fn told_open<'a>(alloc: Global, begun: Begun<'_>) -> Result<Says<'a>, AllocError>
+    ensures { IfOk result (λ s. s ≡ told_open begun.entry) }
 {
     let Begun { lines, fault } = begun;
     match fault {
-        Some(own) => Says::Refused(own),
+        Some(own) => Ok(Says::Refused(own)),
         None => lines_told_open(alloc, lines),
     }
 }
 
 /// What a block says that the text's end leaves open.
-pub(crate) fn told_cut(alloc: Global, ending: Ending, begun: Begun<'_>) -> Says<'static>
-    ensures { result ≡ told_cut ending begun.entry }
+pub(crate) fn told_cut<'a>(
+    alloc: Global,
+    ending: Ending,
+    begun: Begun<'_>,
+) -> Result<Says<'a>, AllocError>
+    ensures { IfOk result (λ s. s ≡ told_cut ending begun.entry) }
 {
     match ending {
         Ending::Whole => told_open(alloc, begun),
-        Ending::TooLong => Says::Refused(Fault::TooLong),
-        Ending::ReadFailed => Says::Refused(Fault::ReadFailed),
+        Ending::TooLong => Ok(Says::Refused(Fault::TooLong)),
+        Ending::ReadFailed => Ok(Says::Refused(Fault::ReadFailed)),
     }
 }

@@ -1,5 +1,5 @@
 //! The lines that are events.
-ghost use Rattle.std.specs.Prelude.{◌≡◌};
+ghost use Rattle.std.specs.Prelude.{◌≡◌, IfOk};
 ghost use Rattle.session_text.specs.Fields.{fields_of};
 ghost use Rattle.session_text.specs.Statements.{cancel_of, deck_of, device_end_of, display_of, event_by, turns_of, writes_of};
 
@@ -10,8 +10,9 @@ use crate::values::{before_star, class_of, serial_in, times_in};
 use crate::zaps::zap;
 use input_core::event::Event;
 use jname_core::decimal::number_within;
+use std::alloc::{AllocError, Global};
 
-fn turns(operands: &[u8]) -> Says<'static>
+fn turns<'a>(operands: &[u8]) -> Says<'a>
     ensures { result ≡ turns_of (fields_of operands.now) }
 {
     let Some(text) = only_field(operands) else {
@@ -26,7 +27,7 @@ fn turns(operands: &[u8]) -> Says<'static>
     }
 }
 
-fn writes(operands: &[u8]) -> Says<'static>
+fn writes<'a>(operands: &[u8]) -> Says<'a>
     ensures { result ≡ writes_of (fields_of operands.now) }
 {
     let Some(text) = only_field(operands) else {
@@ -41,7 +42,7 @@ fn writes(operands: &[u8]) -> Says<'static>
     }
 }
 
-fn device_end(operands: &[u8]) -> Says<'static>
+fn device_end<'a>(operands: &[u8]) -> Says<'a>
     ensures { result ≡ device_end_of (fields_of operands.now) }
 {
     let Some(serial) = only_field(operands) else {
@@ -53,7 +54,7 @@ fn device_end(operands: &[u8]) -> Says<'static>
     }
 }
 
-fn cancel(operands: &[u8]) -> Says<'static>
+fn cancel<'a>(operands: &[u8]) -> Says<'a>
     ensures { result ≡ cancel_of (fields_of operands.now) }
 {
     let Some(job) = only_field(operands) else {
@@ -65,7 +66,7 @@ fn cancel(operands: &[u8]) -> Says<'static>
     }
 }
 
-fn display(operands: &[u8]) -> Says<'static>
+fn display<'a>(operands: &[u8]) -> Says<'a>
     ensures { result ≡ display_of (fields_of operands.now) }
 {
     match next_field(operands) {
@@ -84,24 +85,28 @@ fn deck(operands: &[u8]) -> Block
 }
 
 /// What a line says by its word, where that is an event's.
-pub(crate) fn event_by(word: &[u8], operands: &[u8]) -> LineSays<'static>
-    ensures { result ≡ event_by word.now (fields_of operands.now) }
+pub(crate) fn event_by<'a>(
+    alloc: Global,
+    word: &[u8],
+    operands: &[u8],
+) -> Result<LineSays<'a>, AllocError>
+    ensures { IfOk result (λ l. l ≡ event_by word.now (fields_of operands.now)) }
 {
     if word == b"READ".as_slice() {
-        LineSays::Opens(deck(operands))
+        Ok(LineSays::Opens(deck(operands)))
     } else if word == b"TURN".as_slice() {
-        LineSays::One(turns(operands))
+        Ok(LineSays::One(turns(operands)))
     } else if word == b"DEV".as_slice() {
-        LineSays::One(device_end(operands))
+        Ok(LineSays::One(device_end(operands)))
     } else if word == b"WRITE".as_slice() {
-        LineSays::One(writes(operands))
+        Ok(LineSays::One(writes(operands)))
     } else if word == b"CANCEL".as_slice() {
-        LineSays::One(cancel(operands))
+        Ok(LineSays::One(cancel(operands)))
     } else if word == b"ZAP".as_slice() {
-        LineSays::One(zap(operands))
+        Ok(LineSays::One(zap(alloc, operands)?))
     } else if word == b"DISPLAY".as_slice() {
-        LineSays::One(display(operands))
+        Ok(LineSays::One(display(operands)))
     } else {
-        LineSays::One(Says::Refused(Fault::UnknownStatement))
+        Ok(LineSays::One(Says::Refused(Fault::UnknownStatement)))
     }
 }

@@ -52,7 +52,7 @@ fn block_in<'a>(
     let mut count = 0;
     while let Some((row, behind)) = next_line(rest, ending) {
         if row.is_end() {
-            let says = told_at_end(begun);
+            let says = told_at_end(alloc, begun)?;
             let end = Some(End { count, behind });
             return Ok(Taken { says, end });
         }
@@ -60,7 +60,7 @@ fn block_in<'a>(
         count += 1;
         rest = behind;
     }
-    let says = told_cut(alloc, ending, begun);
+    let says = told_cut(alloc, ending, begun)?;
     Ok(Taken { says, end: None })
 }
 

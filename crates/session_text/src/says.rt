@@ -1,7 +1,7 @@
 //! What a line outside a block says.
 ghost use Rattle.std.specs.Prelude.{◌≡◌, IfOk};
 ghost use Rattle.session_text.specs.Fields.{fields_of};
-ghost use Rattle.session_text.specs.Statements.{configures, initiator_of, procedure_of, says_by, says_of, unit_of};
+ghost use Rattle.session_text.specs.Statements.{initiator_of, procedure_of, says_by, says_of, unit_of};
 
 use crate::events::event_by;
 use crate::fault::Fault;
@@ -9,7 +9,7 @@ use crate::fields::{is_marked, next_field, only_field, two_fields};
 use crate::groups::group;
 use crate::programs::program;
 use crate::sets::set;
-use crate::statement::{Block, LineSays, Says};
+use crate::statement::{Block, LineSays, Says, configures};
 use crate::values::serials_in;
 use crate::volumes::volume;
 use input_core::statement::ConfigStatement;
@@ -18,17 +18,7 @@ use jname_core::name8::{Name8, UnitName};
 use plain::text::Text;
 use std::alloc::{AllocError, Global};
 
-/// Configuration on one line.
-fn configures(statement: ConfigStatement<'static>) -> Says<'static>
-    ensures { result ≡ configures statement.entry }
-{
-    Says::Config {
-        statement,
-        has_end: true,
-    }
-}
-
-fn unit(alloc: Global, operands: &[u8]) -> Result<Says<'static>, AllocError>
+fn unit<'a>(alloc: Global, operands: &[u8]) -> Result<Says<'a>, AllocError>
     ensures { IfOk result (λ s. s ≡ unit_of (fields_of operands.now)) }
 {
     let Some((name, serials)) = two_fields(operands) else {
@@ -38,12 +28,12 @@ fn unit(alloc: Global, operands: &[u8]) -> Result<Says<'static>, AllocError>
         Err(_) => Ok(Says::Refused(Fault::BadValue)),
         Ok(name) => match serials_in(alloc, serials.bytes)? {
             None => Ok(Says::Refused(Fault::BadValue)),
-            Some(serials) => Ok(configures(ConfigStatement::Unit { name, serials })),
+            Some(serials) => configures(alloc, ConfigStatement::Unit { name, serials }),
         },
     }
 }
 
-fn initiator(alloc: Global, operands: &[u8]) -> Result<Says<'static>, AllocError>
+fn initiator<'a>(alloc: Global, operands: &[u8]) -> Result<Says<'a>, AllocError>
     ensures { IfOk result (λ s. s ≡ initiator_of (fields_of operands.now)) }
 {
     let Some((number, classes)) = two_fields(operands) else {
@@ -53,7 +43,7 @@ fn initiator(alloc: Global, operands: &[u8]) -> Result<Says<'static>, AllocError
         None => Ok(Says::Refused(Fault::BadValue)),
         Some(number) => {
             let classes = Text::copy_of(alloc, classes.bytes)?;
-            Ok(configures(ConfigStatement::Initiator { number, classes }))
+            configures(alloc, ConfigStatement::Initiator { number, classes })
         }
     }
 }
@@ -70,7 +60,7 @@ fn procedure(operands: &[u8]) -> Block
     }
 }
 
-fn word_says(alloc: Global, word: &[u8], operands: &[u8]) -> Result<LineSays<'static>, AllocError>
+fn word_says<'a>(alloc: Global, word: &[u8], operands: &[u8]) -> Result<LineSays<'a>, AllocError>
     ensures { IfOk result (λ l. l ≡ says_by word.now (fields_of operands.now)) }
 {
     if word == b"VOLUME".as_slice() {
@@ -78,9 +68,9 @@ fn word_says(alloc: Global, word: &[u8], operands: &[u8]) -> Result<LineSays<'st
     } else if word == b"UNIT".as_slice() {
         Ok(LineSays::One(unit(alloc, operands)?))
     } else if word == b"GROUP".as_slice() {
-        Ok(LineSays::One(group(operands)))
+        Ok(LineSays::One(group(alloc, operands)?))
     } else if word == b"SET".as_slice() {
-        Ok(LineSays::Opens(set(alloc, operands)))
+        Ok(LineSays::Opens(set(alloc, operands)?))
     } else if word == b"PROC".as_slice() {
         Ok(LineSays::Opens(procedure(operands)))
     } else if word == b"PROGRAM".as_slice() {
@@ -88,12 +78,12 @@ fn word_says(alloc: Global, word: &[u8], operands: &[u8]) -> Result<LineSays<'st
     } else if word == b"INIT".as_slice() {
         Ok(LineSays::One(initiator(alloc, operands)?))
     } else {
-        Ok(event_by(word, operands))
+        event_by(alloc, word, operands)
     }
 }
 
 /// What a line outside a block says.
-pub(crate) fn line_says(alloc: Global, line: &[u8]) -> Result<LineSays<'static>, AllocError>
+pub(crate) fn line_says<'a>(alloc: Global, line: &[u8]) -> Result<LineSays<'a>, AllocError>
     ensures { IfOk result (λ l. l ≡ says_of line.now) }
 {
     let Some((_, behind)) = next_field(line) else {

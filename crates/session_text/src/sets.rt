@@ -1,5 +1,5 @@
 //! A set that is there at the start: its line, and its records.
-ghost use Rattle.std.specs.Prelude.{◌≡◌, ◌≤◌, length, not};
+ghost use Rattle.std.specs.Prelude.{◌≡◌, ◌≤◌, IfOk, length, not};
 ghost use Rattle.std.specs.List.{list_any};
 ghost use Rattle.jname_core.specs.Characters.{is_between};
 ghost use Rattle.session_text.specs.Fields.{fields_of};
@@ -10,13 +10,14 @@ use crate::fault::Fault;
 use crate::fields::{flag_in, next_field};
 use crate::statement::Block;
 use crate::values::{serial_in, set_name_in};
+use input_core::boxed::Boxed;
 use input_core::statement::SetStatement;
 use jcl_plan::plan::Record;
 use jname_core::decimal::number_within;
 use jname_core::ds_name::DsName;
 use jname_core::serial::Serial;
 use plain::listed::Listed;
-use std::alloc::Global;
+use std::alloc::{AllocError, Global};
 
 const COLUMNS: usize = 80;
 
@@ -54,42 +55,45 @@ fn with_values(
     serial: Option<Serial>,
     tracks: Option<u16>,
     catalogued: Option<bool>,
-) -> Block
-    ensures { result ≡ set_with name serial tracks catalogued }
+) -> Result<Block, AllocError>
+    ensures { IfOk result (λ b. b ≡ set_with name serial tracks catalogued) }
 {
     let Some(name) = name else {
-        return Block::Faulty(Fault::BadValue);
+        return Ok(Block::Faulty(Fault::BadValue));
     };
     let Some(serial) = serial else {
-        return Block::Faulty(Fault::BadValue);
+        return Ok(Block::Faulty(Fault::BadValue));
     };
     let Some(tracks) = tracks else {
-        return Block::Faulty(Fault::BadValue);
+        return Ok(Block::Faulty(Fault::BadValue));
     };
     match catalogued {
-        None => Block::Faulty(Fault::BadValue),
-        Some(catalogued) => Block::Set(SetStatement {
-            name,
-            serial,
-            tracks,
-            catalogued,
-            records: Listed::empty(alloc),
-        }),
+        None => Ok(Block::Faulty(Fault::BadValue)),
+        Some(catalogued) => {
+            let set = SetStatement {
+                name,
+                serial,
+                tracks,
+                catalogued,
+                records: Listed::empty(alloc),
+            };
+            Ok(Block::Set(Boxed::new(alloc, set)?))
+        }
     }
 }
 
 /// A set on a volume, its tracks, and whether it is catalogued.
-pub(crate) fn set(alloc: Global, operands: &[u8]) -> Block
-    ensures { result ≡ set_of (fields_of operands.now) }
+pub(crate) fn set(alloc: Global, operands: &[u8]) -> Result<Block, AllocError>
+    ensures { IfOk result (λ b. b ≡ set_of (fields_of operands.now)) }
 {
     let Some((name, behind)) = next_field(operands) else {
-        return Block::Faulty(Fault::BadValue);
+        return Ok(Block::Faulty(Fault::BadValue));
     };
     let Some((serial, behind_serial)) = next_field(behind) else {
-        return Block::Faulty(Fault::BadValue);
+        return Ok(Block::Faulty(Fault::BadValue));
     };
     let Some((tracks, rest)) = next_field(behind_serial) else {
-        return Block::Faulty(Fault::BadValue);
+        return Ok(Block::Faulty(Fault::BadValue));
     };
     let name = set_name_in(name.bytes);
     let serial = serial_in(serial.bytes);

@@ -1,8 +1,13 @@
 //! The statements of a session.
+ghost use Rattle.std.specs.Prelude.{◌≡◌, IfOk};
+ghost use Rattle.session_text.specs.Statements.{configures};
+
 use crate::fault::Fault;
+use input_core::boxed::Boxed;
 use input_core::event::Event;
 use input_core::statement::{ConfigStatement, SetStatement};
 use jname_core::name8::Name8;
+use std::alloc::{AllocError, Global};
 
 /// How a text ended: whole, or cut where it was too long or could not be read further.
 #[derive(Clone, Copy, PartialEq, Eq)]
@@ -17,7 +22,7 @@ pub enum Ending {
 pub enum Says<'a> {
     /// Configuration, and whether its block has an END; what is no block lacks none.
     Config {
-        statement: ConfigStatement<'a>,
+        statement: Boxed<ConfigStatement<'a>>,
         has_end: bool,
     },
     /// An event, so many times over.
@@ -41,7 +46,7 @@ pub enum Block {
     /// A procedure of the library.
     Procedure(Name8),
     /// A set, without records yet.
-    Set(SetStatement),
+    Set(Boxed<SetStatement>),
     Program(Name8),
     /// The line has a fault of its own.
     Faulty(Fault),
@@ -54,4 +59,17 @@ pub enum LineSays<'a> {
     One(Says<'a>),
     /// It opens a block.
     Opens(Block),
+}
+
+/// Configuration on one line.
+pub(crate) fn configures<'a>(
+    alloc: Global,
+    statement: ConfigStatement<'a>,
+) -> Result<Says<'a>, AllocError>
+    ensures { IfOk result (λ s. s ≡ configures statement.entry) }
+{
+    Ok(Says::Config {
+        statement: Boxed::new(alloc, statement)?,
+        has_end: true,
+    })
 }

@@ -6,7 +6,7 @@ ghost use Rattle.session_text.specs.Volumes.{extent_of, extent_with, extents_in,
 
 use crate::fault::Fault;
 use crate::fields::{next_field, only_field};
-use crate::statement::Says;
+use crate::statement::{Says, configures};
 use crate::values::{comma_in, serial_in};
 use extent_core::extent::Extent;
 use input_core::statement::ConfigStatement;
@@ -113,34 +113,35 @@ fn used_in(alloc: Global, text: &[u8]) -> Result<Option<Listed<Extent>>, AllocEr
     }
 }
 
-fn with_values(
+fn with_values<'a>(
+    alloc: Global,
     serial: Option<Serial>,
     tracks: Option<u16>,
     used: Option<Listed<Extent>>,
-) -> Says<'static>
-    ensures { result ≡ volume_with serial tracks used }
+) -> Result<Says<'a>, AllocError>
+    ensures { IfOk result (λ s. s ≡ volume_with serial tracks used) }
 {
     let Some(serial) = serial else {
-        return Says::Refused(Fault::BadValue);
+        return Ok(Says::Refused(Fault::BadValue));
     };
     let Some(tracks) = tracks else {
-        return Says::Refused(Fault::BadValue);
+        return Ok(Says::Refused(Fault::BadValue));
     };
     match used {
-        None => Says::Refused(Fault::BadValue),
-        Some(used) => Says::Config {
-            statement: ConfigStatement::Volume {
+        None => Ok(Says::Refused(Fault::BadValue)),
+        Some(used) => configures(
+            alloc,
+            ConfigStatement::Volume {
                 serial,
                 tracks,
                 used,
             },
-            has_end: true,
-        },
+        ),
     }
 }
 
 /// A volume, its tracks, and those that are never free.
-pub(crate) fn volume(alloc: Global, operands: &[u8]) -> Result<Says<'static>, AllocError>
+pub(crate) fn volume<'a>(alloc: Global, operands: &[u8]) -> Result<Says<'a>, AllocError>
     ensures { IfOk result (λ s. s ≡ volume_of (fields_of operands.now)) }
 {
     let Some((serial, behind)) = next_field(operands) else {
@@ -151,5 +152,6 @@ pub(crate) fn volume(alloc: Global, operands: &[u8]) -> Result<Says<'static>, Al
     };
     let serial = serial_in(serial.bytes);
     let tracks = number_within(0, u16::MAX, tracks.bytes);
-    Ok(with_values(serial, tracks, used_in(alloc, rest)?))
+    let used = used_in(alloc, rest)?;
+    with_values(alloc, serial, tracks, used)
 }

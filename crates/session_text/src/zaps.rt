@@ -1,5 +1,5 @@
 //! The line that writes into a record.
-ghost use Rattle.std.specs.Prelude.{◌≡◌, ◌∷◌, [], IfNone, IfSome};
+ghost use Rattle.std.specs.Prelude.{◌≡◌, ◌∷◌, [], IfNone, IfOk, IfSome};
 ghost use Rattle.cb_meaning.specs.declared.layout.TheConstants.{LAYOUT_1, RECORD_BYTES};
 ghost use Rattle.input_core.specs.declared.event.TheConstants.{FIRST_OPEN};
 ghost use Rattle.jname_core.specs.Decimals.{number_within};
@@ -14,9 +14,11 @@ use crate::lines::Row;
 use crate::statement::Says;
 use crate::values::comma_in;
 use cb_meaning::layout::{LAYOUT_1, RECORD_BYTES};
+use input_core::boxed::Boxed;
 use input_core::event::{Event, FIRST_OPEN, MOST_ZAPPED};
 use jname_core::decimal::number_within;
 use plain::short::Short;
+use std::alloc::{AllocError, Global};
 
 /// The part before the first comma, and what stands behind that.
 fn next_part<'a>(text: &'a [u8]) -> Option<(Row<'a>, &'a [u8])>
@@ -86,53 +88,58 @@ fn bytes_in(digits: &[u8]) -> Option<Short<MOST_ZAPPED>>
 }
 
 /// These bytes from this offset on, where they are some and end within the record.
-fn zap_within(number: u32, offset: u8, bytes: Short<MOST_ZAPPED>) -> Says<'static>
-    ensures { result ≡ zap_within number offset bytes }
+fn zap_within<'a>(
+    alloc: Global,
+    number: u32,
+    offset: u8,
+    bytes: Short<MOST_ZAPPED>,
+) -> Result<Says<'a>, AllocError>
+    ensures { IfOk result (λ s. s ≡ zap_within number offset bytes) }
 {
     let count = bytes.as_slice().len();
     if 1 <= count && usize::from(offset) + count <= RECORD_BYTES {
-        Says::Events(
-            Event::Zap {
-                record: number,
-                offset,
-                bytes,
-            },
-            1,
-        )
+        let zap = Event::Zap {
+            record: number,
+            offset,
+            bytes: Boxed::new(alloc, bytes)?,
+        };
+        Ok(Says::Events(zap, 1))
     } else {
-        Says::Refused(Fault::BadValue)
+        Ok(Says::Refused(Fault::BadValue))
     }
 }
 
-fn zap_with(
+fn zap_with<'a>(
+    alloc: Global,
     number: Option<u32>,
     offset: Option<u8>,
     bytes: Option<Short<MOST_ZAPPED>>,
-) -> Says<'static>
-    ensures { result ≡ zap_with number offset bytes }
+) -> Result<Says<'a>, AllocError>
+    ensures { IfOk result (λ s. s ≡ zap_with number offset bytes) }
 {
     let Some(number) = number else {
-        return Says::Refused(Fault::BadValue);
+        return Ok(Says::Refused(Fault::BadValue));
     };
     let Some(offset) = offset else {
-        return Says::Refused(Fault::BadValue);
+        return Ok(Says::Refused(Fault::BadValue));
     };
     match bytes {
-        None => Says::Refused(Fault::BadValue),
-        Some(bytes) => zap_within(number, offset, bytes),
+        None => Ok(Says::Refused(Fault::BadValue)),
+        Some(bytes) => zap_within(alloc, number, offset, bytes),
     }
 }
 
 /// One to 32 bytes of one record, from an offset on. Refused where a part is no such value, or where the bytes go past the record.
-pub(crate) fn zap(operands: &[u8]) -> Says<'static>
-    ensures { result ≡ zap_of (fields_of operands.now) }
+pub(crate) fn zap<'a>(alloc: Global, operands: &[u8]) -> Result<Says<'a>, AllocError>
+    ensures { IfOk result (λ s. s ≡ zap_of (fields_of operands.now)) }
 {
     let Some(operand) = only_field(operands) else {
-        return Says::Refused(Fault::BadValue);
+        return Ok(Says::Refused(Fault::BadValue));
     };
     match three_parts(operand.bytes) {
-        None => Says::Refused(Fault::BadValue),
+        None => Ok(Says::Refused(Fault::BadValue)),
         Some((number, offset, digits)) => zap_with(
+            alloc,
             record_in(number.bytes),
             offset_in(offset.bytes),
             bytes_in(digits.bytes),

@@ -11,7 +11,7 @@ use Rattle.session_text.proofs.parse.block_in.Goals as goal
 
 pub returns-then-is_end-clause-says : goal.returns-then-is_end-clause-says
 returns-then-is_end-clause-says c =
-    c.told_at_end-says.ensures ∙ ap told_at_end c.loop-row.invariant.front
+    c.in_ok-says.ensures ∙ ap told_at_end c.loop-row.invariant.front
     ∙ taken_says c.args.block.now (take c.loop-row.count (lines_of c.args.ending c.args.text.now))
 
 pub returns-clause-left : goal.returns-clause-left
@@ -19,7 +19,7 @@ returns-clause-left c =
     let rows = lines_of c.args.ending c.args.text.now in
     let none = ap length c.in_default.ensures.none in
     let all : take c.loop-row.count rows ≡ rows = take_all c.loop-row.count rows (omega (arith, c.loop-row.invariant.all, none)) in
-    c.told_cut-says.ensures ∙ ap (told_cut c.args.ending) (c.loop-row.invariant.front ∙ ap (taken c.args.block.now) all) ∙ taken_cut c.args.ending c.args.block.now rows
+    c.in_ok-says-2.ensures ∙ ap (told_cut c.args.ending) (c.loop-row.invariant.front ∙ ap (taken c.args.block.now) all) ∙ taken_cut c.args.ending c.args.block.now rows
 
 pub returns-then-is_end-clause-behind : goal.returns-then-is_end-clause-behind
 returns-then-is_end-clause-behind c =

@@ -1,6 +1,9 @@
-use Rattle.std.proofs.Common.{◌≡◌, Some, sym, ap, ◌∙◌}
+use Rattle.std.proofs.Common.{◌≡◌, Some, sym, ap, ◌∙◌, subst}
+use Rattle.std.specs.Prelude.{IfOk}
 use Rattle.session_text.specs.Fields.{fields_of, listed_in}
 use Rattle.session_text.specs.Rows.{only_of, three_of}
+use Rattle.session_text.specs.Statements.{zap_of, zap_with}
+use Rattle.session_text.specs.declared.statement.Says.{Says}
 use Rattle.session_text.proofs.Zapped.{zap_kept}
 use Rattle.session_text.proofs.zaps.zap.Goals as goal
 
@@ -13,5 +16,7 @@ returns-in-Some-three_parts c =
     let one : only_of (fields_of c.args.operands.now) ≡ Some c.in-Some.operand = cc in
     let three : three_of (listed_in c.in-Some.operand) ≡ Some (c.in-Some-three_parts.number, c.in-Some-three_parts.offset, c.in-Some-three_parts.digits) =
     ap (λ text. three_of (listed_in text)) (sym operand_bytes) ∙ cc in
-    c.zap_with.ensures ∙ rw (c.record_in.ensures, c.offset_in.ensures, c.bytes_in.ensures, number_bytes, offset_bytes, digit_bytes)
-    (zap_kept _ _ (c.in-Some-three_parts.number, c.in-Some-three_parts.offset, c.in-Some-three_parts.digits) one three)
+    let same : zap_with c.record_in.result c.offset_in.result c.bytes_in.result ≡ zap_of (fields_of c.args.operands.now) =
+    rw (c.record_in.ensures, c.offset_in.ensures, c.bytes_in.ensures, number_bytes, offset_bytes, digit_bytes)
+    (zap_kept _ _ (c.in-Some-three_parts.number, c.in-Some-three_parts.offset, c.in-Some-three_parts.digits) one three) in
+    subst (λ (says : Says). IfOk c.zap_with.result (λ s. s ≡ says)) same c.zap_with.ensures
