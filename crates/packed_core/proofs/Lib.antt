@@ -1,3 +1,4 @@
+pub mod Unasked
 pub mod Bits
 pub mod Rows
 pub mod JoinedRows

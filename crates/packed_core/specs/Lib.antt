@@ -1,3 +1,4 @@
+pub mod Asking
 pub mod Classes
 pub mod Crossing
 pub mod Entries

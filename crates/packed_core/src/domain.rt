@@ -1,6 +1,7 @@
 //! The packed domain: the plain one, of a job that a type tells.
 ghost use Rattle.std.specs.Prelude.{◌≡◌};
 ghost use Rattle.disp_core.specs.Courses.{fixed_by};
+ghost use Rattle.packed_core.specs.Asking.{AskUpTo};
 
 use crate::job::Job;
 use std::marker::PhantomData;
@@ -10,7 +11,10 @@ use view_core::domain::PlainDomain;
 #[derive(Drop)]
 pub struct PackedDomain<'a, J: Job> {
     pub plain: PlainDomain<'a>,
+    /// No step behind so many asks for the volume of a DD.
+    pub asked: usize,
     pub job: PhantomData<J>,
     pub ghost planned: { plain.plan.now ≡ J.plan },
     pub ghost so_fixed: { fixed_by plain.given ≡ J.fixed },
+    pub ghost asking: { AskUpTo plain.plan.now.steps asked },
 }

@@ -2,6 +2,7 @@
 #![tactic(auto)]
 
 mod apart;
+pub mod asking;
 mod before;
 mod branches;
 mod classes;

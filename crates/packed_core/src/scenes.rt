@@ -13,7 +13,7 @@ use jcl_plan::day::Day;
 use jcl_plan::plan::StepPlan;
 use std::alloc::AllocError;
 use std::rc::Rc;
-use view_core::same::{drop_first, same_scene};
+use view_core::same::{drop_first, same_scene, take_first};
 use view_core::scene::Scene;
 
 /// The steps that are looked through where two scenes are compared: none if neither knows a volume for which a step could ask.
@@ -43,7 +43,8 @@ impl<'a, J: Job + Drop> PackedDomain<'a, J> {
     fn is_same(&self, part: usize, a: &Scene, b: &Scene) -> bool
         ensures { Decides result (alone J.plan J.fixed.date part a.now ≡ alone J.plan J.fixed.date part b.now) }
     {
-        let later = drop_first(self.plain.plan.steps.as_slice(), part);
+        let asking = take_first(self.plain.plan.steps.as_slice(), self.asked);
+        let later = drop_first(asking, part);
         same_before(self.plain.names, self.plain.given.date, later, a, b)
     }
 

@@ -13,6 +13,7 @@ use disp_core::course::Given;
 use jcl_meaning::names::{HeldName, names_of};
 use jcl_meaning::state::KeyMeaning;
 use jcl_plan::plan::JobPlan;
+use packed_core::asking::asking_steps;
 use packed_core::domain::PackedDomain;
 use packed_core::job::Job;
 use part_laws::start_fits;
@@ -55,6 +56,7 @@ fn analyse_holding<'a, J: Job + Drop>(
     };
     let domain: PackedDomain<'_, J> = PackedDomain {
         plain,
+        asked: asking_steps(plan.steps.as_slice()),
         job: PhantomData,
     };
     analyse_over(
