@@ -68,7 +68,24 @@ fn analyse_holding<'a, J: Job + Drop>(
     )
 }
 
-/// What may become of a job that starts so, however its steps end: by any code up to 4095, or by an ABEND.
+/// What may become of a job that starts so, however its steps end: by any code up to 4095, or by an ABEND. Its names are these, and its keys mean this.
+pub fn analyse_named(
+    alloc: Global,
+    plan: &JobPlan,
+    start: &StartView,
+    names: &[HeldName],
+    meanings: &[KeyMeaning],
+) -> Result<Verdict, AllocError>
+    requires plan { IsWellFormedPlan plan.now }
+    requires groups { HasSoundGroups (store_of start.now.store) }
+    requires names { names.now ≡ names_of plan.now }
+    requires meanings { meanings.now ≡ meanings_of (store_of start.now.store) plan.now }
+    ensures verdict { IfOk result (λ v. IsVerdict (fixed_from start.now plan.now) plan.now (store_of start.now.store) start.now.most_views v) }
+{
+    analyse_holding::<Brand>(alloc, plan, start, names, meanings)
+}
+
+/// What may become of a job that starts so.
 pub fn analyse(alloc: Global, plan: &JobPlan, start: &StartView) -> Result<Verdict, AllocError>
     requires plan { IsWellFormedPlan plan.now }
     requires groups { HasSoundGroups (store_of start.now.store) }
@@ -76,5 +93,5 @@ pub fn analyse(alloc: Global, plan: &JobPlan, start: &StartView) -> Result<Verdi
 {
     let meanings = meanings_of(alloc, plan, &start.store)?;
     let names = names_of(alloc, plan)?;
-    analyse_holding::<Brand>(alloc, plan, start, names.as_slice(), meanings.as_slice())
+    analyse_named(alloc, plan, start, names.as_slice(), meanings.as_slice())
 }

@@ -6,6 +6,7 @@ use Rattle.jcl_meaning.specs.declared.names.HeldName.{HeldName}
 use Rattle.jcl_meaning.specs.declared.state.KeyMeaning.{KeyMeaning}
 use Rattle.jcl_meaning.specs.declared.state.Place.{Place}
 use Rattle.jcl_meaning.specs.Names.{names_of}
+use Rattle.jcl_meaning.specs.Resolutions.{meanings_of}
 use Rattle.jcl_meaning.specs.Solo.{fixed_in, fixed_with}
 use Rattle.jcl_meaning.specs.Stores.{Store}
 use Rattle.jcl_meaning.specs.WellFormed.{IsWellFormedPlan}
@@ -57,6 +58,12 @@ module _ (means : MeaningsAreSeen) (free : FreeIsSeen) (earliest : EarliestIsSee
     found_so : (explains : Bool) (f : Finding) → IsFound (fixed_in volumes t plan places date) plan t limit explains f →
         IsFound (fixed_in volumes s plan places date) plan s limit explains f
     found_so explains f h = record { verdict = seen_so f.verdict h.verdict; path = h.path ∙ same_path explains f.verdict }
+
+  -- its keys mean the same on the copy
+  pub meant : (names : List HeldName) (meanings : List KeyMeaning) → names ≡ names_of plan → ShowsSets names s t → ShowsEntries names s t →
+      meanings ≡ meanings_of s plan → meanings ≡ meanings_of t plan
+  meant names meanings of_plan sets entries is = is ∙ sym (means plan date t s
+      (same [] [] (subst (λ ns. ShowsSets ns s t) of_plan sets) (subst (λ ns. ShowsEntries ns s t) of_plan entries)))
 
   -- with what the code found: these names, a copy of the places, and the volumes of the copy
   pub judged : {E : Type 0} (names : List HeldName) (volumes its_volumes : List (List ℕ)) (places its_places : List Place) (explains : Bool) →

@@ -51,6 +51,7 @@ pub fn judge(
         job,
         plan,
         places.as_slice(),
+        meanings.as_slice(),
         date,
         most_views,
         explains,

@@ -1,5 +1,7 @@
 //! What may become of a job in the store of all jobs.
 ghost use Rattle.std.specs.Prelude.{◌≡◌, IfOk};
+ghost use Rattle.jcl_meaning.specs.Names.{names_of};
+ghost use Rattle.jcl_meaning.specs.Resolutions.{meanings_of};
 ghost use Rattle.jcl_meaning.specs.Solo.{fixed_in};
 ghost use Rattle.jcl_meaning.specs.WellFormed.{IsWellFormedPlan};
 ghost use Rattle.part_laws.specs.Keeping.{HasSoundGroups};
@@ -10,14 +12,14 @@ ghost use Rattle.shared_core.specs.Shown.{world_store_of};
 ghost use Rattle.verdict_core.specs.Judging.{IsFound, path_of};
 ghost use Rattle.world_meaning.specs.Lenses.{seen};
 
-use jcl_meaning::names::names_of;
-use jcl_meaning::state::Place;
+use jcl_meaning::names::{HeldName, names_of};
+use jcl_meaning::state::{KeyMeaning, Place};
 use jcl_plan::day::Day;
 use jcl_plan::entry::JobLine;
 use jcl_plan::plan::JobPlan;
 use part_core::part::part_of;
 use part_laws::start_fits;
-use path_core::analyse::analyse;
+use path_core::analyse::analyse_named;
 use path_core::explain::path_lines;
 use path_core::start::StartView;
 use path_search::verdict::Verdict;
@@ -55,23 +57,27 @@ fn path_to(
     }
 }
 
-/// What may become of a job that starts so.
+/// What may become of a job that starts so, whose names are these, and whose keys mean this.
 fn find(
     alloc: Global,
     plan: &JobPlan,
     start: &StartView,
+    names: &[HeldName],
+    meanings: &[KeyMeaning],
     explains: bool,
 ) -> Result<Finding, AllocError>
     requires plan { IsWellFormedPlan plan.now }
     requires groups { HasSoundGroups (store_of start.now.store) }
+    requires names { names.now ≡ names_of plan.now }
+    requires meanings { meanings.now ≡ meanings_of (store_of start.now.store) plan.now }
     ensures { IfOk result (IsFound (fixed_from start.now plan.now) plan.now (store_of start.now.store) start.now.most_views explains) }
 {
-    let verdict = analyse(alloc, plan, start)?;
+    let verdict = analyse_named(alloc, plan, start, names, meanings)?;
     let path = path_to(alloc, plan, start, &verdict, explains)?;
     Ok(Finding { verdict, path })
 }
 
-/// What may become of a job in the store as it sees it, where its sets are placed so, on a date, with this many views behind a step at most. It is found
+/// What may become of a job in the store as it sees it, where its sets are placed so and its keys mean this, on a date, with this many views behind a step at most. It is found
 /// on a copy of what stands under the job's names; the store is as it was.
 pub fn verdict_in(
     alloc: Global,
@@ -79,12 +85,14 @@ pub fn verdict_in(
     job: u16,
     plan: &JobPlan,
     places: &[Place],
+    meanings: &[KeyMeaning],
     date: Day,
     most_views: usize,
     explains: bool,
 ) -> Result<Finding, AllocError>
     requires plan { IsWellFormedPlan plan.now }
     requires groups { HasSoundGroups (seen job (world_store_of store.now)) }
+    requires meanings { meanings.now ≡ meanings_of (seen job (world_store_of store.now)) plan.now }
     ensures { IfOk result (IsFound (fixed_in (serials_of store.now.volumes) (seen job (world_store_of store.now)) plan.now places.now date) plan.now
         (seen job (world_store_of store.now)) most_views explains) }
 {
@@ -103,5 +111,5 @@ pub fn verdict_in(
         date,
         most_views,
     };
-    find(alloc, plan, &start, explains)
+    find(alloc, plan, &start, names.as_slice(), meanings, explains)
 }

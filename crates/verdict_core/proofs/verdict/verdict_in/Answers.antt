@@ -3,7 +3,7 @@ use Rattle.jcl_meaning.specs.Stores.{store_of}
 use Rattle.shared_core.specs.Shown.{world_store_of}
 use Rattle.place_core.specs.Placings.{serials_of}
 use Rattle.world_meaning.specs.Lenses.{seen}
-use Rattle.verdict_core.proofs.Seen.{judged}
+use Rattle.verdict_core.proofs.Seen.{judged, meant}
 use Rattle.verdict_core.proofs.verdict.verdict_in.Goals as goal
 
 pub returns : goal.returns
@@ -13,3 +13,9 @@ returns c =
     c.as_slice.result.now (serials_of c.args.store.now.volumes) c.in_ok-part.part.volumes c.args.places.now c.in_ok-places.places c.args.explains
     (c.as_slice.ensures ∙ c.in_ok-names.ensures) c.in_ok-part.ensures.volumes c.in_ok-places.ensures c.in_ok-part.ensures.sets c.in_ok-part.ensures.catalog
     c.find.result c.find.ensures
+
+pub find-requires-clause-meanings : goal.find-requires-clause-meanings
+find-requires-clause-meanings c =
+    meant c.meanings_are_seen.ensures c.free_is_seen.ensures c.earliest_is_seen.ensures c.first_with_more_is_seen.ensures c.path_is_seen.ensures c.start_fits.ensures c.args.plan.now
+    (seen c.args.job (world_store_of c.args.store.now)) (store_of c.in_ok-part.part) c.args.date c.args.most_views c.requires.plan c.requires.groups
+    c.as_slice.result.now c.args.meanings.now (c.as_slice.ensures ∙ c.in_ok-names.ensures) c.in_ok-part.ensures.sets c.in_ok-part.ensures.catalog c.requires.meanings

@@ -1,5 +1,5 @@
 use Rattle.path_core.specs.Starts.{fixed_from}
-use Rattle.path_core.proofs.analyse.analyse.Given as goal
+use Rattle.path_core.proofs.analyse.analyse_named.Given as goal
 
 -- the job that is analysed
 abbrev pub ghosts-analyse_holding : goal.ghosts-analyse_holding
