@@ -35,7 +35,7 @@ use shared_core::sums::volumes_add_up;
 use std::alloc::{AllocError, Global};
 use turn_core::laws::{acts_advance, ends_advance, few_lines, waits_advance};
 use turn_core::turn::turn;
-use turn_core::walk::{Acted, Turned, Walk};
+use turn_core::walk::{Acted, Setting, Turned, Walk};
 
 /// What is fixed for an admitted job.
 fn given<'a>(profile: &Profile<'a>, plan: &'a JobPlan, admission: &'a Admission) -> Given<'a>
@@ -73,18 +73,14 @@ fn take_turn(
     kept_is_spent();
     tracks_are_conserved();
     volumes_add_up(&*store);
-    let given = given(profile, plan, admission);
-    let told = turn(
-        alloc,
-        plan,
-        profile.programs,
-        store,
+    let setting = Setting {
+        programs: profile.programs,
         units,
         job,
-        &given,
-        walk,
+        given: given(profile, plan, admission),
         cancelled,
-    );
+    };
+    let told = turn(alloc, plan, &setting, store, walk);
     volumes_add_up(&*store);
     told
 }

@@ -15,12 +15,12 @@ use Rattle.prog_core.specs.Operations.{is_busy, without_owner}
 use Rattle.disp_core.specs.Courses.{fixed_by}
 use Rattle.disp_core.specs.Grants.{made_of}
 use Rattle.disp_core.specs.declared.course.Course.{Course}
-use Rattle.disp_core.specs.declared.course.Given.{Given}
 use Rattle.world_meaning.specs.Turns.{Advanced, advance, answers_due, is_cancelled, must_wait, operations_after, state_in}
 use Rattle.turn_core.specs.Ending.{ended_at}
 use Rattle.turn_core.specs.Passing.{is_idle}
 use Rattle.turn_core.specs.Performing.{StoreAnswers, growth_by, primary_by}
 use Rattle.turn_core.specs.declared.walk.Acted.{Acted}
+use Rattle.turn_core.specs.declared.walk.Setting.{Setting}
 use Rattle.turn_core.specs.declared.walk.Turned.{Turned}
 use Rattle.turn_core.specs.declared.walk.Turned.TheVariants as turned
 
@@ -35,14 +35,14 @@ pub record Around : Type 0 where
   pub cancel : Bool
   pub grants : StoreAnswers
 
-abbrev pub around_of : List SoloProgram → List StepPlan → Given → List Operation → ℕ → Bool → StoreAnswers → Around
-around_of programs steps given operations job cancel grants = record {
-  programs = programs;
+abbrev pub around_of : Setting → List StepPlan → StoreAnswers → Around
+around_of s steps grants = record {
+  programs = s.programs.now;
   steps = steps;
-  fixed = fixed_by given;
-  operations = operations;
-  job = job;
-  cancel = cancel;
+  fixed = fixed_by s.given;
+  operations = s.units.now;
+  job = s.job;
+  cancel = s.cancelled;
   grants = grants;
 }
 

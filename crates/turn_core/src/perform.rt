@@ -7,11 +7,11 @@ ghost use Rattle.turn_core.specs.Performing.{Performs};
 ghost use Rattle.turn_core.specs.Places.{IsCounted, IsOfStep, action_of};
 
 use crate::todo::Task;
-use disp_core::course::{Course, Given};
+use crate::walk::Setting;
+use disp_core::course::Course;
 use disp_core::site::Site;
 use disp_core::{dispose, step, take};
 use jcl_meaning::state::Place;
-use prog_core::library::ProgramLibrary;
 use request_core::{ask, request};
 use std::alloc::{AllocError, Global};
 use store_core::job_store::JobStore;
@@ -19,21 +19,22 @@ use store_core::job_store::JobStore;
 /// Carries an action out, with the answers of the store; it tells where it made a set. An `Err` changes nothing.
 pub(crate) fn perform<S: JobStore>(
     alloc: Global,
-    programs: &ProgramLibrary,
+    setting: &Setting<'_>,
     store: &mut S,
-    job: u16,
-    given: &Given,
     course: &mut Course,
     task: &Task,
-    cancelled: bool,
 ) -> Result<Option<Place>, AllocError>
     requires { IsCounted task.now }
     ensures ok { IfOk result (λ made. (steps : List StepPlan) → IsOfStep steps task.now →
-        Performs programs.now steps (record { new = S.grants_new job store.old; growth = S.grants_growth job store.old }) cancelled (fixed_by given.now)
-        (action_of task.now) (S.seen job store.old) course.old (S.seen job store.new) course.new made) }
-    ensures rest { IfOk result (λ made. S.rest job store.new ≡ S.spent job (made_of made) (S.rest job store.old)) }
+        Performs setting.now.programs.now steps (record { new = S.grants_new setting.now.job store.old; growth = S.grants_growth setting.now.job store.old })
+        setting.now.cancelled (fixed_by setting.now.given) (action_of task.now)
+        (S.seen setting.now.job store.old) course.old (S.seen setting.now.job store.new) course.new made) }
+    ensures rest { IfOk result (λ made. S.rest setting.now.job store.new ≡ S.spent setting.now.job (made_of made) (S.rest setting.now.job store.old)) }
     ensures err { OnErr result ((store.new ≡ store.old) × (course.new ≡ course.old)) }
 {
+    let job = setting.job;
+    let given = &setting.given;
+    let cancelled = setting.cancelled;
     match task {
         Task::Start { n, step } => {
             step::begin(given, course, *n, step)?;
@@ -58,7 +59,7 @@ pub(crate) fn perform<S: JobStore>(
             Ok(None)
         }
         Task::Finish { n, step } => {
-            let outcome = programs.ending_of(&step.program);
+            let outcome = setting.programs.ending_of(&step.program);
             step::finish(alloc, course, *n, &outcome, cancelled)?;
             Ok(None)
         }

@@ -16,52 +16,37 @@ use crate::perform::perform;
 use crate::said::{is_cancelled_from, started_from};
 use crate::todo::{Next, Task, Todo};
 use crate::wait::must_wait;
-use crate::walk::{Acted, Turned, Walk};
-use disp_core::course::Given;
+use crate::walk::{Acted, Setting, Turned, Walk};
 use jcl_plan::plan::JobPlan;
-use prog_core::library::ProgramLibrary;
-use prog_core::units::Units;
 use std::alloc::{AllocError, Global};
 use store_core::job_store::JobStore;
 
 /// Carries out an action that writes, unless it must wait. An `Err` changes nothing.
 fn turn_at<S: JobStore>(
     alloc: Global,
-    programs: &ProgramLibrary,
+    setting: &Setting<'_>,
     store: &mut S,
-    units: &Units,
-    job: u16,
-    given: &Given,
     walk: &mut Walk,
     task: &Task,
     behind: Todo,
-    cancelled: bool,
 ) -> Result<Turned, AllocError>
     requires counted { IsCounted task.now }
     requires writes { is_idle (action_of task.now) walk.old.course.own ≡ false }
     requires goes_on { ended_at (action_of task.now) walk.old.course.own ≡ None }
     ensures ok { IfOk result (λ told. (steps : List StepPlan) (actions : List Action) → IsOfStep steps task.now → Tells
-        (around_of programs.now steps given.now units.now job cancelled (record { new = S.grants_new job store.old; growth = S.grants_growth job store.old }))
-        (action_of task.now ∷ actions) (S.seen job store.old) walk.old.course (S.seen job store.new) walk.new.course actions told) }
+        (around_of setting.now steps (record { new = S.grants_new setting.now.job store.old; growth = S.grants_growth setting.now.job store.old }))
+        (action_of task.now ∷ actions) (S.seen setting.now.job store.old) walk.old.course (S.seen setting.now.job store.new) walk.new.course actions told) }
     ensures place { IfOk result (λ told. acts told ≡ true → walk.new.todo ≡ behind) }
     ensures kept { IfOk result (λ told. acts told ≡ false → (store.new ≡ store.old) × (walk.new ≡ walk.old)) }
-    ensures rest { IfOk result (λ told. S.rest job store.new ≡ S.spent job (made_of (made_in told)) (S.rest job store.old)) }
+    ensures rest { IfOk result (λ told. S.rest setting.now.job store.new ≡
+        S.spent setting.now.job (made_of (made_in told)) (S.rest setting.now.job store.old)) }
     ensures err { OnErr result ((store.new ≡ store.old) × (walk.new ≡ walk.old)) }
 {
-    if must_wait(&*store, units, job, &walk.course.own, task, cancelled) {
+    if must_wait(setting, &*store, &walk.course.own, task) {
         return Ok(Turned::Waits);
     }
     let said = walk.course.lines.len();
-    let made = perform(
-        alloc,
-        programs,
-        store,
-        job,
-        given,
-        &mut walk.course,
-        task,
-        cancelled,
-    )?;
+    let made = perform(alloc, setting, store, &mut walk.course, task)?;
     walk.todo = behind;
     let lines = walk.course.lines.as_slice();
     Ok(Turned::Acts(Acted {
@@ -84,36 +69,34 @@ fn go_back(walk: &mut Walk, place: Todo, before: BeforeEnd)
 fn turn_from<S: JobStore>(
     alloc: Global,
     plan: &JobPlan,
-    programs: &ProgramLibrary,
+    setting: &Setting<'_>,
     store: &mut S,
-    units: &Units,
-    job: u16,
-    given: &Given,
     walk: &mut Walk,
-    cancelled: bool,
 ) -> Result<Turned, AllocError>
     ensures ok { IfOk result (Tells
-        (around_of programs.now plan.now.steps given.now units.now job cancelled (record { new = S.grants_new job store.old; growth = S.grants_growth job store.old }))
-        (agenda_at (moves_of programs.now) plan.now.steps walk.old.todo) (S.seen job store.old) walk.old.course (S.seen job store.new) walk.new.course
-        (agenda_at (moves_of programs.now) plan.now.steps walk.new.todo)) }
+        (around_of setting.now plan.now.steps (record { new = S.grants_new setting.now.job store.old; growth = S.grants_growth setting.now.job store.old }))
+        (agenda_at (moves_of setting.now.programs.now) plan.now.steps walk.old.todo) (S.seen setting.now.job store.old) walk.old.course (S.seen setting.now.job store.new) walk.new.course
+        (agenda_at (moves_of setting.now.programs.now) plan.now.steps walk.new.todo)) }
     ensures kept { IfOk result (λ told. acts told ≡ false → (store.new ≡ store.old) × (walk.new ≡ walk.old)) }
-    ensures rest { IfOk result (λ told. S.rest job store.new ≡ S.spent job (made_of (made_in told)) (S.rest job store.old)) }
+    ensures rest { IfOk result (λ told. S.rest setting.now.job store.new ≡
+        S.spent setting.now.job (made_of (made_in told)) (S.rest setting.now.job store.old)) }
     ensures err { OnErr result ((store.new ≡ store.old) × (walk.new ≡ walk.old)) }
 {
-    match find(plan.steps.as_slice(), programs, &walk.course.own, walk.todo) {
+    match find(
+        plan.steps.as_slice(),
+        setting.programs,
+        &walk.course.own,
+        walk.todo,
+    ) {
         Next::Over => Ok(Turned::Ends),
         Next::Does(task, behind) => match ended_step(&task, &walk.course.own) {
-            None => turn_at(
-                alloc, programs, store, units, job, given, walk, &task, behind, cancelled,
-            ),
+            None => turn_at(alloc, setting, store, walk, &task, behind),
             Some(n) => {
                 let place = walk.todo;
                 let before = before_end(&walk.course.own)?;
                 end_step(alloc, &mut walk.course, n)?;
                 walk.todo = behind;
-                match turn_from(
-                    alloc, plan, programs, store, units, job, given, walk, cancelled,
-                ) {
+                match turn_from(alloc, plan, setting, store, walk) {
                     Ok(Turned::Acts(acted)) => Ok(Turned::Acts(acted)),
                     Ok(Turned::Waits) => {
                         go_back(walk, place, before);
@@ -138,23 +121,18 @@ fn turn_from<S: JobStore>(
 pub fn turn<S: JobStore>(
     alloc: Global,
     plan: &JobPlan,
-    programs: &ProgramLibrary,
+    setting: &Setting<'_>,
     store: &mut S,
-    units: &Units,
-    job: u16,
-    given: &Given,
     walk: &mut Walk,
-    cancelled: bool,
 ) -> Result<Turned, AllocError>
-    requires { Stands plan.now programs.now walk.old.todo }
+    requires { Stands plan.now setting.now.programs.now walk.old.todo }
     ensures ok { IfOk result (TellsJob
-        (around_of programs.now plan.now.steps given.now units.now job cancelled (record { new = S.grants_new job store.old; growth = S.grants_growth job store.old }))
-        plan.now (S.seen job store.old) walk.old (S.seen job store.new) walk.new) }
+        (around_of setting.now plan.now.steps (record { new = S.grants_new setting.now.job store.old; growth = S.grants_growth setting.now.job store.old }))
+        plan.now (S.seen setting.now.job store.old) walk.old (S.seen setting.now.job store.new) walk.new) }
     ensures kept { IfOk result (λ told. acts told ≡ false → (store.new ≡ store.old) × (walk.new ≡ walk.old)) }
-    ensures rest { IfOk result (λ told. S.rest job store.new ≡ S.spent job (made_of (made_in told)) (S.rest job store.old)) }
+    ensures rest { IfOk result (λ told. S.rest setting.now.job store.new ≡
+        S.spent setting.now.job (made_of (made_in told)) (S.rest setting.now.job store.old)) }
     ensures err { OnErr result ((store.new ≡ store.old) × (walk.new ≡ walk.old)) }
 {
-    turn_from(
-        alloc, plan, programs, store, units, job, given, walk, cancelled,
-    )
+    turn_from(alloc, plan, setting, store, walk)
 }

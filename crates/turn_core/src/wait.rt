@@ -7,6 +7,7 @@ ghost use Rattle.turn_core.specs.Waiting.{waits_at};
 
 use crate::todo::Task;
 use crate::volume::volume_asked_for;
+use crate::walk::Setting;
 use jcl_meaning::program::Move;
 use jcl_meaning::state::Own;
 use jcl_plan::plan::StepPlan;
@@ -26,22 +27,21 @@ fn is_busy(units: &Units, serial: &Option<Serial>) -> bool
 
 /// Whether a request waits for its volume.
 fn asks_of_busy<S: JobStore>(
+    setting: &Setting<'_>,
     store: &S,
-    units: &Units,
-    job: u16,
     own: &Own,
     step: &StepPlan,
     wants: &Move,
-    cancelled: bool,
 ) -> bool
-    ensures { result ≡ waits_at units.now job cancelled (Ask step.now wants.now) (S.seen job store.now) own.now }
+    ensures { result ≡ waits_at setting.now.units.now setting.now.job setting.now.cancelled (Ask step.now wants.now)
+        (S.seen setting.now.job store.now) own.now }
 {
-    if cancelled {
+    if setting.cancelled {
         return false;
     }
     is_busy(
-        units,
-        &volume_asked_for(store, job, step, wants, own.dds.as_slice()),
+        setting.units,
+        &volume_asked_for(store, setting.job, step, wants, own.dds.as_slice()),
     )
 }
 
@@ -54,20 +54,19 @@ fn has_operation(units: &Units, job: u16) -> bool
 
 /// Whether an action must wait.
 pub(crate) fn must_wait<S: JobStore>(
+    setting: &Setting<'_>,
     store: &S,
-    units: &Units,
-    job: u16,
     own: &Own,
     task: &Task,
-    cancelled: bool,
 ) -> bool
-    ensures { result ≡ waits_at units.now job cancelled (action_of task.now) (S.seen job store.now) own.now }
+    ensures { result ≡ waits_at setting.now.units.now setting.now.job setting.now.cancelled (action_of task.now)
+        (S.seen setting.now.job store.now) own.now }
 {
     match task {
         Task::Start { .. } => false,
         Task::Take { .. } => false,
-        Task::Ask { step, wants } => asks_of_busy(store, units, job, own, step, wants, cancelled),
-        Task::Receive => !cancelled && has_operation(units, job),
+        Task::Ask { step, wants } => asks_of_busy(setting, store, own, step, wants),
+        Task::Receive => !setting.cancelled && has_operation(setting.units, setting.job),
         Task::Finish { .. } => false,
         Task::Dispose { .. } => false,
         Task::Left { .. } => false,

@@ -7,11 +7,13 @@ ghost use Rattle.turn_core.specs.Standing.{Stands, count_at};
 ghost use Rattle.turn_core.specs.declared.todo.Todo.TheVariants as todo;
 
 use crate::todo::Todo;
-use disp_core::course::Course;
+use disp_core::course::{Course, Given};
 use jcl_meaning::state::{Place, nothing_own};
 use jcl_plan::entry::JobLine;
 use jname_core::serial::Serial;
 use plain::listed::Listed;
+use prog_core::library::ProgramLibrary;
+use prog_core::units::Units;
 use std::alloc::Global;
 
 /// How far a job is: what it does next, its own part, and the lines of its listing so far.
@@ -19,6 +21,16 @@ use std::alloc::Global;
 pub struct Walk {
     pub todo: Todo,
     pub course: Course,
+}
+
+/// What a job's turn goes by: the programs, the operations under way, the job's number, what is fixed for it, and whether a cancel is to act.
+#[derive(Clone, Copy)]
+pub struct Setting<'a> {
+    pub programs: &'a ProgramLibrary,
+    pub units: &'a Units,
+    pub job: u16,
+    pub given: Given<'a>,
+    pub cancelled: bool,
 }
 
 /// What is to be done for a job whose turn wrote lines.

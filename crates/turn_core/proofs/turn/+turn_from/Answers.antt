@@ -14,7 +14,7 @@ use Rattle.turn_core.proofs.turn.+turn_from.Goals as goal
 
 pub turn_from-requires : goal.turn_from-requires
 turn_from-requires g t c =
-    let moves = moves_of c.args.programs.now in
+    let moves = moves_of c.args.setting.now.programs.now in
     let steps = c.args.plan.now.steps in
     let before = c.args.walk.now.course in
     let from = agenda_at moves steps c.args.walk.now.todo in
@@ -27,17 +27,17 @@ turn_from-requires g t c =
 pub returns-in-Over-clause-ok : goal.returns-in-Over-clause-ok
 returns-in-Over-clause-ok g t c = λ count.
     let w : Around = record {
-      programs = c.args.programs.now;
+      programs = c.args.setting.now.programs.now;
       steps = c.args.plan.now.steps;
-      fixed = fixed_by c.args.given.now;
-      operations = c.args.units.now;
-      job = c.args.job;
-      cancel = c.args.cancelled;
-      grants = record { new = g.S.JobStore.grants_new c.args.job c.args.store.now; growth = g.S.JobStore.grants_growth c.args.job c.args.store.now };
+      fixed = fixed_by c.args.setting.now.given;
+      operations = c.args.setting.now.units.now;
+      job = c.args.setting.now.job;
+      cancel = c.args.setting.now.cancelled;
+      grants = record { new = g.S.JobStore.grants_new c.args.setting.now.job c.args.store.now; growth = g.S.JobStore.grants_growth c.args.setting.now.job c.args.store.now };
     } in
-    let moves = moves_of c.args.programs.now in
+    let moves = moves_of c.args.setting.now.programs.now in
     let steps = c.args.plan.now.steps in
-    let seen = g.S.JobStore.seen c.args.job c.args.store.now in
+    let seen = g.S.JobStore.seen c.args.setting.now.job c.args.store.now in
     let before = c.args.walk.now.course in
     let from = agenda_at moves steps c.args.walk.now.todo in
     ends_here w from seen before.own count
@@ -46,24 +46,24 @@ returns-in-Over-clause-ok g t c = λ count.
 pub returns-in-None-clause-ok : goal.returns-in-None-clause-ok
 returns-in-None-clause-ok g t c =
     let w : Around = record {
-      programs = c.args.programs.now;
+      programs = c.args.setting.now.programs.now;
       steps = c.args.plan.now.steps;
-      fixed = fixed_by c.args.given.now;
-      operations = c.args.units.now;
-      job = c.args.job;
-      cancel = c.args.cancelled;
-      grants = record { new = g.S.JobStore.grants_new c.args.job c.args.store.now; growth = g.S.JobStore.grants_growth c.args.job c.args.store.now };
+      fixed = fixed_by c.args.setting.now.given;
+      operations = c.args.setting.now.units.now;
+      job = c.args.setting.now.job;
+      cancel = c.args.setting.now.cancelled;
+      grants = record { new = g.S.JobStore.grants_new c.args.setting.now.job c.args.store.now; growth = g.S.JobStore.grants_growth c.args.setting.now.job c.args.store.now };
     } in
-    let moves = moves_of c.args.programs.now in
+    let moves = moves_of c.args.setting.now.programs.now in
     let steps = c.args.plan.now.steps in
-    let seen = g.S.JobStore.seen c.args.job c.args.store.now in
+    let seen = g.S.JobStore.seen c.args.setting.now.job c.args.store.now in
     let before = c.args.walk.now.course in
     let from = agenda_at moves steps c.args.walk.now.todo in
     let found : Finds moves steps before.own c.args.walk.now.todo c.in-Does.task c.in-Does.behind =
     subst (λ (l : List StepPlan). Finds moves l before.own c.args.walk.now.todo c.in-Does.task c.in-Does.behind) c.as_slice.ensures c.in-Does.ensures in
     let a = action_of c.in-Does.task in
     let rest = agenda_at moves steps c.in-Does.behind in
-    let new = g.S.JobStore.seen c.args.job c.turn_at.new.store in
+    let new = g.S.JobStore.seen c.args.setting.now.job c.turn_at.new.store in
     let after = c.turn_at.new.walk.course in
     if_ok_both c.turn_at.result (λ told h e.
     tells_to told w from (agenda_at moves steps) seen new before after c.turn_at.new.walk.todo c.in-Does.behind e
@@ -73,17 +73,17 @@ returns-in-None-clause-ok g t c =
 pub returns-in-Ok-Acts-clause-ok : goal.returns-in-Ok-Acts-clause-ok
 returns-in-Ok-Acts-clause-ok g t c =
     let w : Around = record {
-      programs = c.args.programs.now;
+      programs = c.args.setting.now.programs.now;
       steps = c.args.plan.now.steps;
-      fixed = fixed_by c.args.given.now;
-      operations = c.args.units.now;
-      job = c.args.job;
-      cancel = c.args.cancelled;
-      grants = record { new = g.S.JobStore.grants_new c.args.job c.args.store.now; growth = g.S.JobStore.grants_growth c.args.job c.args.store.now };
+      fixed = fixed_by c.args.setting.now.given;
+      operations = c.args.setting.now.units.now;
+      job = c.args.setting.now.job;
+      cancel = c.args.setting.now.cancelled;
+      grants = record { new = g.S.JobStore.grants_new c.args.setting.now.job c.args.store.now; growth = g.S.JobStore.grants_growth c.args.setting.now.job c.args.store.now };
     } in
-    let moves = moves_of c.args.programs.now in
+    let moves = moves_of c.args.setting.now.programs.now in
     let steps = c.args.plan.now.steps in
-    let seen = g.S.JobStore.seen c.args.job c.args.store.now in
+    let seen = g.S.JobStore.seen c.args.setting.now.job c.args.store.now in
     let before = c.args.walk.now.course in
     let from = agenda_at moves steps c.args.walk.now.todo in
     let found : Finds moves steps before.own c.args.walk.now.todo c.in-Does.task c.in-Does.behind =
@@ -91,7 +91,7 @@ returns-in-Ok-Acts-clause-ok g t c =
     let a = action_of c.in-Does.task in
     let rest = agenda_at moves steps c.in-Does.behind in
     let ended : ended_at a before.own ≡ Some c.in-Some.n = sym c.in-Some.ensures in
-    let new = g.S.JobStore.seen c.args.job c.turn_from.new.store in
+    let new = g.S.JobStore.seen c.args.setting.now.job c.turn_from.new.store in
     let after = c.turn_from.new.walk.course in
     let behind = agenda_at moves steps c.turn_from.new.walk.todo in
     let told = c.in-Ok-Acts.field-0 in
@@ -103,17 +103,17 @@ returns-in-Ok-Acts-clause-ok g t c =
 pub returns-in-Ok-Waits-clause-ok : goal.returns-in-Ok-Waits-clause-ok
 returns-in-Ok-Waits-clause-ok g t c =
     let w : Around = record {
-      programs = c.args.programs.now;
+      programs = c.args.setting.now.programs.now;
       steps = c.args.plan.now.steps;
-      fixed = fixed_by c.args.given.now;
-      operations = c.args.units.now;
-      job = c.args.job;
-      cancel = c.args.cancelled;
-      grants = record { new = g.S.JobStore.grants_new c.args.job c.args.store.now; growth = g.S.JobStore.grants_growth c.args.job c.args.store.now };
+      fixed = fixed_by c.args.setting.now.given;
+      operations = c.args.setting.now.units.now;
+      job = c.args.setting.now.job;
+      cancel = c.args.setting.now.cancelled;
+      grants = record { new = g.S.JobStore.grants_new c.args.setting.now.job c.args.store.now; growth = g.S.JobStore.grants_growth c.args.setting.now.job c.args.store.now };
     } in
-    let moves = moves_of c.args.programs.now in
+    let moves = moves_of c.args.setting.now.programs.now in
     let steps = c.args.plan.now.steps in
-    let seen = g.S.JobStore.seen c.args.job c.args.store.now in
+    let seen = g.S.JobStore.seen c.args.setting.now.job c.args.store.now in
     let before = c.args.walk.now.course in
     let from = agenda_at moves steps c.args.walk.now.todo in
     let found : Finds moves steps before.own c.args.walk.now.todo c.in-Does.task c.in-Does.behind =
@@ -121,7 +121,7 @@ returns-in-Ok-Waits-clause-ok g t c =
     let a = action_of c.in-Does.task in
     let rest = agenda_at moves steps c.in-Does.behind in
     let ended : ended_at a before.own ≡ Some c.in-Some.n = sym c.in-Some.ensures in
-    let new = g.S.JobStore.seen c.args.job c.turn_from.new.store in
+    let new = g.S.JobStore.seen c.args.setting.now.job c.turn_from.new.store in
     let after = c.turn_from.new.walk.course in
     let behind = agenda_at moves steps c.turn_from.new.walk.todo in
     let told = c.in-Ok-Waits.field-0 in
@@ -133,17 +133,17 @@ returns-in-Ok-Waits-clause-ok g t c =
 pub returns-in-Ok-Ends-clause-ok : goal.returns-in-Ok-Ends-clause-ok
 returns-in-Ok-Ends-clause-ok g t c =
     let w : Around = record {
-      programs = c.args.programs.now;
+      programs = c.args.setting.now.programs.now;
       steps = c.args.plan.now.steps;
-      fixed = fixed_by c.args.given.now;
-      operations = c.args.units.now;
-      job = c.args.job;
-      cancel = c.args.cancelled;
-      grants = record { new = g.S.JobStore.grants_new c.args.job c.args.store.now; growth = g.S.JobStore.grants_growth c.args.job c.args.store.now };
+      fixed = fixed_by c.args.setting.now.given;
+      operations = c.args.setting.now.units.now;
+      job = c.args.setting.now.job;
+      cancel = c.args.setting.now.cancelled;
+      grants = record { new = g.S.JobStore.grants_new c.args.setting.now.job c.args.store.now; growth = g.S.JobStore.grants_growth c.args.setting.now.job c.args.store.now };
     } in
-    let moves = moves_of c.args.programs.now in
+    let moves = moves_of c.args.setting.now.programs.now in
     let steps = c.args.plan.now.steps in
-    let seen = g.S.JobStore.seen c.args.job c.args.store.now in
+    let seen = g.S.JobStore.seen c.args.setting.now.job c.args.store.now in
     let before = c.args.walk.now.course in
     let from = agenda_at moves steps c.args.walk.now.todo in
     let found : Finds moves steps before.own c.args.walk.now.todo c.in-Does.task c.in-Does.behind =
@@ -151,7 +151,7 @@ returns-in-Ok-Ends-clause-ok g t c =
     let a = action_of c.in-Does.task in
     let rest = agenda_at moves steps c.in-Does.behind in
     let ended : ended_at a before.own ≡ Some c.in-Some.n = sym c.in-Some.ensures in
-    let new = g.S.JobStore.seen c.args.job c.turn_from.new.store in
+    let new = g.S.JobStore.seen c.args.setting.now.job c.turn_from.new.store in
     let after = c.turn_from.new.walk.course in
     let behind = agenda_at moves steps c.turn_from.new.walk.todo in
     let told = c.in-Ok-Ends.field-0 in

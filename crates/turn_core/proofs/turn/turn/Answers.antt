@@ -7,14 +7,14 @@ use Rattle.turn_core.proofs.turn.turn.Goals as goal
 pub returns-clause-ok : goal.returns-clause-ok
 returns-clause-ok g c =
     let w : Around = record {
-      programs = c.args.programs.now;
+      programs = c.args.setting.now.programs.now;
       steps = c.args.plan.now.steps;
-      fixed = fixed_by c.args.given.now;
-      operations = c.args.units.now;
-      job = c.args.job;
-      cancel = c.args.cancelled;
-      grants = record { new = g.S.JobStore.grants_new c.args.job c.args.store.now; growth = g.S.JobStore.grants_growth c.args.job c.args.store.now };
+      fixed = fixed_by c.args.setting.now.given;
+      operations = c.args.setting.now.units.now;
+      job = c.args.setting.now.job;
+      cancel = c.args.setting.now.cancelled;
+      grants = record { new = g.S.JobStore.grants_new c.args.setting.now.job c.args.store.now; growth = g.S.JobStore.grants_growth c.args.setting.now.job c.args.store.now };
     } in
-    if_ok c.turn_from.result (λ told h. tells_job told w c.args.plan.now (g.S.JobStore.seen c.args.job c.args.store.now) (g.S.JobStore.seen c.args.job c.turn_from.new.store)
+    if_ok c.turn_from.result (λ told h. tells_job told w c.args.plan.now (g.S.JobStore.seen c.args.setting.now.job c.args.store.now) (g.S.JobStore.seen c.args.setting.now.job c.turn_from.new.store)
     c.args.walk.now c.turn_from.new.walk c.requires h)
     c.turn_from.ensures.ok
