@@ -12,7 +12,8 @@ use input_core::event::Event;
 use jname_core::decimal::number_within;
 use std::alloc::{AllocError, Global};
 
-fn turns<'a>(operands: &[u8]) -> Says<'a>
+/// An initiator acts, so many times over.
+pub(crate) fn turns<'a>(operands: &[u8]) -> Says<'a>
     ensures { result ≡ turns_of (fields_of operands.now) }
 {
     let Some(text) = only_field(operands) else {
