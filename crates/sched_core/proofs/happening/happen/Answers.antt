@@ -1,4 +1,4 @@
-use Rattle.std.proofs.Common.{sym, subst}
+use Rattle.std.proofs.Common.{◌∙◌, sym, subst}
 use Rattle.jcl_job.specs.Jobs.{job_of}
 use Rattle.world_meaning.specs.Devices.{Writes}
 use Rattle.world_meaning.specs.Readings.{Reads}
@@ -19,7 +19,7 @@ returns-in-Read-clause-answer g c =
     let w = world_in queue_of config s in
     subst (λ e. Answers c.read.result w (world_in queue_of config c.read.new.state) (DoesSo s.parts.store job w (meant_by e))) (sym c.in-Read.is)
     (so_answers c.read.result w (world_in queue_of config c.read.new.state) _ _ (λ lines v d. (d, tt))
-    (subst (λ d. Answers c.read.result w (world_in queue_of config c.read.new.state) (Reads job w d)) c.as_slice.ensures c.read.ensures.answer))
+    (subst (λ d. Answers c.read.result w (world_in queue_of config c.read.new.state) (Reads job w d)) (c.as_slice.ensures ∙ c.get.ensures) c.read.ensures.answer))
 
 pub returns-in-Read-clause-refusal : goal.returns-in-Read-clause-refusal
 returns-in-Read-clause-refusal g c =
@@ -29,7 +29,7 @@ returns-in-Read-clause-refusal g c =
     let job = job_of c.args.units.now c.args.library.now in
     let w = world_in queue_of config s in
     subst (λ e. RefusesFirst c.read.result (Does job w (meant_by e))) (sym c.in-Read.is)
-    (subst (λ d. RefusesFirst c.read.result (Reads job w d)) c.as_slice.ensures c.read.ensures.refusal)
+    (subst (λ d. RefusesFirst c.read.result (Reads job w d)) (c.as_slice.ensures ∙ c.get.ensures) c.read.ensures.refusal)
 
 pub returns-in-Turn-clause-answer : goal.returns-in-Turn-clause-answer
 returns-in-Turn-clause-answer g c =
@@ -114,7 +114,7 @@ returns-in-Zap-clause-refusal g c =
     let job = job_of c.args.units.now c.args.library.now in
     let w = world_in queue_of config s in
     subst (λ e. RefusesFirst c.zap.result (Does job w (meant_by e))) (sym c.in-Zap.is)
-    (subst (λ bytes. RefusesFirst c.zap.result (ZapsRecord w c.in-Zap.n c.in-Zap.offset bytes)) c.as_slice-in-Zap.ensures.value c.zap.ensures.refusal)
+    (subst (λ bytes. RefusesFirst c.zap.result (ZapsRecord w c.in-Zap.n c.in-Zap.offset bytes)) (c.as_slice-in-Zap.ensures.value ∙ c.get-in-Zap.ensures) c.zap.ensures.refusal)
 
 pub returns-in-Display-clause-answer : goal.returns-in-Display-clause-answer
 returns-in-Display-clause-answer g c =

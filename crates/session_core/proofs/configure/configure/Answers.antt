@@ -19,7 +19,7 @@ returns-in-Err-Refused-clause-err c = λ o.
     let all = c.args.statements.now in
     let s = c.index-statements-at.result in
     let p = rw (drop_at all c.loop-at.at s c.loop-at-test.true c.index-statements-at.is) at c.loop-at.invariant in
-    let own = rw c.in-Err-Refused.field-0-is at c.in-Err-Refused.ensures.refused in
+    let own = rw c.get.ensures at (rw c.in-Err-Refused.field-0-is at c.in-Err-Refused.ensures.refused) in
     let is : c.told.result ≡ told c.in-Err-Refused.fault = c.told.ensures ∙ ap told c.in-Err-Refused.fault-is in
     let fault = refused_config all (take c.loop-at.at all) (drop (c.loop-at.at + 1) all) s _ _ c.loop-at.config c.in-Err-Refused.fault p c.in-Config.is own in
     rw is (Configured-stops o all (take c.loop-at.at all) (drop (c.loop-at.at + 1) all) s c.loop-at.config (told c.in-Err-Refused.fault)
@@ -32,7 +32,7 @@ returns-in-Ok-2-clause-err c = λ o.
     let s = c.index-statements-at.result in
     let p = rw (drop_at all c.loop-at.at s c.loop-at-test.true c.index-statements-at.is) at c.loop-at.invariant in
     let says : s.says ≡ Config c.in-Config.says false = c.in-Config.is ∙ ap (Config c.in-Config.says) c.if-has_end.false in
-    let fault = open_config all (take c.loop-at.at all) (drop (c.loop-at.at + 1) all) s c.in-Config.says c.loop-at.config p says c.in-Ok.ensures.sound in
+    let fault = open_config all (take c.loop-at.at all) (drop (c.loop-at.at + 1) all) s c.in-Config.says c.loop-at.config p says (rw c.get.ensures at c.in-Ok.ensures.sound) in
     Configured-stops o all (take c.loop-at.at all) (drop (c.loop-at.at + 1) all) s c.loop-at.config NoEnd
     (c.configuration_has_a_machine.ensures o _ c.is_configured.ensures) p fault
 
@@ -44,4 +44,4 @@ loop-at-preserved c =
     let says : s.says ≡ Config c.in-Config.says true = c.in-Config.is ∙ ap (Config c.in-Config.says) c.if-has_end.true in
     rw (take_at all c.loop-at.at s c.loop-at-test.true c.index-statements-at.is)
     (Configured-more all (take c.loop-at.at all) (drop (c.loop-at.at + 1) all) s c.in-Config.says c.loop-at.config c.add.new.self p says
-    c.in-Ok.ensures.sound c.in-Ok.ensures.ok)
+    (rw c.get.ensures at c.in-Ok.ensures.sound) (rw c.get.ensures at c.in-Ok.ensures.ok))
