@@ -6,7 +6,7 @@ use Rattle.std.proofs.lemmas.List.{map-append}
 use Rattle.std.proofs.lemmas.Option.{same_Some}
 use Rattle.jcl_plan.specs.declared.plan.JobPlan.{JobPlan}
 use Rattle.view_core.specs.declared.scene.Scene.{Scene}
-use Rattle.packed_core.specs.Entries.{AreBefore, Entry, scenes_of}
+use Rattle.packed_core.specs.Entries.{Entry, scenes_of}
 use Rattle.packed_core.specs.Rows.{row_at}
 use Rattle.packed_core.specs.Shown.{AreApart, alone}
 use Rattle.packed_core.specs.Views.{AreRows}
@@ -14,17 +14,6 @@ use Rattle.packed_core.proofs.Places.{got_back, got_below, got_last}
 
 pub scenes_more : (entries : List Entry) (e : Entry) → scenes_of (entries ++ e ∷ []) ≡ scenes_of entries ++ e.scene ∷ []
 scenes_more entries e = map-append (λ (x : Entry). x.scene) entries (e ∷ [])
-
-pub before_more : (part : ℕ) (entries : List Entry) (e : Entry) → e.part ≡ part → AreBefore part entries → AreBefore part (entries ++ e ∷ [])
-before_more part entries e here before i x at =
-    elim (cases_lt i (length entries)) [
-      | inl h ↦ before i x (got_back entries e i x h at)
-      | inr h ↦
-          let below : i < length (entries ++ e ∷ []) = got_below (entries ++ e ∷ []) i x at in
-          let is : i ≡ length entries = omega (arith, length-append entries (e ∷ [])) in
-          let same : e ≡ x = same_Some e x (sym (got_last entries e) ∙ ap (slice_get (entries ++ e ∷ [])) (sym is) ∙ at) in
-          ap (λ (y : Entry). y.part) (sym same) ∙ here
-    ]
 
 pub apart_more : (plan : JobPlan) (date k : ℕ) (scenes : List Scene) (s : Scene) → AreApart plan date k scenes →
     ((i : ℕ) (w : Scene) → slice_get scenes i ≡ Some w → alone plan date k w ≡ alone plan date k s → ⊥) → AreApart plan date k (scenes ++ s ∷ [])

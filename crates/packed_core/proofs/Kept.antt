@@ -12,9 +12,8 @@ use Rattle.view_domain.specs.Crossings.{IsCrossed, IsPut}
 use Rattle.view_core.proofs.Numbered.{at_map, ok_weaker}
 use Rattle.packed_core.specs.Moving.{all_shown, shown_among}
 use Rattle.packed_core.specs.Rows.{row_at}
-use Rattle.packed_core.specs.Scenes.{HasMoreScenes}
 use Rattle.packed_core.specs.Shown.{row_shown}
-use Rattle.packed_core.specs.Views.{Views}
+use Rattle.packed_core.specs.Views.{HasMoreScenes, Views}
 use Rattle.packed_core.proofs.ShownRows.{rows_stay}
 
 -- what follows where a call succeeds

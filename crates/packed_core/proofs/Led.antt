@@ -29,8 +29,8 @@ use Rattle.packed_core.specs.Classes.{tests_before}
 use Rattle.packed_core.specs.Crossing.{HasSameBits, IsLedTo, IsPassed, IsPlaced, LeadsByAbend, LeadsByCode}
 use Rattle.packed_core.specs.Moving.{AreMovesByAbend, AreMovesByCode, all_shown, shown_among, told_shown}
 use Rattle.packed_core.specs.Rooms.{room_at}
-use Rattle.packed_core.specs.Scenes.{HasMoreScenes, HasScene}
-use Rattle.packed_core.specs.Views.{Views}
+use Rattle.packed_core.specs.Scenes.{HasScene}
+use Rattle.packed_core.specs.Views.{HasMoreScenes, Views}
 use Rattle.packed_core.specs.Words.{bit, met_of}
 use Rattle.packed_core.proofs.Passing.{after_is}
 use Rattle.packed_core.proofs.Rows.{same_met}

@@ -1,4 +1,3 @@
-pub mod Unasked
 pub mod Bits
 pub mod Rows
 pub mod JoinedRows
@@ -18,5 +17,7 @@ pub mod Moves
 pub mod Led
 pub mod Putting
 pub mod Kept
+pub mod Placing
+pub mod Unasked
 pub mod Leading
 pub mod Serving

@@ -1,5 +1,5 @@
 -- A view led over a part.
-use Rattle.std.specs.Prelude.{◌≡◌, ℕ, ◌+◌, List, ◌∷◌, Err, Ok, Result, Some, drop, length, slice_get, slice_index_or}
+use Rattle.std.specs.Prelude.{◌≡◌, ℕ, ◌+◌, List, ◌∷◌, Result, Some, drop, length, slice_get, slice_index_or}
 use Rattle.jcl_plan.specs.declared.plan.JobPlan.{JobPlan}
 use Rattle.jcl_plan.specs.declared.plan.StepPlan.{StepPlan}
 use Rattle.jcl_meaning.specs.States.{Fixed}
@@ -14,8 +14,8 @@ use Rattle.view_core.specs.PlainViews.{shown_so}
 use Rattle.view_core.specs.Shows.{Shows}
 use Rattle.packed_core.specs.Classes.{tests_before}
 use Rattle.packed_core.specs.Moving.{all_shown, shown_among, told_shown}
+use Rattle.packed_core.specs.Placed.{StandsIn}
 use Rattle.packed_core.specs.Rooms.{room_at}
-use Rattle.packed_core.specs.Scenes.{HasScene}
 use Rattle.packed_core.specs.Views.{Views}
 use Rattle.packed_core.specs.Words.{AreWords, bit, met_of}
 
@@ -47,10 +47,7 @@ pub record IsPassed (plan : JobPlan) (step : StepPlan) (k : ℕ) (v : Shows) (ro
 
 -- the number of a scene that shows the same as the one that a step leaves, or the fault that it meets
 abbrev pub IsPlaced : JobPlan → ℕ → Views → Result Scene Stop → Result ℕ Stop → Type 0
-IsPlaced plan date views (Ok scene) (Ok n) = HasScene plan date views.part views.scenes scene n
-IsPlaced plan date views (Ok scene) (Err stop) = ⊥
-IsPlaced plan date views (Err stop) (Ok n) = ⊥
-IsPlaced plan date views (Err stop) (Err other) = other ≡ stop
+IsPlaced plan date views end number = StandsIn plan date views.part views.scenes end number
 
 -- what is told of a step that left this scene or met this fault, where a row has the bits
 abbrev pub LeadsByCode : {V : Type 0} → (V → List ℕ) → JobPlan → ℕ → Views → List ℕ → Result Scene Stop → Branch V → Type 0

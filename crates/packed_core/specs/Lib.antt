@@ -5,11 +5,12 @@ pub mod Entries
 pub mod Indexed
 pub mod Jobs
 pub mod Moving
-pub mod Notes
+pub mod Placed
 pub mod Rooms
 pub mod Rows
 pub mod Scenes
 pub mod Shown
+pub mod Sights
 pub mod Starting
 pub mod Views
 pub mod Ways

@@ -1,9 +1,8 @@
 -- Scenes in a list, found by what they show.
-use Rattle.std.specs.Prelude.{◌≡◌, ◌++◌, ℕ, List, Option, Some, None, slice_get}
+use Rattle.std.specs.Prelude.{◌≡◌, ℕ, List, Option, Some, None, slice_get}
 use Rattle.jcl_plan.specs.declared.plan.JobPlan.{JobPlan}
 use Rattle.view_core.specs.declared.scene.Scene.{Scene}
 use Rattle.packed_core.specs.Shown.{alone}
-use Rattle.packed_core.specs.Views.{Views}
 
 -- a scene that shows the same as another has this number
 pub record HasScene (plan : JobPlan) (date k : ℕ) (scenes : List Scene) (scene : Scene) (n : ℕ) : Type 0 where
@@ -16,10 +15,3 @@ abbrev pub FindsScene : JobPlan → ℕ → ℕ → List Scene → Scene → Opt
 FindsScene plan date k scenes scene (Some n) = HasScene plan date k scenes scene n
 FindsScene plan date k scenes scene None =
     (i : ℕ) (w : Scene) → slice_get scenes i ≡ Some w → alone plan date k w ≡ alone plan date k scene → ⊥
-
--- the views are the same, but for scenes that came behind the others
-pub record HasMoreScenes (old new : Views) : Type 0 where
-  pub more : List Scene
-  pub scenes : new.scenes ≡ old.scenes ++ more
-  pub part : new.part ≡ old.part
-  pub rows : new.rows ≡ old.rows

@@ -2,7 +2,7 @@
 ghost use Rattle.std.specs.Prelude.{◌≡◌, ◌<◌, ◌+◌, ◌∷◌, ℕ, List, IfOk, IfSome, drop, length, slice_get, slice_index_or, Some};
 ghost use Rattle.disp_core.specs.Courses.{fixed_by};
 ghost use Rattle.view_core.specs.declared.scene.Scene.{Scene};
-ghost use Rattle.view_core.specs.Legs.{AreLegs, EndsJob};
+ghost use Rattle.view_core.specs.Legs.{EndsJob};
 ghost use Rattle.packed_core.specs.Classes.{AreMasks, tests_before};
 ghost use Rattle.packed_core.specs.Crossing.{IsStep};
 ghost use Rattle.packed_core.specs.Rooms.{room_at};
@@ -23,7 +23,6 @@ use std::alloc::{AllocError, Global};
 use std::rc::Rc;
 use view_core::bits::kept_tests;
 use view_core::domain::PlainDomain;
-use view_core::legs::Legs;
 use view_core::scene::Scene;
 use view_domain::crossed::Stop;
 
@@ -40,7 +39,7 @@ fn begun(alloc: Global, classes: Rc<Classes>) -> Ways
     }
 }
 
-impl<J: Job> PackedViews<J> {
+impl<'a, J: Job> PackedViews<'a, J> {
     /// The row of this number.
     pub(crate) fn row(&self, number: usize) -> &[u64]
         requires { number < length self.now.rows }
@@ -57,28 +56,6 @@ impl<J: Job> PackedViews<J> {
         ensures { slice_get self.now.scenes n ≡ Some result.now.value }
     {
         &self.entries[n].scene
-    }
-
-    /// What the part's step comes to, which runs on the scene of this number.
-    pub(crate) fn legs(
-        &mut self,
-        alloc: Global,
-        plain: &PlainDomain<'_>,
-        n: usize,
-        step: &StepPlan,
-        later: &[StepPlan],
-        abended: bool,
-    ) -> Result<Legs, AllocError>
-        requires planned { plain.now.plan.now ≡ J.plan }
-        requires so_fixed { fixed_by plain.now.given ≡ J.fixed }
-        requires number { n < length self.old.scenes }
-        requires part { self.old.part < usize.MAX }
-        requires step { drop self.old.part J.plan.steps ≡ step.now ∷ later.now }
-        ensures same { self.new ≡ self.old }
-        ensures legs { IfOk result (λ legs. (scene : Scene) → slice_get self.old.scenes n ≡ Some scene →
-            AreLegs J.fixed (self.old.part + 1) step.now scene abended legs) }
-    {
-        self.entries[n].legs(alloc, plain, step, later, abended)
     }
 
     /// What the job's end comes to on the scene of this number.
@@ -155,10 +132,10 @@ impl<'a, J: Job + Drop> PackedDomain<'a, J> {
     fn classes_behind(
         &self,
         alloc: Global,
-        before: &PackedViews<J>,
+        before: &PackedViews<'a, J>,
         step: &StepPlan,
         later: &[StepPlan],
-        behind: &PackedViews<J>,
+        behind: &PackedViews<'a, J>,
     ) -> Result<Rc<Classes>, AllocError>
         requires part { before.now.part < usize.MAX }
         requires step { drop before.now.part J.plan.steps ≡ step.now ∷ later.now }
@@ -178,10 +155,10 @@ impl<'a, J: Job + Drop> PackedDomain<'a, J> {
     pub(crate) fn take_ways(
         &self,
         alloc: Global,
-        before: &PackedViews<J>,
+        before: &PackedViews<'a, J>,
         step: &StepPlan,
         later: &[StepPlan],
-        behind: &mut PackedViews<J>,
+        behind: &mut PackedViews<'a, J>,
     ) -> Result<Ways, AllocError>
         requires part { before.now.part < usize.MAX }
         requires step { drop before.now.part J.plan.steps ≡ step.now ∷ later.now }

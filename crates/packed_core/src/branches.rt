@@ -29,7 +29,7 @@ pub struct Offer<V: Drop> {
 fn move_of<J: Job + Drop>(
     outcome: Outcome,
     row: Vec<u64>,
-    behind: &PackedViews<J>,
+    behind: &PackedViews<'_, J>,
 ) -> Move<PackedView<J>>
     requires row { IsRow (room_at J.plan behind.now.part) row.items }
     ensures outcome { result.outcome ≡ outcome }
@@ -49,7 +49,7 @@ fn move_of<J: Job + Drop>(
 fn move_to<J: Job + Drop>(
     outcome: Outcome,
     row: Vec<u64>,
-    behind: &PackedViews<J>,
+    behind: &PackedViews<'_, J>,
 ) -> Option<Move<PackedView<J>>>
     requires row { IsRow (room_at J.plan behind.now.part) row.items }
     ensures leads { LeadsTo (λ v. v.row.items) behind.now.rows outcome row.items result }
@@ -98,7 +98,7 @@ impl<'a, J: Job + Drop> PackedDomain<'a, J> {
         base: &[u64],
         class: &Class,
         told: usize,
-        behind: &PackedViews<J>,
+        behind: &PackedViews<'_, J>,
     ) -> Result<(Option<Move<PackedView<J>>>, usize), AllocError>
         requires base { IsRow (room_at J.plan behind.now.part) base.now }
         requires class { IsMask behind.now.part (tests_before J.plan behind.now.part) (room_at J.plan behind.now.part) class.now.code class.now.mask.items }
@@ -123,7 +123,7 @@ impl<'a, J: Job + Drop> PackedDomain<'a, J> {
         alloc: Global,
         base: &[u64],
         classes: &[Class],
-        behind: &PackedViews<J>,
+        behind: &PackedViews<'_, J>,
     ) -> Result<Vec<Move<PackedView<J>>>, AllocError>
         requires base { IsRow (room_at J.plan behind.now.part) base.now }
         requires classes { All
@@ -146,7 +146,7 @@ impl<'a, J: Job + Drop> PackedDomain<'a, J> {
         classes: &[Class],
         numbers: &[usize],
         notes: &[Option<usize>],
-        behind: &PackedViews<J>,
+        behind: &PackedViews<'_, J>,
     ) -> Result<Offer<PackedView<J>>, AllocError>
         requires base { IsRow (room_at J.plan behind.now.part) base.now }
         requires classes { All
@@ -177,7 +177,7 @@ impl<'a, J: Job + Drop> PackedDomain<'a, J> {
         alloc: Global,
         ways: &mut Ways,
         base: &[u64],
-        behind: &PackedViews<J>,
+        behind: &PackedViews<'_, J>,
     ) -> Result<Vec<Move<PackedView<J>>>, AllocError>
         requires ways { AreWays J.plan behind.now.part behind.now.rows ways.old }
         requires base { IsRow (room_at J.plan behind.now.part) base.now }
@@ -203,7 +203,7 @@ impl<'a, J: Job + Drop> PackedDomain<'a, J> {
         alloc: Global,
         ways: &mut Ways,
         base: &[u64],
-        behind: &PackedViews<J>,
+        behind: &PackedViews<'_, J>,
     ) -> Result<Vec<Move<PackedView<J>>>, AllocError>
         requires ways { AreWays J.plan behind.now.part behind.now.rows ways.old }
         requires base { IsRow (room_at J.plan behind.now.part) base.now }
@@ -224,7 +224,7 @@ impl<'a, J: Job + Drop> PackedDomain<'a, J> {
         &self,
         alloc: Global,
         base: Vec<u64>,
-        behind: &PackedViews<J>,
+        behind: &PackedViews<'_, J>,
     ) -> Result<Vec<Move<PackedView<J>>>, AllocError>
         requires base { IsRow (room_at J.plan behind.now.part) base.items }
         ensures { IfOk result (λ moves. AreMovesByAbend (λ v. v.row.items) J.plan J.fixed.date behind.now base.items moves.items) }

@@ -1,5 +1,5 @@
 //! A view led over a part.
-ghost use Rattle.std.specs.Prelude.{◌≡◌, ◌<◌, ◌≤◌, ◌+◌, ◌∷◌, [], IfOk, OnOk, Result, drop, length, slice_index_or};
+ghost use Rattle.std.specs.Prelude.{◌≡◌, ◌<◌, ◌≤◌, ◌+◌, ◌∷◌, [], IfOk, OnOk, Result, Some, drop, length, slice_get, slice_index_or};
 ghost use Rattle.jcl_plan.specs.declared.outcome.Fate.TheVariants as fates;
 ghost use Rattle.view_domain.specs.declared.crossed.Stop.{Stop};
 ghost use Rattle.view_domain.specs.Crossings.{IsCrossed};
@@ -11,12 +11,15 @@ ghost use Rattle.packed_core.specs.Crossing.{HasSameBits, IsLedTo, IsPassed, IsP
 ghost use Rattle.packed_core.specs.Moving.{all_shown, shown_among};
 ghost use Rattle.packed_core.specs.Rooms.{room_at};
 ghost use Rattle.packed_core.specs.Rows.{row_at};
-ghost use Rattle.packed_core.specs.Scenes.{HasMoreScenes};
+ghost use Rattle.packed_core.specs.Placed.{ArePlaced};
+ghost use Rattle.packed_core.specs.Scenes.{HasScene};
+ghost use Rattle.packed_core.specs.Views.{HasMoreScenes};
 ghost use Rattle.packed_core.specs.Ways.{AreWays};
 ghost use Rattle.packed_core.specs.Words.{IsRow};
 
 use crate::domain::PackedDomain;
 use crate::job::Job;
+use crate::placed::{Placed, placed_again};
 use crate::rooms::next_bit;
 use crate::view::PackedView;
 use crate::views::PackedViews;
@@ -28,7 +31,7 @@ use jcl_plan::plan::StepPlan;
 use std::alloc::{AllocError, Global};
 use std::marker::PhantomData;
 use std::rc::Rc;
-use view_core::legs::Legs;
+use view_core::legs::{Legs, legs_of};
 use view_core::same::drop_first;
 use view_core::scene::Scene;
 use view_domain::crossed::{Branch, Crossed, Stop};
@@ -58,7 +61,7 @@ pub(crate) fn view_of<J: Job>(part: usize, row: Vec<u64>) -> PackedView<J>
 
 impl<'a, J: Job + Drop> PackedDomain<'a, J> {
     /// What becomes of the part's step, by a row before it.
-    fn fate_of(&self, views: &PackedViews<J>, step: &StepPlan, row: &[u64]) -> Fate
+    fn fate_of(&self, views: &PackedViews<'a, J>, step: &StepPlan, row: &[u64]) -> Fate
         requires step { IsStep J.plan views.now.part step.now }
         requires row { IsRow (room_at J.plan views.now.part) row.now }
         ensures { (scene : Scene) → result ≡ fate_shown (length J.plan.tests.items) step.now (row_shows J.plan views.now.part scene row.now) }
@@ -73,7 +76,7 @@ impl<'a, J: Job + Drop> PackedDomain<'a, J> {
     }
 
     /// A row behind the part's step, which meets no test: the bits of the step's own tests are cleared.
-    fn passed(&self, views: &PackedViews<J>, step: &StepPlan, row: Vec<u64>) -> Vec<u64>
+    fn passed(&self, views: &PackedViews<'a, J>, step: &StepPlan, row: Vec<u64>) -> Vec<u64>
         requires step { IsStep J.plan views.now.part step.now }
         requires row { IsRow (room_at J.plan views.now.part) row.items }
         ensures row { IsRow (room_at J.plan (views.now.part + 1)) result.items }
@@ -92,7 +95,7 @@ impl<'a, J: Job + Drop> PackedDomain<'a, J> {
     /// The number of the scene that a step leaves, or the fault that it meets.
     fn place_end(
         &self,
-        behind: &mut PackedViews<J>,
+        behind: &mut PackedViews<'a, J>,
         end: Result<Rc<Scene>, Stop>,
         hint: usize,
     ) -> Result<Result<usize, Stop>, AllocError>
@@ -112,7 +115,7 @@ impl<'a, J: Job + Drop> PackedDomain<'a, J> {
         ways: &mut Ways,
         end: Result<usize, Stop>,
         row: Vec<u64>,
-        behind: &PackedViews<J>,
+        behind: &PackedViews<'a, J>,
     ) -> Result<(Branch<PackedView<J>>, Vec<u64>), AllocError>
         requires ways { AreWays J.plan behind.now.part behind.now.rows ways.old }
         requires row { IsRow (room_at J.plan behind.now.part) row.items }
@@ -137,7 +140,7 @@ impl<'a, J: Job + Drop> PackedDomain<'a, J> {
         alloc: Global,
         end: Result<usize, Stop>,
         row: Vec<u64>,
-        behind: &PackedViews<J>,
+        behind: &PackedViews<'a, J>,
     ) -> Result<Branch<PackedView<J>>, AllocError>
         requires row { IsRow (room_at J.plan behind.now.part) row.items }
         ensures leads { IfOk result (λ told. (left : Result Scene Stop) → IsPlaced J.plan J.fixed.date behind.now left end →
@@ -152,15 +155,106 @@ impl<'a, J: Job + Drop> PackedDomain<'a, J> {
         }
     }
 
+    /// Carries out the part's step, which runs, on the scene of this number, and puts what it leaves behind the part.
+    fn place_step(
+        &self,
+        alloc: Global,
+        before: &PackedViews<'a, J>,
+        n: usize,
+        step: &StepPlan,
+        abended: bool,
+        behind: &mut PackedViews<'a, J>,
+    ) -> Result<Placed, AllocError>
+        requires part { before.now.part < usize.MAX }
+        requires behind { behind.old.part ≡ before.now.part + 1 }
+        requires number { n < length before.now.scenes }
+        ensures behind { OnOk result (HasMoreScenes behind.old behind.new) }
+        ensures placed { IfOk result (λ it. (scene : Scene) → slice_get before.now.scenes n ≡ Some scene →
+            ArePlaced J.plan J.fixed before.now.part behind.new.scenes step.now scene abended it) }
+    {
+        let given = &self.plain.given;
+        let scene: &Scene = before.scene(n);
+        let legs = legs_of(alloc, given, before.part + 1, step, scene, abended)?;
+        match legs {
+            Legs::Refused(stop) => Ok(Placed::Refused(stop)),
+            Legs::Ended {
+                made,
+                by_code,
+                by_abend,
+            } => {
+                let code = self.place_end(behind, by_code, n)?;
+                let abend = self.place_end(behind, by_abend, n)?;
+                Ok(Placed::Ended {
+                    made,
+                    by_code: code,
+                    by_abend: abend,
+                })
+            }
+        }
+    }
+
+    /// The same, which is noted.
+    fn step_placed(
+        &self,
+        alloc: Global,
+        before: &mut PackedViews<'a, J>,
+        n: usize,
+        step: &StepPlan,
+        abended: bool,
+        behind: &mut PackedViews<'a, J>,
+    ) -> Result<Placed, AllocError>
+        requires part { before.old.part < usize.MAX }
+        requires step { IsStep J.plan before.old.part step.now }
+        requires behind { behind.old.part ≡ before.old.part + 1 }
+        requires number { n < length before.old.scenes }
+        ensures before { OnOk result (before.new ≡ before.old) }
+        ensures behind { OnOk result (HasMoreScenes behind.old behind.new) }
+        ensures placed { IfOk result (λ it. (scene : Scene) → slice_get before.old.scenes n ≡ Some scene →
+            ArePlaced J.plan J.fixed before.old.part behind.new.scenes step.now scene abended it) }
+    {
+        if let Some(known) = behind.placed_on(before, n, abended) {
+            return placed_again(alloc, known);
+        }
+        let placed = self.place_step(alloc, before, n, step, abended, behind)?;
+        before.tell(alloc, self.seals)?;
+        let again = placed_again(alloc, &placed)?;
+        behind.note_placed(alloc, before, n, abended, again)?;
+        Ok(placed)
+    }
+
+    /// The number of the scene behind the part's step, which does not run.
+    fn idle_placed(
+        &self,
+        alloc: Global,
+        before: &mut PackedViews<'a, J>,
+        n: usize,
+        behind: &mut PackedViews<'a, J>,
+    ) -> Result<usize, AllocError>
+        requires behind { behind.old.part ≡ before.old.part + 1 }
+        requires number { n < length before.old.scenes }
+        ensures before { OnOk result (before.new ≡ before.old) }
+        ensures behind { OnOk result (HasMoreScenes behind.old behind.new) }
+        ensures there { IfOk result (λ number. (scene : Scene) → slice_get before.old.scenes n ≡ Some scene →
+            HasScene J.plan J.fixed.date behind.new.part behind.new.scenes scene number) }
+    {
+        if let Some(number) = behind.idle_on(before, n) {
+            return Ok(number);
+        }
+        let number = self.put_scene(behind, before.scene(n), n)?;
+        before.tell(alloc, self.seals)?;
+        behind.note_idle(alloc, before, n, number)?;
+        Ok(number)
+    }
+
     /// The part's step, which runs.
     fn cross_running(
         &self,
         alloc: Global,
-        before: &mut PackedViews<J>,
+        before: &mut PackedViews<'a, J>,
         step: &StepPlan,
         later: &[StepPlan],
         row: Vec<u64>,
-        behind: &mut PackedViews<J>,
+        behind: &mut PackedViews<'a, J>,
     ) -> Result<Crossed<PackedView<J>>, AllocError>
         requires part { before.old.part < usize.MAX }
         requires step { drop before.old.part J.plan.steps ≡ step.now ∷ later.now }
@@ -175,22 +269,18 @@ impl<'a, J: Job + Drop> PackedDomain<'a, J> {
     {
         let n = number_in(row.as_slice());
         let abended = bit_of(row.as_slice(), 0);
-        let legs = before.legs(alloc, &self.plain, n, step, later, abended)?;
-        match legs {
-            Legs::Refused(stop) => Ok(Crossed::Stops(stop)),
-            Legs::Ended {
+        let placed = self.step_placed(alloc, before, n, step, abended, behind)?;
+        match placed {
+            Placed::Refused(stop) => Ok(Crossed::Stops(stop)),
+            Placed::Ended {
                 made,
                 by_code,
                 by_abend,
             } => {
-                let hint = before.hint(n);
-                let code = self.place_end(behind, by_code, hint.by_code)?;
-                let abend = self.place_end(behind, by_abend, hint.by_abend)?;
-                before.keep_hint(n, code, abend)?;
                 let mut ways = self.take_ways(alloc, before, step, later, behind)?;
-                let (by_code, row) = self.branch_by_code(alloc, &mut ways, code, row, behind)?;
+                let (by_code, row) = self.branch_by_code(alloc, &mut ways, by_code, row, behind)?;
                 behind.keep_ways(ways);
-                let by_abend = self.branch_by_abend(alloc, abend, row, behind)?;
+                let by_abend = self.branch_by_abend(alloc, by_abend, row, behind)?;
                 Ok(Crossed::Runs {
                     made,
                     by_code,
@@ -203,10 +293,11 @@ impl<'a, J: Job + Drop> PackedDomain<'a, J> {
     /// The part's step, which does not run.
     fn cross_idle(
         &self,
-        before: &mut PackedViews<J>,
+        alloc: Global,
+        before: &mut PackedViews<'a, J>,
         fate: Fate,
         row: Vec<u64>,
-        behind: &mut PackedViews<J>,
+        behind: &mut PackedViews<'a, J>,
     ) -> Result<Crossed<PackedView<J>>, AllocError>
         requires behind { behind.old.part ≡ before.old.part + 1 }
         requires row { IsRow (room_at J.plan (before.old.part + 1)) row.items }
@@ -219,7 +310,7 @@ impl<'a, J: Job + Drop> PackedDomain<'a, J> {
             IsLedTo (λ w. w.row.items) J.plan J.fixed before.old.part v behind.new crossed) }
     {
         let n = number_in(row.as_slice());
-        let number = self.put_scene(behind, before.scene(n), n)?;
+        let number = self.idle_placed(alloc, before, n, behind)?;
         let view = view_of(behind.part, renumbered(row, number));
         Ok(Crossed::Passes { fate, view })
     }
@@ -228,11 +319,11 @@ impl<'a, J: Job + Drop> PackedDomain<'a, J> {
     fn cross_step(
         &self,
         alloc: Global,
-        before: &mut PackedViews<J>,
+        before: &mut PackedViews<'a, J>,
         step: &StepPlan,
         later: &[StepPlan],
         row: Vec<u64>,
-        behind: &mut PackedViews<J>,
+        behind: &mut PackedViews<'a, J>,
     ) -> Result<Crossed<PackedView<J>>, AllocError>
         requires part { before.old.part < usize.MAX }
         requires step { drop before.old.part J.plan.steps ≡ step.now ∷ later.now }
@@ -248,7 +339,7 @@ impl<'a, J: Job + Drop> PackedDomain<'a, J> {
         let row = self.passed(before, step, row);
         match fate {
             Fate::Run => self.cross_running(alloc, before, step, later, row, behind),
-            _ => self.cross_idle(before, fate, row, behind),
+            _ => self.cross_idle(alloc, before, fate, row, behind),
         }
     }
 
@@ -256,9 +347,9 @@ impl<'a, J: Job + Drop> PackedDomain<'a, J> {
     fn cross_end(
         &self,
         alloc: Global,
-        before: &mut PackedViews<J>,
+        before: &mut PackedViews<'a, J>,
         row: &[u64],
-        behind: &PackedViews<J>,
+        behind: &PackedViews<'a, J>,
     ) -> Result<Crossed<PackedView<J>>, AllocError>
         requires end { drop before.old.part J.plan.steps ≡ [] }
         requires row { IsRow (room_at J.plan before.old.part) row.now }
@@ -279,9 +370,9 @@ impl<'a, J: Job + Drop> PackedDomain<'a, J> {
     pub(crate) fn cross(
         &self,
         alloc: Global,
-        before: &mut PackedViews<J>,
+        before: &mut PackedViews<'a, J>,
         number: usize,
-        behind: &mut PackedViews<J>,
+        behind: &mut PackedViews<'a, J>,
     ) -> Result<Crossed<PackedView<J>>, AllocError>
         requires part { before.old.part ≤ length J.plan.steps }
         requires behind { behind.old.part ≡ before.old.part + 1 }

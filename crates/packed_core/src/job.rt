@@ -3,6 +3,7 @@ use std::marker::Brand;
 
 /// What is analysed, told by a type: views of one job are kept apart from those of another.
 pub trait Job {
+    ghost use Rattle.std.specs.Prelude.{ℕ};
     ghost use Rattle.jcl_plan.specs.declared.plan.JobPlan.{JobPlan};
     ghost use Rattle.jcl_meaning.specs.States.{Fixed};
 
@@ -10,6 +11,9 @@ pub trait Job {
     ghost plan: { JobPlan };
 
     ghost fixed: { Fixed };
+
+    /// Where the scenes before each part are told.
+    ghost seals: { ℕ → ℕ };
 }
 
 impl Job for Brand {
@@ -18,4 +22,6 @@ impl Job for Brand {
     ghost plan = { no_job };
 
     ghost fixed = { nothing_fixed };
+
+    ghost seals = { λ part. 0 };
 }

@@ -12,6 +12,7 @@ use crate::cross::{renumbered, view_of};
 use crate::domain::PackedDomain;
 use crate::job::Job;
 use crate::masks::blank;
+use crate::placed::nothing_known;
 use crate::rooms::room_of;
 use crate::row_list::RowList;
 use crate::view::PackedView;
@@ -24,7 +25,7 @@ use view_domain::domain::ViewDomain;
 
 impl<'a, J: Job + Drop> PackedDomain<'a, J> {
     /// No view, before a part.
-    fn none_before(&self, alloc: Global, part: usize) -> Result<PackedViews<J>, AllocError>
+    fn none_before(&self, alloc: Global, part: usize) -> Result<PackedViews<'a, J>, AllocError>
         ensures none { IfOk result (λ views. views ≡ record { part = part; scenes = []; rows = [] }) }
     {
         let Some(room) = room_of(self.plain.plan, part) else {
@@ -34,7 +35,9 @@ impl<'a, J: Job + Drop> PackedDomain<'a, J> {
             part,
             room,
             entries: Vec::new(alloc),
-            hints: Vec::new(alloc),
+            sight: None,
+            from: None,
+            known: nothing_known(alloc),
             rows: RowList::none(alloc),
             ways: None,
             job: PhantomData,
@@ -42,7 +45,7 @@ impl<'a, J: Job + Drop> PackedDomain<'a, J> {
     }
 
     /// A row before the part of these views without bits.
-    fn blank_row(&self, alloc: Global, views: &PackedViews<J>) -> Result<Vec<u64>, AllocError>
+    fn blank_row(&self, alloc: Global, views: &PackedViews<'a, J>) -> Result<Vec<u64>, AllocError>
         ensures blank { IfOk result (λ row. IsBlank (room_at J.plan views.now.part) row.items) }
     {
         blank(alloc, views.room)
@@ -52,7 +55,7 @@ impl<'a, J: Job + Drop> PackedDomain<'a, J> {
     fn put(
         &self,
         alloc: Global,
-        views: &mut PackedViews<J>,
+        views: &mut PackedViews<'a, J>,
         view: PackedView<J>,
     ) -> Result<bool, AllocError>
         ensures put { IfOk result (λ stood. IsPut (all_shown J.plan J.fixed.date views.old) (shown_among J.plan J.fixed.date views.old view.row.items) stood
@@ -73,7 +76,7 @@ impl<'a, J: Job + Drop> PackedDomain<'a, J> {
     }
 
     /// The view before the first step.
-    fn first(&self, alloc: Global) -> Result<PackedViews<J>, AllocError>
+    fn first(&self, alloc: Global) -> Result<PackedViews<'a, J>, AllocError>
         ensures first { IfOk result (λ views. all_shown J.plan J.fixed.date views ≡
             view_at J.plan 0 J.fixed.date (at_start (store_of self.now.plain.store.now) (given [])) ∷ []) }
         ensures part { IfOk result (λ views. views.part ≡ 0) }
@@ -95,7 +98,7 @@ impl<'a, J: Job + Drop> ViewDomain for PackedDomain<'a, J> {
 
     type View = PackedView<J>;
 
-    type Views = PackedViews<J>;
+    type Views = PackedViews<'a, J>;
 
     ghost plan = { λ d. d.plain.plan.now };
 
@@ -109,11 +112,11 @@ impl<'a, J: Job + Drop> ViewDomain for PackedDomain<'a, J> {
 
     ghost stands = { λ d views. views.part };
 
-    fn start(&self, alloc: Global) -> Result<PackedViews<J>, AllocError> {
+    fn start(&self, alloc: Global) -> Result<PackedViews<'a, J>, AllocError> {
         self.first(alloc)
     }
 
-    fn none(&self, alloc: Global, part: usize) -> Result<PackedViews<J>, AllocError> {
+    fn none(&self, alloc: Global, part: usize) -> Result<PackedViews<'a, J>, AllocError> {
         self.none_before(alloc, part)
     }
 
@@ -121,9 +124,9 @@ impl<'a, J: Job + Drop> ViewDomain for PackedDomain<'a, J> {
         &self,
         alloc: Global,
         part: usize,
-        before: &mut PackedViews<J>,
+        before: &mut PackedViews<'a, J>,
         number: usize,
-        behind: &mut PackedViews<J>,
+        behind: &mut PackedViews<'a, J>,
     ) -> Result<Crossed<PackedView<J>>, AllocError> {
         let _behind = behind.part;
         let _part = part;
@@ -133,7 +136,7 @@ impl<'a, J: Job + Drop> ViewDomain for PackedDomain<'a, J> {
     fn merge(
         &self,
         alloc: Global,
-        behind: &mut PackedViews<J>,
+        behind: &mut PackedViews<'a, J>,
         view: PackedView<J>,
     ) -> Result<bool, AllocError> {
         self.put(alloc, behind, view)

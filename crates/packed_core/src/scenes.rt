@@ -1,7 +1,8 @@
 //! Scenes by their numbers.
 ghost use Rattle.std.specs.Prelude.{◌≡◌, Decides, OnOk, IfOk};
 ghost use Rattle.view_core.specs.Same.{shown_alone};
-ghost use Rattle.packed_core.specs.Scenes.{FindsScene, HasMoreScenes, HasScene};
+ghost use Rattle.packed_core.specs.Scenes.{FindsScene, HasScene};
+ghost use Rattle.packed_core.specs.Views.{HasMoreScenes};
 ghost use Rattle.packed_core.specs.Shown.{ShowsAlike, alone};
 
 use crate::domain::PackedDomain;
@@ -49,7 +50,7 @@ impl<'a, J: Job + Drop> PackedDomain<'a, J> {
     }
 
     /// The number of a scene that shows the same as another.
-    fn number_of(&self, views: &PackedViews<J>, scene: &Scene) -> Option<usize>
+    fn number_of(&self, views: &PackedViews<'_, J>, scene: &Scene) -> Option<usize>
         ensures { FindsScene J.plan J.fixed.date views.now.part views.now.scenes scene.now result }
     {
         for n in 0..views.entries.len() {
@@ -61,7 +62,7 @@ impl<'a, J: Job + Drop> PackedDomain<'a, J> {
     }
 
     /// The same, where it may stand at the place that is told.
-    fn number_near(&self, views: &PackedViews<J>, scene: &Scene, hint: usize) -> Option<usize>
+    fn number_near(&self, views: &PackedViews<'_, J>, scene: &Scene, hint: usize) -> Option<usize>
         ensures { FindsScene J.plan J.fixed.date views.now.part views.now.scenes scene.now result }
     {
         if hint < views.entries.len()
@@ -75,7 +76,7 @@ impl<'a, J: Job + Drop> PackedDomain<'a, J> {
     /// The number of a scene, which is put behind the others if none of them shows the same.
     pub(crate) fn put_scene(
         &self,
-        views: &mut PackedViews<J>,
+        views: &mut PackedViews<'_, J>,
         scene: &Rc<Scene>,
         hint: usize,
     ) -> Result<usize, AllocError>
@@ -86,8 +87,8 @@ impl<'a, J: Job + Drop> PackedDomain<'a, J> {
             Some(number) => Ok(number),
             None => {
                 let number = views.entries.len();
-                let entry = entry_of(views.part, scene.clone()?);
-                views.entries.push(entry)?;
+                views.sight = None;
+                views.entries.push(entry_of(scene.clone()?))?;
                 Ok(number)
             }
         }

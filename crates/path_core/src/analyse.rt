@@ -5,6 +5,7 @@ ghost use Rattle.jcl_meaning.specs.Resolutions.{meanings_of};
 ghost use Rattle.jcl_meaning.specs.Stores.{store_of};
 ghost use Rattle.jcl_meaning.specs.WellFormed.{IsWellFormedPlan};
 ghost use Rattle.part_laws.specs.Keeping.{HasSoundGroups};
+ghost use Rattle.packed_core.specs.Sights.{AreSeals};
 ghost use Rattle.path_core.specs.Starts.{fixed_from};
 ghost use Rattle.path_search.specs.Verdicts.{IsVerdict};
 
@@ -16,6 +17,7 @@ use jcl_plan::plan::JobPlan;
 use packed_core::asking::asking_steps;
 use packed_core::domain::PackedDomain;
 use packed_core::job::Job;
+use packed_core::sights::{Seal, seals_of};
 use part_laws::start_fits;
 use path_search::search::analyse_over;
 use path_search::verdict::Verdict;
@@ -31,6 +33,7 @@ fn analyse_holding<'a, J: Job + Drop>(
     start: &'a StartView,
     names: &'a [HeldName],
     meanings: &'a [KeyMeaning],
+    seals: &'a [Seal],
 ) -> Result<Verdict, AllocError>
     requires planned { plan.now ≡ J.plan }
     requires so_fixed { fixed_from start.now plan.now ≡ J.fixed }
@@ -38,6 +41,7 @@ fn analyse_holding<'a, J: Job + Drop>(
     requires groups { HasSoundGroups (store_of start.now.store) }
     requires names { names.now ≡ names_of plan.now }
     requires meanings { meanings.now ≡ meanings_of (store_of start.now.store) plan.now }
+    requires seals { AreSeals J.seals seals.now }
     ensures { IfOk result (λ v. IsVerdict (fixed_from start.now plan.now) plan.now (store_of start.now.store) start.now.most_views v) }
 {
     start_fits();
@@ -57,6 +61,7 @@ fn analyse_holding<'a, J: Job + Drop>(
     let domain: PackedDomain<'_, J> = PackedDomain {
         plain,
         asked: asking_steps(plan.steps.as_slice()),
+        seals,
         job: PhantomData,
     };
     analyse_over(
@@ -82,7 +87,8 @@ pub fn analyse_named(
     requires meanings { meanings.now ≡ meanings_of (store_of start.now.store) plan.now }
     ensures verdict { IfOk result (λ v. IsVerdict (fixed_from start.now plan.now) plan.now (store_of start.now.store) start.now.most_views v) }
 {
-    analyse_holding::<Brand>(alloc, plan, start, names, meanings)
+    let seals = seals_of(alloc, plan.steps.len())?;
+    analyse_holding::<Brand>(alloc, plan, start, names, meanings, seals.as_slice())
 }
 
 /// What may become of a job that starts so.

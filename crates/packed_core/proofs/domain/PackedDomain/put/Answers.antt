@@ -32,8 +32,9 @@ invariant_of-views-2 g c =
     record {
       roomed = is.roomed;
       small = is.small;
-      before = is.before;
       apart = is.apart;
+      sighted = is.sighted;
+      so_known = is.so_known;
       are_rows = record {
         numbered = each_pushed c.push.result (λ (l : List ℕ). get_or l 0 0 < length entries) c.views.inside.rows c.push.new.self row
             c.push.ensures.put c.push.ensures.kept

@@ -3,9 +3,8 @@ use Rattle.std.proofs.lemmas.List.{length-map}
 use Rattle.disp_core.specs.Courses.{fixed_by}
 use Rattle.jcl_plan.specs.declared.plan.JobPlan.{JobPlan}
 use Rattle.packed_core.specs.Entries.{Entry, scenes_of}
-use Rattle.packed_core.specs.Scenes.{HasMoreScenes}
 use Rattle.packed_core.specs.Shown.{row_shown}
-use Rattle.packed_core.specs.Views.{AreRows, Views}
+use Rattle.packed_core.specs.Views.{AreRows, HasMoreScenes, Views}
 use Rattle.packed_core.proofs.Kept.{behind_stays, leads_on, ok_then}
 use Rattle.packed_core.proofs.keep.PackedDomainViewDomain.transfer.Goals as goal
 
