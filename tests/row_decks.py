@@ -1,7 +1,8 @@
 """Analyses the decks of all rows over both ways to keep views, and tells where these answer differently.
 
 The decks are those of the tables of session_rows, store_rows, record_rows and path_rows, each with the volumes, units, sets, entries
-and procedures that stand before it; groups are left out. path_rows compares the two answers, with path, step and DD.
+and procedures that stand before it; groups are left out. Those of the laws of jcl_rows find nothing and may make their sets on one
+volume. path_rows compares the two answers, with path, step and DD.
 Usage: python3 tests/row_decks.py [FILE]      behind `make test` or `make rows`, which build path_rows; FILE keeps the table
 """
 
@@ -18,6 +19,8 @@ from rows import repeated, rows_of, session_with, unescaped
 PROGRAM = "crates/path_rows/out/path_rows"
 # What a row of path_rows keeps of a table whose commands it shares.
 KEPT = ("UNIT ", "ENTRY ", "CARD ", "PLACE ")
+# What a job finds of which a row says nothing.
+FOUND = ["UNIT SYSDA", "UNIT DISK", "VOLUME VOL001", "PLACES VOL001"]
 # Sessions at the limits have thousands of decks that are alike.
 MOST_OF_A_SESSION = 40
 
@@ -103,12 +106,18 @@ def of_records(lines):
     deck = None
     for line in lines:
         if line == "/ENDDECK":
-            yield ["UNIT SYSDA", "UNIT DISK", "VOLUME VOL001", "PLACES VOL001"] + [f"CARD {card}" for card in deck or []]
+            yield FOUND + [f"CARD {card}" for card in deck or []]
             deck = None
         elif deck is not None:
             deck.append(line)
         elif line.startswith("//") and " JOB" in line:
             deck = [line]
+
+
+def of_laws(text):
+    """The input of a row of path_rows for each deck that stands as a text in a file of laws."""
+    for deck in re.findall(r'"(//\w+ +JOB\b[^"\\]*(?:\\n[^"\\]*)*)"', text):
+        yield FOUND + [f"CARD {card}" for card in deck.split("\\n") if card]
 
 
 def sessions_of(put_in):
@@ -137,6 +146,10 @@ def inputs():
                 made = []
             for number, lines in enumerate(made, 1):
                 yield crate, f"{path} {name} {number}", lines
+    for path in sorted(glob.glob("crates/jcl_rows/specs/*.antt")):
+        with open(path, encoding="utf-8") as file:
+            for number, lines in enumerate(of_laws(file.read()), 1):
+                yield "jcl_rows", f"{path} {number}", lines
 
 
 def main():
