@@ -3,9 +3,12 @@ pub mod Begun
 pub mod Below
 pub mod Cards
 pub mod Cuts
+pub mod Finding
 pub mod Judged
 pub mod Marked
 pub mod Read
+pub mod Refused
 pub mod Spotted
+pub mod Standing
 pub mod Statements
 pub mod Walked

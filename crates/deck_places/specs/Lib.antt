@@ -1,3 +1,5 @@
+pub mod Called
+pub mod Calling
 pub mod Cards
 pub mod Cuts
 pub mod Judging

@@ -2,6 +2,7 @@
 ghost use Rattle.std.specs.Prelude.{ℕ, List};
 ghost use Rattle.jcl_plan.specs.declared.fault.Cause.{Cause};
 ghost use Rattle.proc_library.specs.declared.library.LibraryProcedure.{LibraryProcedure};
+ghost use Rattle.deck_places.specs.Called.{ProceduresStand};
 ghost use Rattle.deck_places.specs.Cards.{walk_of};
 ghost use Rattle.deck_places.specs.Places.{IsPlace};
 ghost use Rattle.deck_places.specs.Spots.{IsWithin};
@@ -11,4 +12,9 @@ ghost use Rattle.deck_places.specs.declared.judge.At.{At};
 pub fn each_place_has_a_statement()
     ensures { (units : List (List ℕ)) (library : List LibraryProcedure) (lines : List (List ℕ)) (cause : Cause) (at : At) →
         IsPlace units library lines cause at → IsWithin (walk_of lines).begun at }
+{}
+
+/// The procedure that a call finds in a deck is what stands behind the first PROC statement of its name.
+pub fn each_procedure_stands_in_its_deck()
+    ensures { ProceduresStand }
 {}

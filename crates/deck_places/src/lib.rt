@@ -1,6 +1,7 @@
 //! Why a deck is refused, and where: on which card, or by which statement.
 #![tactic(auto)]
 
+pub mod called;
 pub mod copies;
 pub mod judge;
 pub mod laws;
