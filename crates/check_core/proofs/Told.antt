@@ -8,19 +8,22 @@ use Rattle.deck_places.specs.Places.{IsJudged, IsPlace}
 use Rattle.deck_places.specs.declared.judge.At.{At}
 use Rattle.deck_places.specs.declared.judge.At.TheVariants as place
 use Rattle.deck_places.specs.declared.judge.Judged.TheVariants.{Refused}
+use Rattle.check_core.specs.Insides.{IsInsideAt}
 use Rattle.check_core.specs.Spots.{IsCardShown, IsSpotOf}
 use Rattle.check_core.specs.declared.report.Report.{Report}
 use Rattle.check_core.specs.declared.report.Spot.{Spot}
 
 pub told_so : (units : List (List ℕ)) (library : List LibraryProcedure) (lines own : List (List ℕ)) (cause : Cause) (at : At) (first : Report) →
     IsJudged units library lines (Refused cause at) → first.cause ≡ cause → first.at ≡ at →
-    (IsPlace units library own cause at → IsSpotOf own cause at first.spot) → own ≡ lines →
+    (IsPlace units library own cause at → IsSpotOf own cause at first.spot) → IsInsideAt library own cause at first.inside → own ≡ lines →
     (job_of units library lines ≡ Err first.cause) × IsPlace units library lines first.cause first.at × IsSpotOf lines first.cause first.at first.spot
-told_so units library lines own cause at first judged of_cause at_place spot same =
+    × IsInsideAt library lines first.cause first.at first.inside
+told_so units library lines own cause at first judged of_cause at_place spot inside same =
     rw (of_cause, at_place) (
       judged.0,
       judged.1,
       subst (λ l. IsSpotOf l cause at first.spot) same (spot (subst (λ l. IsPlace units library l cause at) (sym same) judged.1)),
+      subst (λ l. IsInsideAt library l cause at first.inside) same inside,
     )
 
 -- at another place than a statement a card of it is shown

@@ -1,3 +1,4 @@
+pub mod Insides
 pub mod Reports
 pub mod Spots
 pub mod Texts

@@ -5,10 +5,13 @@ use Rattle.proc_library.specs.declared.library.LibraryProcedure.{LibraryProcedur
 use Rattle.deck_places.specs.Places.{IsPlace}
 use Rattle.check_core.specs.declared.report.Checked.{Checked}
 use Rattle.check_core.specs.declared.report.Checked.TheVariants.{Refused, Taken}
+use Rattle.check_core.specs.Insides.{IsInsideAt}
 use Rattle.check_core.specs.Spots.{IsSpotOf}
 
--- Nothing is told of a deck that denotes a job; of another that for which it is refused is told first, and where.
+-- Nothing is told of a deck that denotes a job; of another that for which it is refused is told first, and where; at a call with the statement of the called
+-- procedure for which it is.
 abbrev pub AreTold : List (List ℕ) → List LibraryProcedure → List (List ℕ) → Checked → Type 0
 AreTold units library lines (Taken plan) = job_of units library lines ≡ Ok plan
 AreTold units library lines (Refused first later) =
     (job_of units library lines ≡ Err first.cause) × IsPlace units library lines first.cause first.at × IsSpotOf lines first.cause first.at first.spot
+    × IsInsideAt library lines first.cause first.at first.inside

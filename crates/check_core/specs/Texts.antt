@@ -4,6 +4,8 @@ use Rattle.jcl_plan.specs.Texts.{cause_text}
 use Rattle.jcl_plan.specs.declared.fault.Cause.{Cause}
 use Rattle.check_core.specs.declared.report.Checked.{Checked}
 use Rattle.check_core.specs.declared.report.Checked.TheVariants.{Refused, Taken}
+use Rattle.check_core.specs.declared.report.Inside.{Inside}
+use Rattle.check_core.specs.declared.report.Report.{Report}
 use Rattle.check_core.specs.declared.report.Spot.{Spot}
 
 -- what is told of a refusal begins with the line and the number
@@ -40,12 +42,18 @@ card_of lines (Some n) = slice_get lines n
 abbrev pub spot_text : List (List ℕ) → Spot → List ℕ
 spot_text lines spot = marked_text (card_of lines spot.card) spot.column
 
--- what is wrong is told in words, then the card with its mark, then the rest
-abbrev pub TellsSpot : List (List ℕ) → Spot → List ℕ → Type 0
-TellsSpot lines spot text = (words : List ℕ) × (rest : List ℕ) × (text ≡ words ++ 10 ∷ spot_text lines spot ++ rest)
+-- the statement of a called procedure, if it is for one: its line in the procedure, and its card
+abbrev pub inside_text : Option Inside → List ℕ
+inside_text None = []
+inside_text (Some inside) = codes "    line " ++ decimal inside.line ++ codes " of the procedure " ++ inside.procedure ++ codes ":\n" ++ card_text inside.card
 
--- behind a text nothing is added of a deck that denotes a job; of another first the line and the number of its refusal, then its words and its mark
+-- what is wrong is told in words, then the card with its mark, then the statement of a called procedure, then the rest
+abbrev pub TellsPlace : List (List ℕ) → Report → List ℕ → Type 0
+TellsPlace lines report text =
+    (words : List ℕ) × (rest : List ℕ) × (text ≡ words ++ 10 ∷ spot_text lines report.spot ++ inside_text report.inside ++ rest)
+
+-- behind a text nothing is added of a deck that denotes a job; of another first the line and the number of its refusal, then its words and its place
 abbrev pub AddsToldText : ℕ → List (List ℕ) → Checked → List ℕ → List ℕ → Type 0
 AddsToldText first lines (Taken plan) old new = new ≡ old
 AddsToldText first lines (Refused report later) old new =
-    (rest : List ℕ) × (new ≡ old ++ head (line_of first report.spot.card) report.cause ++ rest) × TellsSpot lines report.spot rest
+    (rest : List ℕ) × (new ≡ old ++ head (line_of first report.spot.card) report.cause ++ rest) × TellsPlace lines report rest

@@ -2,15 +2,16 @@
 ghost use Rattle.std.specs.Prelude.{◌≡◌, ℕ, IfOk, List, false};
 ghost use Rattle.proc_library.specs.declared.library.LibraryProcedure.{LibraryProcedure};
 ghost use Rattle.deck_places.specs.Places.{IsPlace};
+ghost use Rattle.check_core.specs.Insides.{IsInsideAt};
 ghost use Rattle.check_core.specs.Reports.{AreTold};
 ghost use Rattle.check_core.specs.Spots.{IsSpotOf};
 
-use crate::guess::{called_at, guess_of};
-use crate::inside::inside_of;
+use crate::guess::guess_of;
+use crate::inside::inside_at;
 use crate::known::is_known;
 use crate::mark::spot_of;
 use crate::mended::Mended;
-use crate::report::{Checked, Inside, Report, Spot};
+use crate::report::{Checked, Report, Spot};
 use card_core::statement::Card;
 use deck_places::judge::{At, Judged, judge};
 use jcl_plan::fault::Cause;
@@ -42,24 +43,6 @@ fn own_card(mended: &Mended, card: Option<usize>) -> Option<usize>
     }
 }
 
-/// The statement of a called procedure for which a call is refused.
-fn inside_at(
-    alloc: Global,
-    sources: &Sources<'_>,
-    mended: &Mended,
-    cause: Cause,
-    at: At,
-    spot: Spot,
-) -> Result<Option<Inside>, AllocError> {
-    match at {
-        At::Call(_) => match called_at(alloc, mended, spot)? {
-            Some(name) => inside_of(alloc, sources, mended, cause, name.as_slice()),
-            None => Ok(None),
-        },
-        _ => Ok(None),
-    }
-}
-
 /// What is told of a refusal.
 fn report_of(
     alloc: Global,
@@ -69,11 +52,12 @@ fn report_of(
     at: At,
 ) -> Result<Report, AllocError>
     ensures told { IfOk result (λ r. (r.cause ≡ cause) × (r.at ≡ at)) }
+    ensures inside { IfOk result (λ r. IsInsideAt sources.now.library.now mended.now.lines.items cause at r.inside) }
     ensures spot { mended.now.has_job_in_front ≡ false → (units : List (List ℕ)) (library : List LibraryProcedure) →
         IsPlace units library mended.now.lines.items cause at → IfOk result (λ r. IsSpotOf mended.now.lines.items cause at r.spot) }
 {
     let spot = spot_of(alloc, mended, cause, at)?;
-    let inside = inside_at(alloc, sources, mended, cause, at, spot)?;
+    let inside = inside_at(alloc, sources.library, mended, cause, at)?;
     let guess = guess_of(alloc, sources, mended, cause, spot)?;
     let spot = Spot {
         card: own_card(mended, spot.card),

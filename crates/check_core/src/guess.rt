@@ -284,21 +284,6 @@ fn nearest_keyword(
     )
 }
 
-/// The name of the procedure that is called at a spot.
-pub(crate) fn called_at(
-    alloc: Global,
-    mended: &Mended,
-    spot: Spot,
-) -> Result<Option<Text>, AllocError> {
-    let (Some(n), Some(column)) = (spot.card, spot.column) else {
-        return Ok(None);
-    };
-    match card_at(mended.lines.as_slice(), n) {
-        Some(card) => Ok(Some(Text::copy_of(alloc, procedure_at(&card, column))?)),
-        None => Ok(None),
-    }
-}
-
 /// A word that may have been meant in place of the one that is refused.
 pub(crate) fn guess_of(
     alloc: Global,

@@ -1,7 +1,7 @@
 //! Refusals as text.
 ghost use Rattle.std.specs.Prelude.{◌≡◌, ℕ, ◌++◌, ◌∷◌, List, IfOk, OnOk, Some, decimal, map, replicate, take};
 ghost use Rattle.jcl_plan.specs.Texts.{cause_text};
-ghost use Rattle.check_core.specs.Texts.{AddsToldText, TellsSpot, card_text, head, line_of, mark_text, marked_text, shown, spot_text};
+ghost use Rattle.check_core.specs.Texts.{AddsToldText, TellsPlace, card_text, head, inside_text, line_of, mark_text, marked_text, shown, spot_text};
 
 use crate::report::{Checked, Inside, Report, Spot};
 use card_core::statement::Card;
@@ -165,7 +165,9 @@ fn push_spot(text: &mut Vec<u8>, lines: &[Card<'_>], spot: Spot) -> Result<(), A
 }
 
 /// The statement of a called procedure.
-fn push_inside(text: &mut Vec<u8>, inside: &Inside) -> Result<(), AllocError> {
+fn push_inside(text: &mut Vec<u8>, inside: &Inside) -> Result<(), AllocError>
+    ensures { OnOk result (text.new.items ≡ text.old.items ++ inside_text (Some inside.now)) }
+{
     text.extend_from_slice(b"    line ")?;
     push_number(text, inside.line)?;
     text.extend_from_slice(b" of the procedure ")?;
@@ -192,12 +194,21 @@ fn to_do_of(cause: Cause) -> &'static [u8] {
     }
 }
 
-/// What is told behind the mark of a refusal.
+/// The statement of a called procedure, if a refusal is for one.
+fn inside_of(alloc: Global, inside: &Option<Inside>) -> Result<Vec<u8>, AllocError>
+    ensures { IfOk result (λ text. text.items ≡ inside_text inside.now) }
+{
+    let mut text = Vec::new(alloc);
+    match inside {
+        Some(inside) => push_inside(&mut text, inside)?,
+        None => {}
+    }
+    Ok(text)
+}
+
+/// What to do, and a word that may have been meant.
 fn advice_of(alloc: Global, report: &Report) -> Result<Vec<u8>, AllocError> {
     let mut text = Vec::new(alloc);
-    if let Some(inside) = &report.inside {
-        push_inside(&mut text, inside)?;
-    }
     text.extend_from_slice(b"    ")?;
     text.extend_from_slice(to_do_of(report.cause))?;
     if let Some(guess) = &report.guess {
@@ -211,12 +222,14 @@ fn advice_of(alloc: Global, report: &Report) -> Result<Vec<u8>, AllocError> {
 
 /// What is told of a refusal behind its line and its number: what is wrong, where, and what to do.
 fn words_of(alloc: Global, lines: &[Card<'_>], report: &Report) -> Result<Vec<u8>, AllocError>
-    ensures { IfOk result (λ text. TellsSpot lines.now report.now.spot text.items) }
+    ensures { IfOk result (λ text. TellsPlace lines.now report.now text.items) }
 {
+    let inside = inside_of(alloc, &report.inside)?;
     let advice = advice_of(alloc, report)?;
     let mut text = Vec::from_slice(alloc, wrong_of(report.cause))?;
     text.push(b'\n')?;
     push_spot(&mut text, lines, report.spot)?;
+    text.extend_from_slice(inside.as_slice())?;
     text.extend_from_slice(advice.as_slice())?;
     Ok(text)
 }
@@ -245,7 +258,7 @@ fn rest_of(
     first: &Report,
     later: &[Report],
 ) -> Result<Vec<u8>, AllocError>
-    ensures { IfOk result (λ text. TellsSpot lines.now first.now.spot text.items) }
+    ensures { IfOk result (λ text. TellsPlace lines.now first.now text.items) }
 {
     let later = later_of(alloc, first_line, lines, later)?;
     let mut text = words_of(alloc, lines, first)?;

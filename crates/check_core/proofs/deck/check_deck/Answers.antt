@@ -11,4 +11,4 @@ returns c =
     told_so units library lines c.in_ok-mended.mended.lines.items c.in-Refused.cause c.in-Refused.at c.in_ok-first.first
     (subst (IsJudged units library lines) c.in-Refused.is c.in_ok-plan.ensures)
     c.in_ok-first.ensures.told.0 c.in_ok-first.ensures.told.1
-    (c.in_ok-first.ensures.spot c.in_ok-mended.ensures.unmended units library) c.in_ok-mended.ensures.lines
+    (c.in_ok-first.ensures.spot c.in_ok-mended.ensures.unmended units library) c.in_ok-first.ensures.inside c.in_ok-mended.ensures.lines
