@@ -1,9 +1,8 @@
 -- The statement of a called procedure that is told where a deck is refused at a call. Lines of a procedure count from 1, cards from 0. (This profile)
-use Rattle.std.specs.Prelude.{◌≡◌, ℕ, ◌+◌, ◌-◌, List, [], slice_get, unwrap_or, Option, None, Some}
+use Rattle.std.specs.Prelude.{◌≡◌, ℕ, ◌+◌, ◌-◌, List, slice_get, Option, None, Some}
 use Rattle.jcl_plan.specs.declared.fault.Cause.{Cause}
 use Rattle.proc_library.specs.declared.library.LibraryProcedure.{LibraryProcedure}
-use Rattle.proc_library.specs.Libraries.{in_library}
-use Rattle.deck_places.specs.Called.{IsCalled}
+use Rattle.deck_places.specs.Called.{IsCalled, lines_of}
 use Rattle.deck_places.specs.declared.called.CalledPlace.{CalledPlace}
 use Rattle.deck_places.specs.declared.judge.At.{At}
 use Rattle.deck_places.specs.declared.judge.At.TheVariants as place
@@ -17,28 +16,13 @@ line_behind None card = card + 1
 abbrev pub line_in : CalledPlace → ℕ
 line_in called = line_behind called.head called.card
 
--- the lines on which it stands
-abbrev pub lines_in : Option LibraryProcedure → List (List ℕ)
-lines_in None = []
-lines_in (Some procedure) = procedure.lines
-
-abbrev pub lines_of_session : List LibraryProcedure → List ℕ → List (List ℕ)
-lines_of_session library name = lines_in (in_library library name)
-
-abbrev pub lines_by : Option ℕ → List (List ℕ) → List (List ℕ) → List (List ℕ)
-lines_by (Some head) own others = own
-lines_by None own others = others
-
-abbrev pub lines_of : List LibraryProcedure → List (List ℕ) → CalledPlace → List (List ℕ)
-lines_of library lines called = lines_by called.head lines (lines_of_session library called.procedure)
-
 -- what is told of a statement: its procedure, the line on which it begins, and that line
 pub record IsInside (library : List LibraryProcedure) (lines : List (List ℕ)) (cause : Cause) (k : ℕ) (inside : Inside) : Type 0 where
   pub called : CalledPlace
   pub is_called : IsCalled library lines k cause (Some called)
   pub procedure : inside.procedure ≡ called.procedure
   pub line : inside.line ≡ line_in called
-  pub card : inside.card ≡ unwrap_or (slice_get (lines_of library lines called) called.card) []
+  pub card : slice_get (lines_of library lines called) called.card ≡ Some inside.card
 
 abbrev pub IsInsideOf : List LibraryProcedure → List (List ℕ) → Cause → ℕ → Option Inside → Type 0
 IsInsideOf library lines cause k None = IsCalled library lines k cause None

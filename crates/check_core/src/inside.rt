@@ -1,11 +1,14 @@
 //! The statement of a called procedure for which a call is refused.
-ghost use Rattle.std.specs.Prelude.{◌≡◌, [], IfOk, slice_get, unwrap_or};
-ghost use Rattle.check_core.specs.Insides.{IsInsideAt, IsInsideOf, line_in, lines_of, lines_of_session};
+ghost use Rattle.std.specs.Prelude.{◌≡◌, IfOk};
+ghost use Rattle.proc_library.specs.Libraries.{in_library};
+ghost use Rattle.deck_places.specs.Called.{lines_in, lines_of};
+ghost use Rattle.check_core.specs.Insides.{IsInsideAt, IsInsideOf, line_in};
 
 use crate::mended::Mended;
 use crate::report::Inside;
 use deck_places::called::{CalledPlace, called_statement};
 use deck_places::judge::At;
+use deck_places::laws::each_called_statement_is_on_a_line;
 use jcl_plan::fault::Cause;
 use jname_core::name8::Name8;
 use plain::text::Text;
@@ -27,7 +30,7 @@ fn line_in(place: &CalledPlace) -> Result<usize, AllocError>
 
 /// The lines of a procedure of the session.
 fn lines_of_session<'a>(library: &'a ProcLibrary, name: &Name8) -> &'a [Text]
-    ensures { result.now ≡ lines_of_session library.now name.now }
+    ensures { result.now ≡ lines_in (in_library library.now name.now) }
 {
     match library.find(name) {
         Some(procedure) => procedure.lines.as_slice(),
@@ -45,16 +48,6 @@ fn lines_of<'a>(library: &'a ProcLibrary, mended: &'a Mended, place: &CalledPlac
     }
 }
 
-/// The text of a card of these lines.
-fn card_of(alloc: Global, lines: &[Text], n: usize) -> Result<Text, AllocError>
-    ensures { IfOk result (λ card. card ≡ unwrap_or (slice_get lines.now n) []) }
-{
-    match lines.get(n) {
-        Some(line) => Text::copy_of(alloc, line.as_slice()),
-        None => Text::copy_of(alloc, b""),
-    }
-}
-
 /// The statement of the procedure that the k-th statement calls, for which the call is refused.
 fn inside_of(
     alloc: Global,
@@ -69,12 +62,14 @@ fn inside_of(
     let Some(place) = called_statement(alloc, library, lent.as_slice(), k, cause)? else {
         return Ok(None);
     };
-    let line = line_in(&place)?;
-    let card = card_of(alloc, lines_of(library, mended, &place), place.card)?;
+    each_called_statement_is_on_a_line();
+    let Some(card) = lines_of(library, mended, &place).get(place.card) else {
+        return Ok(None);
+    };
     Ok(Some(Inside {
         procedure: Text::copy_of(alloc, place.procedure.as_slice())?,
-        line,
-        card,
+        line: line_in(&place)?,
+        card: Text::copy_of(alloc, card.as_slice())?,
     }))
 }
 

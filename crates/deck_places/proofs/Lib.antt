@@ -5,6 +5,7 @@ pub mod Cards
 pub mod Cuts
 pub mod Finding
 pub mod Judged
+pub mod Located
 pub mod Marked
 pub mod Read
 pub mod Refused

@@ -157,3 +157,21 @@ IsCalledFor (Some called) cause place = IsCalledIn called cause place
 -- overrides, or where the call is refused for something else, as for a step that the procedure does not have.
 abbrev pub IsCalled : List LibraryProcedure → List (List ℕ) → ℕ → Cause → Option CalledPlace → Type 0
 IsCalled library lines k cause place = IsCalledFor (called_by library lines k) cause place
+
+-- the lines on which the procedure of a place stands: the deck's, or those of the procedure of the session
+abbrev pub lines_in : Option LibraryProcedure → List (List ℕ)
+lines_in None = []
+lines_in (Some procedure) = procedure.lines
+
+abbrev pub lines_by : Option ℕ → List (List ℕ) → List (List ℕ) → List (List ℕ)
+lines_by (Some head) own others = own
+lines_by None own others = others
+
+abbrev pub lines_of : List LibraryProcedure → List (List ℕ) → CalledPlace → List (List ℕ)
+lines_of library lines place = lines_by place.head lines (lines_in (in_library library place.procedure))
+
+-- the card on which such a statement begins is one of them
+abbrev pub StatementsAreOnLines : Type 0
+StatementsAreOnLines =
+    (library : List LibraryProcedure) (lines : List (List ℕ)) (k : ℕ) (cause : Cause) (place : CalledPlace) → IsCalled library lines k cause (Some place) →
+    (line : List ℕ) × (slice_get (lines_of library lines place) place.card ≡ Some line)

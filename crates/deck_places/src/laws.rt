@@ -2,7 +2,7 @@
 ghost use Rattle.std.specs.Prelude.{ℕ, List};
 ghost use Rattle.jcl_plan.specs.declared.fault.Cause.{Cause};
 ghost use Rattle.proc_library.specs.declared.library.LibraryProcedure.{LibraryProcedure};
-ghost use Rattle.deck_places.specs.Called.{ProceduresStand};
+ghost use Rattle.deck_places.specs.Called.{ProceduresStand, StatementsAreOnLines};
 ghost use Rattle.deck_places.specs.Cards.{walk_of};
 ghost use Rattle.deck_places.specs.Places.{IsPlace};
 ghost use Rattle.deck_places.specs.Spots.{IsWithin};
@@ -17,4 +17,9 @@ pub fn each_place_has_a_statement()
 /// The procedure that a call finds in a deck is what stands behind the first PROC statement of its name.
 pub fn each_procedure_stands_in_its_deck()
     ensures { ProceduresStand }
+{}
+
+/// The card on which the statement of a called procedure begins is one of the lines on which the procedure stands.
+pub fn each_called_statement_is_on_a_line()
+    ensures { StatementsAreOnLines }
 {}
