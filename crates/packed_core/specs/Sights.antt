@@ -1,6 +1,6 @@
 -- The scenes before a part, as they were told for it.
 use Rattle.std.specs.Prelude.{◌≡◌, ℕ, List, [], Option, None, Some, map, slice_get}
-use Rattle.core.specs.Sync.OnceLock.{Named}
+use Rattle.std.specs.Sync.OnceLock.{Named}
 use Rattle.view_core.specs.declared.scene.Scene.{Scene}
 use Rattle.packed_core.specs.declared.sights.Cast.{Cast}
 
