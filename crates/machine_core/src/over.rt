@@ -28,7 +28,17 @@ fn leave_volumes(store: &mut SharedStore, job: u16)
     volumes_add_up(&*store);
 }
 
-/// Gives back the tracks that are kept for a job, its records, and a cancel that did not act.
+/// What a job that is over gives back beside its kept tracks and its names: its records, and a cancel that did not act. It takes no memory.
+pub fn release_rest<Q: RecordStore>(parts: &mut Parts<Q>, job: u16)
+    requires { job ≢ 0 }
+    ensures records { Releases job (Q.queue parts.old.queue) (Q.queue parts.new.queue) }
+    ensures rest { parts.new ≡ record parts.old { queue = parts.new.queue; cancels = cancels_without parts.old.cancels job } }
+{
+    release_records(&mut parts.queue, job);
+    parts.cancels.remove(job);
+}
+
+/// Gives back all but the names.
 fn leave<Q: RecordStore>(parts: &mut Parts<Q>, job: u16)
     requires { job ≢ 0 }
     ensures records { Releases job (Q.queue parts.old.queue) (Q.queue parts.new.queue) }
@@ -37,8 +47,7 @@ fn leave<Q: RecordStore>(parts: &mut Parts<Q>, job: u16)
     ensures rest { parts.new ≡ record parts.old { store = parts.new.store; queue = parts.new.queue; cancels = cancels_without parts.old.cancels job } }
 {
     leave_volumes(&mut parts.store, job);
-    release_records(&mut parts.queue, job);
-    parts.cancels.remove(job);
+    release_rest(parts, job);
 }
 
 /// A job whose names are held gives them back, its kept tracks, its records, and a cancel that did not act. It takes no memory.
