@@ -1,5 +1,5 @@
 -- Of places that rise none stands twice.
-use Rattle.std.proofs.Common.{◌≡◌, ◌≢◌, ◌<◌, ◌⊎◌, inl, inr, ℕ, ◌==◌, ◌&&◌, ◌||◌, not, Bool, true, false, List, [], ◌∷◌, All, Option, Some, None, arith, refl, sym, ap, subst}
+use Rattle.std.proofs.Common.{◌≡◌, inl, inr, ℕ, ◌==◌, ◌&&◌, ◌||◌, not, Bool, true, false, List, [], ◌∷◌, All, Option, Some, None, arith, refl, sym, ap, subst}
 use Rattle.std.specs.List.{list_any, position}
 use Rattle.std.specs.Str.{bytes_eq}
 use Rattle.std.proofs.lemmas.Bool.{and_from, and_parts, eqb-true, false_from_ne_true}
@@ -7,7 +7,7 @@ use Rattle.std.proofs.lemmas.List.Elements.{All-head, All-tail}
 use Rattle.std.proofs.lemmas.Slice.Eq.{bytes_eq-Decides}
 use Rattle.plain.specs.Lists.{all_different}
 use Rattle.jcl_meaning.specs.declared.state.Place.{Place}
-use Rattle.path_meaning.specs.Verdicts.{AreRising, ComesBefore, IsOnEarlier, IsOnEarlierVolume}
+use Rattle.path_meaning.specs.Verdicts.{AreRising, ComesBefore, IsOnEarlier}
 use Rattle.place_core.specs.Keepings.{AreApart, is_same_spot}
 
 not_before_itself : (o : Option ℕ) → IsOnEarlier o o → ⊥

@@ -1,3 +1,4 @@
 mod Apart
 mod Answering
 mod Refused
+pub mod Telling

@@ -1,5 +1,5 @@
 -- The volume that has no room is that of one of the places.
-use Rattle.std.proofs.Common.{◌≡◌, ℕ, suc, Bool, true, false, cond, List, [], ◌∷◌, Option, Some, None, arith, refl, ap, subst}
+use Rattle.std.proofs.Common.{◌≡◌, ℕ, suc, Bool, true, false, cond, List, [], ◌∷◌, Some, arith, refl}
 use Rattle.std.specs.List.{Contains}
 use Rattle.std.proofs.lemmas.Option.{none-some, same_Some}
 use Rattle.jcl_plan.specs.declared.plan.JobPlan.{JobPlan}

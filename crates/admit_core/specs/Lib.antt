@@ -1,1 +1,3 @@
+pub mod Admissions
+pub mod Told
 pub mod Admitted

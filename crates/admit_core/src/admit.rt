@@ -1,5 +1,5 @@
 //! A job is admitted: ASSURED, RISK, TOOMANY, WAIT SPACE. (This profile)
-ghost use Rattle.std.specs.Prelude.{◌≡◌, ◌++◌, ◌∷◌, [], IfOk, IfSome, None, Ok, OnErr, Some};
+ghost use Rattle.std.specs.Prelude.{◌≡◌, ◌++◌, ◌∷◌, [], IfErr, IfOk, IfSome, None, Ok, OnErr, OnOk};
 ghost use Rattle.jcl_plan.specs.declared.entry.JobLine.TheVariants as line;
 ghost use Rattle.jcl_meaning.specs.WellFormed.{IsWellFormedPlan};
 ghost use Rattle.part_laws.specs.Keeping.{HasSoundGroups};
@@ -8,11 +8,12 @@ ghost use Rattle.place_core.specs.Placings.{NothingKeptFor};
 ghost use Rattle.shared_core.specs.Shown.{world_store_of};
 ghost use Rattle.shared_core.specs.Tracks.{ConservesTracks};
 ghost use Rattle.world_meaning.specs.Lenses.{seen};
-ghost use Rattle.admit_core.specs.Admitted.{IsAnswered, IsAssuredTo};
+ghost use Rattle.admit_core.specs.Admissions.{line_of};
+ghost use Rattle.admit_core.specs.Admitted.{IsAnswered, IsAssurance, admission_of, line_assured};
 
-use crate::admission::{Admission, Answer};
+use crate::admission::{Admission, Answer, AssuredJob, NamedJob, Provision, RiskyJob};
 use crate::budget::budget_of;
-use jcl_meaning::state::{KeyMeaning, Place};
+use jcl_meaning::state::Place;
 use jcl_plan::day::Day;
 use jcl_plan::entry::JobLine;
 use jcl_plan::plan::JobPlan;
@@ -39,15 +40,11 @@ pub struct Terms<'c> {
     pub explains: bool,
 }
 
-fn given(places: Listed<Place>, meanings: Listed<KeyMeaning>, date: Day, assured: bool) -> Admission
-    ensures { result ≡ record { places = places; meanings = meanings; date = date; assured = assured } }
-{
-    Admission {
-        places,
-        meanings,
-        date,
-        assured,
-    }
+/// What comes of a job that meets no fault: it is assured, with so many tracks kept and so many lines at most, or this volume has no room.
+#[derive(Clone, Copy)]
+enum Assurance {
+    Given { tracks: usize, actions: usize },
+    Refused(Serial),
 }
 
 /// Keeps the primary of each of these places for a job, in their order, and tells the volume of the first that has no room; then, as on an `Err`, nothing
@@ -55,59 +52,50 @@ fn given(places: Listed<Place>, meanings: Listed<KeyMeaning>, date: Day, assured
 fn keep(
     alloc: Global,
     store: &mut SharedStore,
-    job: u16,
+    number: u16,
     plan: &JobPlan,
     made: &[Place],
 ) -> Result<Option<Serial>, AllocError>
-    requires none { NothingKeptFor job store.old }
+    requires none { NothingKeptFor number store.old }
     requires apart { AreApart made.now }
-    ensures refused { IfOk result (λ serial. serial ≡ (kept_in job plan.now made.now store.old.volumes).refused) }
-    ensures kept { result ≡ Ok None → KeepsAll job plan.now made.now store.old store.new × ConservesTracks store.old store.new }
+    ensures refused { IfOk result (λ serial. serial ≡ (kept_in number plan.now made.now store.old.volumes).refused) }
+    ensures kept { result ≡ Ok None → KeepsAll number plan.now made.now store.old store.new × ConservesTracks store.old store.new }
     ensures back { IfOk result (λ serial. IfSome serial (λ _. store.new ≡ store.old)) }
     ensures err { OnErr result (store.new ≡ store.old) }
 {
     tracks_are_conserved();
     volumes_add_up(&*store);
-    let done = keep_all(alloc, store, job, plan, made);
+    let done = keep_all(alloc, store, number, plan, made);
     volumes_add_up(&*store);
     done
 }
 
-/// Answers a job that meets no fault, and may make sets at these places: ASSURED where their primaries are kept, else WAIT SPACE. Its line goes behind its
+/// Assures a job that meets no fault, and may make sets at these places: ASSURED where their primaries are kept, else WAIT SPACE. The line goes behind its
 /// listing. An `Err` changes nothing.
 fn assure(
     alloc: Global,
     store: &mut SharedStore,
     programs: &ProgramLibrary,
-    job: u16,
+    number: u16,
     plan: &JobPlan,
-    admission: Admission,
     made: &[Place],
     listing: &mut Listed<JobLine>,
-) -> Result<Answer, AllocError>
-    requires none { NothingKeptFor job store.old }
+) -> Result<Assurance, AllocError>
+    requires none { NothingKeptFor number store.old }
     requires apart { AreApart made.now }
-    ensures ok { IfOk result (λ answer. IsAssuredTo store.old programs.now job plan.now made.now admission store.new answer) }
-    ensures told { IfOk result (λ answer. listing.new ≡ listing.old ++ answer.line ∷ []) }
+    ensures ok { IfOk result (IsAssurance store.old programs.now number plan.now made.now store.new) }
+    ensures told { IfOk result (λ assurance. listing.new ≡ listing.old ++ line_assured assurance ∷ []) }
     ensures err { OnErr result ((store.new ≡ store.old) × (listing.new ≡ listing.old)) }
 {
     let tracks = tracks_asked(plan, made)?;
     let actions = budget_of(plan, programs)?;
     let last = listing.len();
     listing.push(JobLine::Assured { tracks, actions })?;
-    match keep(alloc, store, job, plan, made) {
-        Ok(None) => Ok(Answer {
-            line: JobLine::Assured { tracks, actions },
-            path: Listed::empty(alloc),
-            admission: Some(admission),
-        }),
+    match keep(alloc, store, number, plan, made) {
+        Ok(None) => Ok(Assurance::Given { tracks, actions }),
         Ok(Some(serial)) => {
             listing.replace(last, JobLine::WaitSpace(serial));
-            Ok(Answer {
-                line: JobLine::WaitSpace(serial),
-                path: Listed::empty(alloc),
-                admission: None,
-            })
+            Ok(Assurance::Refused(serial))
         }
         Err(_) => {
             listing.remove(last);
@@ -116,120 +104,114 @@ fn assure(
     }
 }
 
-/// RISK, twice.
-fn risk_lines(alloc: Global, report: RiskReport) -> Result<(JobLine, JobLine), AllocError>
-    ensures { IfOk result (λ lines. (lines.0 ≡ lines.1) × (lines.0 ≡ line.Risk report.fault report.step report.dd report.path.items)) }
+fn admission_of(job: NamedJob, given: Provision, assurance: Assurance) -> Admission
+    ensures { result ≡ admission_of job given assurance }
 {
-    let RiskReport {
-        fault,
-        step,
-        dd,
-        path,
-    } = report;
-    let copied = Listed::copy_of(alloc, path.as_slice())?;
-    let first = JobLine::Risk {
-        fault,
-        step,
-        dd,
-        path: Listed::new(path),
-    };
-    Ok((
-        first,
-        JobLine::Risk {
-            fault,
-            step,
-            dd,
-            path: copied,
-        },
-    ))
+    match assurance {
+        Assurance::Given { tracks, actions } => Admission::Assured(AssuredJob {
+            named: job,
+            given,
+            tracks,
+            actions,
+        }),
+        Assurance::Refused(serial) => Admission::SpaceWait(job, serial),
+    }
 }
 
-/// Answers a job that may fail, or of which that is not found: it runs with checks. An `Err` changes nothing.
-fn warn(
-    line: JobLine,
-    again: JobLine,
-    path: Listed<JobLine>,
-    admission: Admission,
+/// Writes RISK behind a listing. An `Err` changes nothing.
+fn tell_risk(
+    alloc: Global,
+    report: &RiskReport,
     listing: &mut Listed<JobLine>,
-) -> Result<Answer, AllocError>
-    requires { again ≡ line }
-    ensures ok { IfOk result (λ answer. answer ≡ record { line = line; path = path; admission = Some admission }) }
-    ensures told { IfOk result (λ answer. listing.new ≡ listing.old ++ answer.line ∷ []) }
+) -> Result<(), AllocError>
+    ensures ok { OnOk result (listing.new ≡ listing.old ++ line.Risk report.now.fault report.now.step report.now.dd report.now.path.items ∷ []) }
     ensures err { OnErr result (listing.new ≡ listing.old) }
 {
-    listing.push(again)?;
-    Ok(Answer {
-        line,
+    let path = Listed::copy_of(alloc, report.path.as_slice())?;
+    listing.push(JobLine::Risk {
+        fault: report.fault,
+        step: report.step,
+        dd: report.dd,
         path,
-        admission: Some(admission),
-    })
+    })?;
+    Ok(())
 }
 
 /// Admits a job whose names are held, on a date: places its sets, finds what may become of it so, and keeps the primary of each set that some path makes.
-/// What is answered goes behind its listing. Nothing is kept unless the job is ASSURED. An `Err` changes nothing.
+/// The line of what is answered goes behind its listing. Nothing is kept unless the job is ASSURED. Where memory is wanting the job is given back, and
+/// nothing has changed.
 pub fn admit(
     alloc: Global,
     store: &mut SharedStore,
     terms: &Terms<'_>,
-    job: u16,
-    plan: &JobPlan,
+    number: u16,
+    job: NamedJob,
     date: Day,
     listing: &mut Listed<JobLine>,
-) -> Result<Answer, AllocError>
-    requires none { NothingKeptFor job store.old }
-    requires plan { IsWellFormedPlan plan.now }
-    requires groups { HasSoundGroups (seen job (world_store_of store.old)) }
-    ensures ok { IfOk result (IsAnswered store.old terms.now job plan.now date store.new) }
-    ensures told { IfOk result (λ answer. listing.new ≡ listing.old ++ answer.line ∷ []) }
+) -> Result<Answer, NamedJob>
+    requires none { NothingKeptFor number store.old }
+    requires plan { IsWellFormedPlan job.plan }
+    requires groups { HasSoundGroups (seen number (world_store_of store.old)) }
+    ensures ok { IfOk result (IsAnswered store.old terms.now number job date store.new) }
+    ensures told { IfOk result (λ answer. listing.new ≡ listing.old ++ line_of answer.admission ∷ []) }
+    ensures back { IfErr result (λ back. back ≡ job) }
     ensures err { OnErr result ((store.new ≡ store.old) × (listing.new ≡ listing.old)) }
 {
     made_is_configured();
-    let Judged {
-        places,
-        meanings,
-        finding,
-    } = judge(
+    let Ok(
+        Judged {
+            places,
+            meanings,
+            finding,
+        },
+    ) = judge(
         alloc,
         store,
-        job,
-        plan,
+        number,
+        &job.plan,
         terms.units,
         date,
         terms.most_views,
         terms.explains,
-    )?;
+    )
+    else {
+        return Err(job);
+    };
     let Finding { verdict, path } = finding;
+    let given = Provision {
+        places,
+        meanings,
+        date,
+    };
     match verdict {
-        Verdict::Safe(made) => {
-            let admission = given(places, meanings, date, true);
-            let made = made.as_slice();
-            assure(
-                alloc,
-                store,
-                terms.programs,
-                job,
-                plan,
-                admission,
-                made,
-                listing,
-            )
-        }
-        Verdict::Risk(report) => {
-            let (line, again) = risk_lines(alloc, report)?;
-            warn(
-                line,
-                again,
-                path,
-                given(places, meanings, date, false),
-                listing,
-            )
-        }
-        Verdict::TooMany { step } => warn(
-            JobLine::TooMany(step),
-            JobLine::TooMany(step),
-            path,
-            given(places, meanings, date, false),
+        Verdict::Safe(made) => match assure(
+            alloc,
+            store,
+            terms.programs,
+            number,
+            &job.plan,
+            made.as_slice(),
             listing,
-        ),
+        ) {
+            Ok(assurance) => Ok(Answer {
+                admission: admission_of(job, given, assurance),
+                path,
+            }),
+            Err(_) => Err(job),
+        },
+        Verdict::Risk(report) => match tell_risk(alloc, &report, listing) {
+            Ok(()) => Ok(Answer {
+                admission: Admission::Risky(RiskyJob { named: job, given }, report),
+                path,
+            }),
+            Err(_) => Err(job),
+        },
+        Verdict::TooMany { step } => match listing.push(JobLine::TooMany(step)) {
+            Ok(()) => Ok(Answer {
+                admission: Admission::TooMany(RiskyJob { named: job, given }, step),
+                path,
+            }),
+            Err(_) => Err(job),
+        },
     }
 }

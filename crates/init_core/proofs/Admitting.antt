@@ -1,13 +1,11 @@
 -- A job's answer is the machine's case.
-use Rattle.std.proofs.Common.{◌≡◌, ◌≢◌, ◌&&◌, ℕ, suc, ◌≤◌, Bool, true, false, not, List, [], ◌∷◌, ◌++◌, Option, Some, None, arith, length, refl, sym, ap, ◌∙◌, subst}
-use Rattle.std.specs.Prelude.{IfSome}
+use Rattle.std.proofs.Common.{◌≡◌, ◌≢◌, ◌&&◌, ℕ, suc, ◌≤◌, Bool, true, false, List, [], ◌∷◌, ◌++◌, All, Option, Some, None, arith, length, refl, sym, ap, ◌∙◌, subst}
 use Rattle.std.specs.List.{Contains}
 use Rattle.std.proofs.lemmas.List.Elements.{All-nil}
 use Rattle.enq_core.specs.Holds.{HoldsNone}
 use Rattle.jcl_meaning.specs.declared.state.DdState.{DdState}
 use Rattle.jcl_meaning.specs.declared.state.Place.{Place}
 use Rattle.jcl_meaning.specs.Agendas.{budget_of}
-use Rattle.jcl_meaning.specs.declared.program.SoloProgram.{SoloProgram}
 use Rattle.jcl_plan.specs.declared.entry.JobLine.{JobLine}
 use Rattle.jcl_plan.specs.declared.entry.JobLine.TheVariants as line
 use Rattle.jcl_plan.specs.declared.fault.Fault.{Fault}
@@ -35,29 +33,42 @@ use Rattle.turn_core.specs.declared.todo.Todo.TheVariants as todo
 use Rattle.turn_core.specs.declared.walk.Walk.{Walk}
 use Rattle.place_core.specs.Keepings.{KeepsAll}
 use Rattle.job_core.proofs.Wanted.{releasing_leaves, releasing_leaves_none}
-use Rattle.admit_core.specs.Admitted.{IsAnswered, IsTold, Leaves, assured, assured_with, checked_with, fixed_by_room, fixed_for, no_space, risk, too_many}
+use Rattle.admit_core.specs.Admissions.{behind, fixed_for, line_of, named_of}
+use Rattle.admit_core.specs.Admitted.{IsAdmission, IsAnswered, IsProvision}
+use Rattle.admit_core.specs.Told.{IsTold, fixed_by_room}
 use Rattle.admit_core.specs.declared.admission.Admission.{Admission}
+use Rattle.admit_core.specs.declared.admission.Admission.TheVariants.{Assured, Risky, SpaceWait, TooMany}
+use Rattle.admit_core.specs.declared.admission.AdmittedJob.{AdmittedJob}
+use Rattle.admit_core.specs.declared.admission.AdmittedJob.TheVariants as admitted_as
 use Rattle.admit_core.specs.declared.admission.Answer.{Answer}
+use Rattle.admit_core.specs.declared.admission.AssuredJob.{AssuredJob}
+use Rattle.admit_core.specs.declared.admission.Behind.{Behind}
+use Rattle.admit_core.specs.declared.admission.Behind.TheVariants.{Admitted, Waits}
+use Rattle.admit_core.specs.declared.admission.NamedJob.{NamedJob}
+use Rattle.admit_core.specs.declared.admission.Provision.{Provision}
+use Rattle.admit_core.specs.declared.admission.RiskyJob.{RiskyJob}
+use Rattle.admit_core.proofs.Telling.{told_of}
 use Rattle.machine_core.specs.declared.parts.Parts.{Parts}
 use Rattle.machine_core.specs.Released.{GivesBack, IsReleased}
 use Rattle.machine_core.specs.Shown.{shown}
-use Rattle.init_core.specs.Answering.{is_turned_away, stage_answered, terms_of, walk_answered}
+use Rattle.init_core.specs.Answering.{is_turned_away, terms_of}
 use Rattle.init_core.specs.declared.running.Profile.{Profile}
 use Rattle.init_core.specs.declared.running.Progress.{Progress}
 use Rattle.init_core.specs.declared.running.Progress.TheVariants.{Answered, Over}
 use Rattle.init_core.specs.declared.running.Running.{Running}
+use Rattle.init_core.specs.declared.running.Stage.{Stage}
 use Rattle.init_core.specs.declared.running.Stage.TheVariants as stage
 use Rattle.init_core.specs.declared.running.Told.{Told}
 use Rattle.init_core.specs.Choosing.{IsAdmittedByVolumes, lines_answered, with_refusal}
 use Rattle.init_core.specs.Going.{Went}
 use Rattle.init_core.specs.Naming.{begun}
-use Rattle.init_core.specs.Running.{IsGood, IsTakenOn, config_of, shown_running}
+use Rattle.init_core.specs.Running.{IsAt, IsGood, IsTakenOn, config_of, shown_running}
 use Rattle.init_core.proofs.Reading.{good_again}
 use Rattle.init_core.proofs.Serials.{same_serials}
 use Rattle.init_core.proofs.Wanting.{one_told, with_lines}
 
-clash : false ≡ true → ⊥
-clash e = absurd cc
+abbrev pub refused : JobLine
+refused = line.Refused
 
 two_told : (told : JobLine) (n : ℕ) → length (told ∷ line.Refused ∷ []) ≤ suc (suc n)
 two_told told n = omega arith
@@ -91,24 +102,41 @@ many_alike : (fixed : Fixed) (plan : JobPlan) (store : Store) (b : Bool) (step :
 many_alike fixed plan store true step = refl
 many_alike fixed plan store false step = refl
 
-abbrev IsFirst : JobPlan → Config → Type 0
+abbrev pub IsFirst : JobPlan → Config → Type 0
 IsFirst plan c = Stands plan c.programs (todo.Start 0) × (count_at plan c.programs (todo.Start 0) ≡ 0)
 
-pub first_for : (plan : JobPlan) (c : Config) (o : Option Admission) →
-    IfSome o (λ _. (programs : List SoloProgram) → Stands plan programs (todo.Start 0) × (count_at plan programs (todo.Start 0) ≡ 0)) → IfSome o (λ _. IsFirst plan c)
-first_for plan c None h = h
-first_for plan c (Some a) h = h c.programs
+-- a job that waits is not admitted
+waits_alone : (n : NamedJob) (g : AdmittedJob) → Waits n ≡ Admitted g → ⊥
+waits_alone n g e = absurd cc
 
-module _ {Q : Type 0} (queue_of : Q → RecordQueue) (profile : Profile) (p : Parts Q) (job : ℕ) (walk : Walk) (plan : JobPlan) (held : ℕ)
+admitted_alone : (g : AdmittedJob) (n : NamedJob) → Admitted g ≡ Waits n → ⊥
+admitted_alone g n e = absurd cc
+
+abbrev named_at : NamedJob → Behind → NamedJob
+named_at other (Admitted g) = named_of g
+named_at other (Waits n) = n
+
+-- of one that is admitted so, whether it is turned away
+abbrev gone_behind : Bool → Behind → Bool
+gone_behind refuses (Admitted g) = is_turned_away refuses g
+gone_behind refuses (Waits n) = false
+
+module _ {Q : Type 0} (queue_of : Q → RecordQueue) (profile : Profile) (p : Parts Q) (job : ℕ) (walk : Walk) (named : NamedJob)
     (g : IsGood queue_of (config_of profile (queue_of p.queue).layout) p) where
+  abbrev pub plan : JobPlan
+  plan = named.plan
+
   abbrev pub c : Config
   c = config_of profile (queue_of p.queue).layout
 
   abbrev pub its : Running
-  its = record { job = job; walk = walk; stage = stage.Named plan held }
+  its = record { job = job; walk = walk; stage = stage.Named named }
 
-  module _ (some : job ≢ 0) (own : held ≡ job) (store : SharedStore) (lines : List JobLine) (told : Answer) (is : lines ≡ walk.course.lines ++ told.line ∷ [])
-      (a : IsAnswered p.store (terms_of profile) job plan p.date store told) where
+  module _ (some : job ≢ 0) (own : named.held ≡ job) (store : SharedStore) (lines : List JobLine) (told : Told) (is : lines ≡ walk.course.lines ++ told.line ∷ [])
+      (given : Provision) (a : IsProvision p.store profile.units.now job named.plan p.date given)
+      (holds : IsTold p.store profile.programs.now profile.most_views job named.plan (fixed_by_room p.store profile.units.now job named.plan p.date) told.line)
+      (path : told.path ≡ explained profile.explains (fixed_by_room p.store profile.units.now job named.plan p.date) named.plan (seen job (world_store_of p.store))
+      (told.line ∷ [])) where
     abbrev pub new : Parts Q
     new = record p { store = store }
 
@@ -116,13 +144,13 @@ module _ {Q : Type 0} (queue_of : Q → RecordQueue) (profile : Profile) (p : Pa
     by_room = fixed_by_room p.store profile.units.now job plan p.date
 
     abbrev here : Fixed
-    here = fixed_at c (shown queue_of p) job plan a.its.places
+    here = fixed_at c (shown queue_of p) job plan given.places
 
     fixed_here : by_room ≡ here
     fixed_here = λ i. fixed_in (g.volumes i) (seen job (world_store_of p.store)) plan (sym a.placed_so i) p.date
 
-    fixed_given : here ≡ fixed_for c.volumes plan a.its
-    fixed_given = λ i. fixed_with c.volumes plan a.its.places (sym a.meant i) (sym a.dated i)
+    fixed_given : here ≡ fixed_for c.volumes plan given
+    fixed_given = λ i. fixed_with c.volumes plan given.places (sym a.meant i) (sym a.dated i)
 
     abbrev Answers : List JobLine → Shared → Option world.Running → Type 0
     Answers ls s runs = WorldAnswered c (shown queue_of p) (shown_running c its) plan here ls s runs
@@ -137,57 +165,81 @@ module _ {Q : Type 0} (queue_of : Q → RecordQueue) (profile : Profile) (p : Pa
     explains_here ls = explained c.explains here plan (seen job (world_store_of p.store)) ls
 
     path_here : told.path ≡ explains_here (told.line ∷ [])
-    path_here = a.path ∙ (λ i. explained c.explains (fixed_here i) plan (seen job (world_store_of p.store)) (told.line ∷ []))
+    path_here = path ∙ (λ i. explained c.explains (fixed_here i) plan (seen job (world_store_of p.store)) (told.line ∷ []))
 
     chosen : (ls : List JobLine) (s : Shared) (runs : Option world.Running) → Answers ls s runs → ls ≡ lines_answered c.refuses told.line →
         told.path ≡ explains_here ls → chosen_to ls s runs
     chosen ls s runs answers e explains = (
-      record { places = a.its.places; placed = a.configured c (sym g.volumes) refl; answers = answers },
-      record { by_room = a.placed_so; answer = told.line; told = a.told; answered = e },
+      record { places = given.places; placed = a.configured c (sym g.volumes) refl; answers = answers },
+      record { by_room = a.placed_so; answer = told.line; told = holds; answered = e },
       explains,
     )
 
-    abbrev pub it_told : Told
-    it_told = record { line = told.line; path = told.path }
+    abbrev pub behind_walk : Behind → Walk
+    behind_walk (Admitted x) = begun (with_lines walk lines)
+    behind_walk (Waits n) = with_lines walk lines
 
-    abbrev pub came : Option Admission → Progress
-    came given = Answered (record { job = job; walk = walk_answered (with_lines walk lines) given; stage = stage_answered plan held given }) it_told
+    abbrev pub behind_stage : Behind → Stage
+    behind_stage (Admitted x) = stage.Admitted x
+    behind_stage (Waits n) = stage.Named n
 
-    abbrev pub GoesOn : Option Admission → Type 0
-    GoesOn given = Went queue_of c p its new (came given)
+    abbrev pub came : Behind → Progress
+    came o = Answered (record { job = job; walk = behind_walk o; stage = behind_stage o }) told
+
+    abbrev pub GoesOn : Behind → Type 0
+    GoesOn o = Went queue_of c p its new (came o)
 
     -- the job is at its first action
-    module _ (first : IsFirst plan c) (s : Shared) (reopened : Reopened c.layout s (shown queue_of new)) (good : IsGood queue_of c new) (b : Bool) where
-      abbrev given : Admission
-      given = record a.its { assured = b }
+    abbrev then : AdmittedJob → Running
+    then x = record { job = job; walk = begun (with_lines walk lines); stage = stage.Admitted x }
 
-      abbrev then : Running
-      then = record { job = job; walk = begun (with_lines walk lines); stage = stage.Admitted plan held given }
+    module _ (first : IsFirst plan c) (s : Shared) (reopened : Reopened c.layout s (shown queue_of new)) (good : IsGood queue_of c new) where
+      abbrev Begins : Bool → AdmittedJob → Type 0
+      Begins b x = admitted (shown_running c its) (told.line ∷ []) plan here b ≡ Some (shown_running c (then x))
 
-      begins : admitted (shown_running c its) (told.line ∷ []) plan here b ≡ Some (shown_running c then)
-      begins = λ i. Some (record {
-        job = job;
-        listing = sym is i;
-        stage = world.Admitted plan (record { fixed = fixed_given i; assured = b }) (sym first.1 i) nothing_own;
-      })
-
-      at_work : Answers (told.line ∷ []) s (admitted (shown_running c its) (told.line ∷ []) plan here b) → told.line ∷ [] ≡ lines_answered c.refuses told.line →
-          GoesOn (Some given)
-      at_work answers e =
-          let x : chosen_to (told.line ∷ []) s (Some (shown_running c then)) =
+      at_work : (b : Bool) (x : AdmittedJob) → Begins b x → IsAt c p.names job (begun (with_lines walk lines)) (stage.Admitted x) →
+          Answers (told.line ∷ []) s (admitted (shown_running c its) (told.line ∷ []) plan here b) → told.line ∷ [] ≡ lines_answered c.refuses told.line →
+          GoesOn (Admitted x)
+      at_work b x begins there answers e =
+          let goes : chosen_to (told.line ∷ []) s (Some (shown_running c (then x))) =
           subst (chosen_to (told.line ∷ []) s) begins (chosen (told.line ∷ []) s (admitted (shown_running c its) (told.line ∷ []) plan here b) answers e path_here) in
           record {
             middle = s;
-            goes = x.0;
+            goes = goes.0;
             reopened = reopened;
-            chosen = x.1;
-            explained = x.2;
+            chosen = goes.1;
+            explained = goes.2;
             few = one_told (told.line ∷ []) told.line (length walk.course.own.dds) refl;
             once = tt;
             good = good;
-            left = record { same = refl; ready = record { some = some; at = (own, record { stands = first.0; on = All-nil (λ (x : DdState). IsTakenOn c.volumes x.taken) }) } };
+            left = record { same = refl; ready = record { some = some; at = there } };
             rest = record { waiting = refl; others = λ other apart none. none };
           }
+
+      nothing_on : All (λ (x : DdState). IsTakenOn c.volumes x.taken) []
+      nothing_on = All-nil (λ (x : DdState). IsTakenOn c.volumes x.taken)
+
+      assured_at_work : (tracks actions : ℕ) → Answers (told.line ∷ []) s (admitted (shown_running c its) (told.line ∷ []) plan here true) →
+          told.line ∷ [] ≡ lines_answered c.refuses told.line → GoesOn (Admitted (admitted_as.Assured (record { named = named; given = given; tracks = tracks; actions = actions })))
+      assured_at_work tracks actions answers e =
+          at_work true (admitted_as.Assured (record { named = named; given = given; tracks = tracks; actions = actions }))
+          (λ i. Some (record {
+            job = job;
+            listing = sym is i;
+            stage = world.Admitted plan (record { fixed = fixed_given i; assured = true }) (sym first.1 i) nothing_own;
+          }))
+          (own, record { stands = first.0; on = nothing_on }) answers e
+
+      risky_at_work : Answers (told.line ∷ []) s (admitted (shown_running c its) (told.line ∷ []) plan here false) →
+          told.line ∷ [] ≡ lines_answered c.refuses told.line → GoesOn (Admitted (admitted_as.Risky (record { named = named; given = given })))
+      risky_at_work answers e =
+          at_work false (admitted_as.Risky (record { named = named; given = given }))
+          (λ i. Some (record {
+            job = job;
+            listing = sym is i;
+            stage = world.Admitted plan (record { fixed = fixed_given i; assured = false }) (sym first.1 i) nothing_own;
+          }))
+          (own, record { stands = first.0; on = nothing_on }) answers e
 
     -- its primaries are kept
     abbrev after : Shared
@@ -211,13 +263,13 @@ module _ {Q : Type 0} (queue_of : Q → RecordQueue) (profile : Profile) (p : Pa
         conserves (shown queue_of p) after (record { store = refl; free = λ serial. refl; kept = refl })
         (record { store = sym k.store; free = λ serial. refl; kept = refl })
 
-    is_assured : (made : List Place) → IsFree by_room plan (seen job (world_store_of p.store)) c.most_views made →
+    is_assured : (made : List Place) (tracks actions : ℕ) → IsFree by_room plan (seen job (world_store_of p.store)) c.most_views made →
         told.line ≡ line.Assured (tracks_asked plan made) (budget_of plan c.programs) → KeepsAll job plan made p.store store → ConservesTracks p.store store →
-        IsFirst plan c → GoesOn (Some (assured_with a.its))
-    is_assured made free e k conserves first =
+        IsFirst plan c → GoesOn (Admitted (admitted_as.Assured (record { named = named; given = given; tracks = tracks; actions = actions })))
+    is_assured made tracks actions free e k conserves first =
         let f : IsFree here plan (seen job (world_store_of p.store)) c.most_views made =
         subst (λ x. IsFree x plan (seen job (world_store_of p.store)) c.most_views made) fixed_here free in
-        at_work first after (kept_shown_so made k) (kept_good made k) true
+        assured_at_work first after (kept_shown_so made k) (kept_good made k) tracks actions
         (answer.assured made (kept_shown store.volumes) (λ serial. free_on store.volumes serial) f.safe f.made k.kept k.others (ap (λ l. l ∷ []) e) refl
         (kept_conserved made k conserves) refl)
         (ap (λ l. l ∷ []) e ∙ ap (lines_answered c.refuses) (sym e))
@@ -230,7 +282,7 @@ module _ {Q : Type 0} (queue_of : Q → RecordQueue) (profile : Profile) (p : Pa
     same_shown same = subst (λ (s : SharedStore). Reopened c.layout (shown queue_of p) (shown queue_of (record p { store = s }))) (sym same) (unopened c.layout (shown queue_of p))
 
     -- it waits
-    waits : (serial : List ℕ) → Contains c.volumes serial → told.line ≡ line.WaitSpace serial → store ≡ p.store → GoesOn None
+    waits : (serial : List ℕ) → Contains c.volumes serial → told.line ≡ line.WaitSpace serial → store ≡ p.store → GoesOn (Waits named)
     waits serial there e same =
         let runs : Option world.Running = Some (record { job = job; listing = walk.course.lines ++ told.line ∷ []; stage = world.Named plan }) in
         let x : chosen_to (told.line ∷ []) (shown queue_of p) (Some (record { job = job; listing = lines; stage = world.Named plan })) =
@@ -260,15 +312,15 @@ module _ {Q : Type 0} (queue_of : Q → RecordQueue) (profile : Profile) (p : Pa
         × ((ls : List JobLine) (s : Shared) (runs : Option world.Running) → MayFailSo ls s runs → Answers ls s runs)
         × (explains_here (kind ∷ []) ≡ explains_here (kind ∷ line.Refused ∷ []))
 
-    checked : (kind : JobLine) → Warns kind → store ≡ p.store → c.refuses ≡ false → IsFirst plan c → GoesOn (Some (checked_with a.its))
+    checked : (kind : JobLine) → Warns kind → store ≡ p.store → c.refuses ≡ false → IsFirst plan c → GoesOn (Admitted (admitted_as.Risky (record { named = named; given = given })))
     checked kind w same e first =
-        at_work first (shown queue_of p) (same_shown same) (same_good same) false
+        risky_at_work first (shown queue_of p) (same_shown same) (same_good same)
         (w.2 (told.line ∷ []) (shown queue_of p) (admitted (shown_running c its) (told.line ∷ []) plan here false) (answer.risky e refl refl refl))
         (by_command_line c.refuses false told.line kind w.1 w.0 e)
 
     -- or not at all
     module _ (end : Parts Q) (back : GivesBack queue_of job p end) (r : IsReleased queue_of c job p end) where
-      turned_away : (kind : JobLine) → Warns kind → c.refuses ≡ true → Went queue_of c p its end (Over (Some it_told) line.Refused)
+      turned_away : (kind : JobLine) → Warns kind → c.refuses ≡ true → Went queue_of c p its end (Over (Some told) line.Refused)
       turned_away kind w e =
           let ls : List JobLine = told.line ∷ line.Refused ∷ [] in
           let s : Shared = released c (shown queue_of p) job (shown queue_of end).free in
@@ -313,52 +365,99 @@ module _ {Q : Type 0} (queue_of : Q → RecordQueue) (profile : Profile) (p : Pa
           many_alike here plan (seen job (world_store_of p.store)) c.explains step,
         )
 
-    abbrev IsToldSo : Type 0
-    IsToldSo = IsTold p.store c.programs c.most_views job plan by_room told.line
+    abbrev pub IsAdmitted : Admission → Type 0
+    IsAdmitted x = IsAdmission p.store (terms_of profile) job named by_room given store x × (told.line ≡ line_of x)
 
-    abbrev LeavesSo : IsToldSo → Option Admission → Type 0
-    LeavesSo t given = Leaves p.store c.programs c.most_views job plan by_room told.line t a.its store given
+    pub named_behind : (x : Admission) → IsAdmitted x → (y : AdmittedJob) → behind x ≡ Admitted y → named_of y ≡ named
+    named_behind (Assured s) h y b = ap (named_at named) (sym b) ∙ ap (λ (z : AssuredJob). z.named) h.0.is
+    named_behind (Risky s report) h y b = ap (named_at named) (sym b) ∙ ap (λ (z : RiskyJob). z.named) h.0.is
+    named_behind (TooMany s step) h y b = ap (named_at named) (sym b) ∙ ap (λ (z : RiskyJob). z.named) h.0.is
+    named_behind (SpaceWait n serial) h y b = absurd (waits_alone n y b)
 
-    goes_on_by : (o : Option Admission) (t : IsToldSo) → LeavesSo t o → is_turned_away profile.refuses o ≡ false → IfSome o (λ x. IsFirst plan c) → GoesOn o
-    goes_on_by o (assured made free room e) l stays first =
-        subst GoesOn (sym l.0) (is_assured made free e l.1 l.2 (subst (λ (x : Option Admission). IfSome x (λ _. IsFirst plan c)) l.0 first))
-    goes_on_by o (no_space made serial free room there e) l stays first =
-        subst GoesOn (sym l.0) (waits serial (subst (λ vs. Contains vs serial) g.volumes there) e l.1)
-    goes_on_by o (risk fault step dd path earliest e) l stays first =
-        subst GoesOn (sym l.0)
-        (checked (line.Risk fault step dd path) (warns_risk fault step dd path earliest e) l.1
-        (not_away profile.refuses (ap (is_turned_away profile.refuses) (sym l.0) ∙ stays))
-        (subst (λ (x : Option Admission). IfSome x (λ _. IsFirst plan c)) l.0 first))
-    goes_on_by o (too_many step more e) l stays first =
-        subst GoesOn (sym l.0)
-        (checked (line.TooMany step) (warns_many step more e) l.1
-        (not_away profile.refuses (ap (is_turned_away profile.refuses) (sym l.0) ∙ stays))
-        (subst (λ (x : Option Admission). IfSome x (λ _. IsFirst plan c)) l.0 first))
+    pub goes_on : (x : Admission) → IsAdmitted x → (y : AdmittedJob) → behind x ≡ Admitted y → is_turned_away profile.refuses y ≡ false → IsFirst plan c →
+        GoesOn (Admitted y)
+    goes_on (Assured s) h y b stays first =
+        subst GoesOn b (subst (λ (z : AssuredJob). GoesOn (Admitted (admitted_as.Assured z))) (sym h.0.is)
+        (is_assured h.0.made (tracks_asked plan h.0.made) (budget_of plan c.programs) h.0.free
+        (h.1 ∙ (λ i. line.Assured (h.0.is i).tracks (h.0.is i).actions)) h.0.keeps h.0.conserves first))
+    goes_on (Risky s report) h y b stays first =
+        subst GoesOn b (subst (λ (z : RiskyJob). GoesOn (Admitted (admitted_as.Risky z))) (sym h.0.is)
+        (checked (line.Risk report.fault report.step report.dd report.path.items)
+        (warns_risk report.fault report.step report.dd report.path.items h.0.earliest h.1) h.0.same
+        (not_away profile.refuses (ap (gone_behind profile.refuses) b ∙ stays)) first))
+    goes_on (TooMany s step) h y b stays first =
+        subst GoesOn b (subst (λ (z : RiskyJob). GoesOn (Admitted (admitted_as.Risky z))) (sym h.0.is)
+        (checked (line.TooMany step) (warns_many step h.0.more h.1) h.0.same
+        (not_away profile.refuses (ap (gone_behind profile.refuses) b ∙ stays)) first))
+    goes_on (SpaceWait n serial) h y b stays first = absurd (waits_alone n y b)
 
-    pub goes_on : is_turned_away profile.refuses told.admission ≡ false → IfSome told.admission (λ x. IsFirst plan c) → GoesOn told.admission
-    goes_on stays first = goes_on_by told.admission a.told a.leaves stays first
+    pub waits_on : (x : Admission) → IsAdmitted x → (n : NamedJob) → behind x ≡ Waits n → GoesOn (Waits n)
+    waits_on (Assured s) h n b = absurd (admitted_alone (admitted_as.Assured s) n b)
+    waits_on (Risky s report) h n b = absurd (admitted_alone (admitted_as.Risky s) n b)
+    waits_on (TooMany s step) h n b = absurd (admitted_alone (admitted_as.Risky s) n b)
+    waits_on (SpaceWait n serial) h m b =
+        subst GoesOn b (subst (λ (z : NamedJob). GoesOn (Waits z)) (sym h.0.is)
+        (waits serial (subst (λ vs. Contains vs serial) g.volumes h.0.there) h.1 h.0.same))
 
     -- nothing changed of a job that is turned away
-    unchanged : (o : Option Admission) (t : IsToldSo) → LeavesSo t o → is_turned_away profile.refuses o ≡ true → store ≡ p.store
-    unchanged o (assured made free room e) l gone = absurd (never_away profile.refuses (ap (is_turned_away profile.refuses) (sym l.0) ∙ gone))
-    unchanged o (no_space made serial free room there e) l gone = l.1
-    unchanged o (risk fault step dd path earliest e) l gone = l.1
-    unchanged o (too_many step more e) l gone = l.1
+    unchanged : (x : Admission) → IsAdmitted x → (y : AdmittedJob) → behind x ≡ Admitted y → is_turned_away profile.refuses y ≡ true → store ≡ p.store
+    unchanged (Assured s) h y b gone = absurd (never_away profile.refuses (ap (gone_behind profile.refuses) b ∙ gone))
+    unchanged (Risky s report) h y b gone = h.0.same
+    unchanged (TooMany s step) h y b gone = h.0.same
+    unchanged (SpaceWait n serial) h y b gone = h.0.same
 
     module _ (end : Parts Q) (back : GivesBack queue_of job new end) (r : IsReleased queue_of c job new end) where
-      turned_by : (o : Option Admission) (t : IsToldSo) → LeavesSo t o → is_turned_away profile.refuses o ≡ true →
-          GivesBack queue_of job p end → IsReleased queue_of c job p end → Went queue_of c p its end (Over (Some it_told) line.Refused)
-      turned_by o (assured made free room e) l gone b s = absurd (never_away profile.refuses (ap (is_turned_away profile.refuses) (sym l.0) ∙ gone))
-      turned_by o (no_space made serial free room there e) l gone b s = absurd (clash (ap (is_turned_away profile.refuses) (sym l.0) ∙ gone))
-      turned_by o (risk fault step dd path earliest e) l gone b s =
-          turned_away end b s (line.Risk fault step dd path) (warns_risk fault step dd path earliest e)
-          (away profile.refuses (ap (is_turned_away profile.refuses) (sym l.0) ∙ gone))
-      turned_by o (too_many step more e) l gone b s =
-          turned_away end b s (line.TooMany step) (warns_many step more e) (away profile.refuses (ap (is_turned_away profile.refuses) (sym l.0) ∙ gone))
+      turned_by : (x : Admission) → IsAdmitted x → (y : AdmittedJob) → behind x ≡ Admitted y → is_turned_away profile.refuses y ≡ true →
+          GivesBack queue_of job p end → IsReleased queue_of c job p end → Went queue_of c p its end (Over (Some told) line.Refused)
+      turned_by (Assured s) h y b gone m n = absurd (never_away profile.refuses (ap (gone_behind profile.refuses) b ∙ gone))
+      turned_by (Risky s report) h y b gone m n =
+          turned_away end m n (line.Risk report.fault report.step report.dd report.path.items)
+          (warns_risk report.fault report.step report.dd report.path.items h.0.earliest h.1)
+          (away profile.refuses (ap (gone_behind profile.refuses) b ∙ gone))
+      turned_by (TooMany s step) h y b gone m n =
+          turned_away end m n (line.TooMany step) (warns_many step h.0.more h.1) (away profile.refuses (ap (gone_behind profile.refuses) b ∙ gone))
+      turned_by (SpaceWait w serial) h y b gone m n = absurd (waits_alone w y b)
 
-      pub is_over : is_turned_away profile.refuses told.admission ≡ true → Went queue_of c p its end (Over (Some it_told) line.Refused)
-      is_over gone =
-          let same : store ≡ p.store = unchanged told.admission a.told a.leaves gone in
-          turned_by told.admission a.told a.leaves gone
+      pub is_over : (x : Admission) → IsAdmitted x → (y : AdmittedJob) → behind x ≡ Admitted y → is_turned_away profile.refuses y ≡ true →
+          Went queue_of c p its end (Over (Some told) line.Refused)
+      is_over x h y b gone =
+          let same : store ≡ p.store = unchanged x h y b gone in
+          turned_by x h y b gone
           (subst (λ (s : SharedStore). GivesBack queue_of job (record p { store = s }) end) same back)
           (subst (λ (s : SharedStore). IsReleased queue_of c job (record p { store = s }) end) same r)
+
+  -- from the answer, whose line is this
+  module _ (some : job ≢ 0) (own : named.held ≡ job) (store : SharedStore) (lines : List JobLine) (answer : Answer) (line : JobLine) (e : line ≡ line_of answer.admission)
+      (is : lines ≡ walk.course.lines ++ line_of answer.admission ∷ []) (r : IsAnswered p.store (terms_of profile) job named p.date store answer) where
+    abbrev told_so : Told
+    told_so = record { line = line; path = answer.path }
+
+    listed_so : lines ≡ walk.course.lines ++ line ∷ []
+    listed_so = is ∙ ap (λ l. walk.course.lines ++ l ∷ []) (sym e)
+
+    abbrev fixed_so : Fixed
+    fixed_so = fixed_by_room p.store profile.units.now job named.plan p.date
+
+    holds_so : IsTold p.store profile.programs.now profile.most_views job named.plan fixed_so line
+    holds_so = subst (IsTold p.store profile.programs.now profile.most_views job named.plan fixed_so) (sym e)
+        (told_of p.store (terms_of profile) job named fixed_so r.its store answer.admission r.admission)
+
+    path_so : answer.path ≡ explained profile.explains fixed_so named.plan (seen job (world_store_of p.store)) (line ∷ [])
+    path_so = r.path ∙ ap (λ l. explained profile.explains fixed_so named.plan (seen job (world_store_of p.store)) (l ∷ [])) (sym e)
+
+    pub begins_so : (y : AdmittedJob) → behind answer.admission ≡ Admitted y → is_turned_away profile.refuses y ≡ false → IsFirst plan c →
+        Went queue_of c p its (record p { store = store })
+        (Answered (record { job = job; walk = begun (with_lines walk lines); stage = stage.Admitted y }) (record { line = line; path = answer.path }))
+    begins_so y b stays first =
+        goes_on some own store lines told_so listed_so r.its r.provides holds_so path_so answer.admission (r.admission, e) y b stays first
+
+    pub waits_so : (n : NamedJob) → behind answer.admission ≡ Waits n →
+        Went queue_of c p its (record p { store = store })
+        (Answered (record { job = job; walk = with_lines walk lines; stage = stage.Named n }) (record { line = line; path = answer.path }))
+    waits_so n b = waits_on some own store lines told_so listed_so r.its r.provides holds_so path_so answer.admission (r.admission, e) n b
+
+    pub over_so : (end : Parts Q) → GivesBack queue_of job (record p { store = store }) end → IsReleased queue_of c job (record p { store = store }) end →
+        (y : AdmittedJob) → behind answer.admission ≡ Admitted y → is_turned_away profile.refuses y ≡ true →
+        Went queue_of c p its end (Over (Some (record { line = line; path = answer.path })) refused)
+    over_so end back released y b gone =
+        is_over some own store lines told_so listed_so r.its r.provides holds_so path_so end back released answer.admission (r.admission, e) y b gone

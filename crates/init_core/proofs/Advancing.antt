@@ -35,7 +35,8 @@ use Rattle.turn_core.specs.declared.walk.Turned.{Turned}
 use Rattle.turn_core.specs.declared.walk.Walk.{Walk}
 use Rattle.disp_core.specs.Grants.{made_of}
 use Rattle.grant_laws.specs.Granted.{GrantedTurns, GrantsAll, with_primaries}
-use Rattle.admit_core.specs.declared.admission.Admission.{Admission}
+use Rattle.admit_core.specs.Admissions.{is_assured, named_of}
+use Rattle.admit_core.specs.declared.admission.AdmittedJob.{AdmittedJob}
 use Rattle.job_core.proofs.Wanted.{releasing_leaves, releasing_leaves_none}
 use Rattle.machine_core.specs.declared.parts.Parts.{Parts}
 use Rattle.machine_core.specs.Shown.{shown}
@@ -85,19 +86,22 @@ operations_on volumes job os (Some serial) cancelled on all =
     (All-cons (λ o. Contains volumes o.serial) (record { serial = serial; owner = Some job }) [] on (All-nil (λ o. Contains volumes o.serial)))
 operations_on volumes job os None cancelled on all = abandoned_if cancelled volumes job os all
 
-module _ {Q : Type 0} (queue_of : Q → RecordQueue) (profile : Profile) (p : Parts Q) (job : ℕ) (walk : Walk) (plan : JobPlan) (held : ℕ) (a : Admission)
+module _ {Q : Type 0} (queue_of : Q → RecordQueue) (profile : Profile) (p : Parts Q) (job : ℕ) (walk : Walk) (a : AdmittedJob)
     (g : IsGood queue_of (config_of profile (queue_of p.queue).layout) p) where
+  abbrev pub plan : JobPlan
+  plan = (named_of a).plan
+
   abbrev pub c : Config
   c = config_of profile (queue_of p.queue).layout
 
   abbrev pub at_walk : Walk → Running
-  at_walk w = record { job = job; walk = w; stage = stage.Admitted plan held a }
+  at_walk w = record { job = job; walk = w; stage = stage.Admitted a }
 
   abbrev pub its : Running
   its = at_walk walk
 
   abbrev pub its_around : Around
-  its_around = around_in profile p.units job plan a (has_cancel p.cancels job) p.store
+  its_around = around_in profile p.units job a (has_cancel p.cancels job) p.store
 
   abbrev pub answered_by : StoreAnswers → Around
   answered_by grants = record its_around { grants = grants }
@@ -107,24 +111,24 @@ module _ {Q : Type 0} (queue_of : Q → RecordQueue) (profile : Profile) (p : Pa
 
   abbrev advances_to : List JobLine → Shared → Option world.Running → Type 0
   advances_to lines new runs =
-      Advances c (shown queue_of p) (shown_running c its) plan (shown_admission c plan a) (count_at plan c.programs walk.todo) walk.course.own lines new runs
+      Advances c (shown queue_of p) (shown_running c its) plan (shown_admission c a) (count_at plan c.programs walk.todo) walk.course.own lines new runs
 
   -- with what is open in it as the volumes decide it
   abbrev pub chosen_to : List JobLine → Shared → Option world.Running → Type 0
   chosen_to lines new runs = (g : advances_to lines new runs) × IsChosenByVolumes c p.store p.date (choice_of_advance g)
 
   pub told_as : (st : SharedStore) (after : Walk) (cancelled : Bool) (told same : Turned) → cancelled ≡ has_cancel p.cancels job → told ≡ same →
-      TellsJob (around_in profile p.units job plan a cancelled p.store) plan (seen job (world_store_of p.store)) walk (seen job (world_store_of st)) after told →
+      TellsJob (around_in profile p.units job a cancelled p.store) plan (seen job (world_store_of p.store)) walk (seen job (world_store_of st)) after told →
       TellsJob its_around plan (seen job (world_store_of p.store)) walk (seen job (world_store_of st)) after same
   told_as st after cancelled told same due is t =
       subst (λ x. TellsJob its_around plan (seen job (world_store_of p.store)) walk (seen job (world_store_of st)) after x) is
-      (subst (λ b. TellsJob (around_in profile p.units job plan a b p.store) plan (seen job (world_store_of p.store)) walk (seen job (world_store_of st)) after told) due t)
+      (subst (λ b. TellsJob (around_in profile p.units job a b p.store) plan (seen job (world_store_of p.store)) walk (seen job (world_store_of st)) after told) due t)
 
   pub ended_err : (r : Result Progress Running) (st : SharedStore) (new : Parts Q) → st ≡ p.store → OnErr r (new ≡ record p { store = st }) → OnErr r (new ≡ p)
   ended_err (Ok came) st new is same = tt
   ended_err (Err back) st new is same = same ∙ ap (λ s. record p { store = s }) is
 
-  module _ (some : job ≢ 0) (at : IsAt c p.names job walk (stage.Admitted plan held a)) where
+  module _ (some : job ≢ 0) (at : IsAt c p.names job walk (stage.Admitted a)) where
     -- where the job's sets are, and its operation starts
     pub moved_on : (st : SharedStore) (after : Walk) (told : Acted) → JobActs its_around plan (seen job (world_store_of p.store)) (seen job (world_store_of st)) walk after told →
         AreOn c.volumes after.course.own.dds × IsOnOne c.volumes told.starts
@@ -139,7 +143,7 @@ module _ {Q : Type 0} (queue_of : Q → RecordQueue) (profile : Profile) (p : Pa
         Waits its_around (undone plan c.programs walk.todo) (seen job (world_store_of p.store)) walk.course.own (count_at plan c.programs walk.todo) →
         Went queue_of c p its (record p { store = st }) (GoesOn (at_walk after) from)
     waits law st after is same w =
-        let here = law c (shown queue_of p) (shown_running c its) plan (shown_admission c plan a) (answers_of job p.store) walk w in
+        let here = law c (shown queue_of p) (shown_running c its) plan (shown_admission c a) (answers_of job p.store) walk w in
         let goes : chosen_to (drop from walk.course.lines) (shown queue_of p) (Some (shown_running c its)) =
         subst (λ ls. chosen_to ls (shown queue_of p) (Some (shown_running c its)))
         (sym (lines_behind walk.course.lines walk.course.lines [] (sym (nothing_behind walk.course.lines))))
@@ -169,14 +173,14 @@ module _ {Q : Type 0} (queue_of : Q → RecordQueue) (profile : Profile) (p : Pa
       -- with the answers of a store, of which what is open in it is known
       pub acted : ActsAdvance → FewLines → (grants : StoreAnswers)
           (t : JobActs (answered_by grants) plan (seen job (world_store_of p.store)) (seen job (world_store_of st)) walk after told) →
-          (a.assured ≡ true → t.acts.primary ≡ true) →
-          IsGrantedByVolumes p.store job (has_cancel p.cancels job) (shown_admission c plan a) t.acts.its_turn t.acts.growth t.acts.primary →
-          IfSome told.starts (λ serial. Contains c.volumes serial) → IsAt c p.names job after (stage.Admitted plan held a) →
+          (is_assured a ≡ true → t.acts.primary ≡ true) →
+          IsGrantedByVolumes p.store job (has_cancel p.cancels job) (shown_admission c a) t.acts.its_turn t.acts.growth t.acts.primary →
+          IfSome told.starts (λ serial. Contains c.volumes serial) → IsAt c p.names job after (stage.Admitted a) →
           (units : List Operation) (cancels : List ℕ) → units ≡ operations_by p.units job told.starts told.cancelled →
           cancels ≡ cond told.cancelled (cancels_without p.cancels job) p.cancels →
           Went queue_of c p its (record p { store = st; units = units; cancels = cancels }) (GoesOn (at_walk after) from)
       acted law short grants t granted by_volumes on there units cancels us cs =
-          let here = law c (shown queue_of p) (shown_running c its) plan (shown_admission c plan a) grants walk after (seen job (world_store_of st)) told told_free refl t granted
+          let here = law c (shown queue_of p) (shown_running c its) plan (shown_admission c a) grants walk after (seen job (world_store_of st)) told told_free refl t granted
           (is.conserves (shown queue_of p) told_shared (record { store = refl; free = λ v. refl; kept = refl })
           (record { store = sym is.world; free = λ v. refl; kept = sym is.kept })) in
           let goes : chosen_to (drop from after.course.lines) told_shared (Some (shown_running c (at_walk after))) =
@@ -236,7 +240,7 @@ module _ {Q : Type 0} (queue_of : Q → RecordQueue) (profile : Profile) (p : Pa
 
       pub ended : EndsAdvance → JobEnds its_around plan (seen job (world_store_of p.store)) walk → Went queue_of c p its new (Over None line.End)
       ended law h =
-          let here = law c (shown queue_of p) (shown_running c its) plan (shown_admission c plan a) (answers_of job p.store) walk (shown queue_of new).free refl h
+          let here = law c (shown queue_of p) (shown_running c its) plan (shown_admission c a) (answers_of job p.store) walk (shown queue_of new).free refl h
           (subst (λ s. Conserves (shown queue_of p) s) released_there conserved_there) in
           record {
             middle = ended_shared;
@@ -266,7 +270,7 @@ module _ {Q : Type 0} (queue_of : Q → RecordQueue) (profile : Profile) (p : Pa
     ended_by (Err back) st after is new same over e law h = tt
 
     -- the store grants each primary of an assured job
-    all_granted : IsForAction queue_of c p job plan a walk → GrantsAll its_around plan (seen job (world_store_of p.store)) walk
+    all_granted : IsForAction queue_of c p job a walk → GrantsAll its_around plan (seen job (world_store_of p.store)) walk
     all_granted provided place key may sees =
         granted plan job place (names_of plan) key (mounted_in p.store.volumes place.serial) sees (provided.covered place may)
 
@@ -277,10 +281,10 @@ module _ {Q : Type 0} (queue_of : Q → RecordQueue) (profile : Profile) (p : Pa
       abbrev behind_it : Type 0
       behind_it = Went queue_of c p its (record p { store = st; units = units; cancels = cancels }) (GoesOn (at_walk after) from)
 
-      stays_at : IsAt c p.names job after (stage.Admitted plan held a)
+      stays_at : IsAt c p.names job after (stage.Admitted a)
       stays_at = (at.0, record { stands = t.stands; on = (moved_on st after told t).0 })
 
-      with_checks : a.assured ≡ false → behind_it
+      with_checks : is_assured a ≡ false → behind_it
       with_checks e =
           acted st after told is law short its_around.grants t (λ so. absurd (clash (sym e ∙ so)))
           (record {
@@ -290,7 +294,7 @@ module _ {Q : Type 0} (queue_of : Q → RecordQueue) (profile : Profile) (p : Pa
           })
           (moved_on st after told t).1 stays_at units cancels us cs
 
-      assured_so : GrantedTurns → IsForAction queue_of c p job plan a walk → a.assured ≡ true → behind_it
+      assured_so : GrantedTurns → IsForAction queue_of c p job a walk → is_assured a ≡ true → behind_it
       assured_so grants provided e =
           let h = grants its_around plan (seen job (world_store_of p.store)) (seen job (world_store_of st)) walk after told provided.programs provided.fits
           (all_granted provided) t in
@@ -302,9 +306,9 @@ module _ {Q : Type 0} (queue_of : Q → RecordQueue) (profile : Profile) (p : Pa
           })
           (moved_on st after told t).1 stays_at units cancels us cs
 
-      by_admission : (b : Bool) → a.assured ≡ b → GrantedTurns → (a.assured ≡ true → IsForAction queue_of c p job plan a walk) → behind_it
+      by_admission : (b : Bool) → is_assured a ≡ b → GrantedTurns → (is_assured a ≡ true → IsForAction queue_of c p job a walk) → behind_it
       by_admission true e grants provided = assured_so grants (provided e) e
       by_admission false e grants provided = with_checks e
 
-      pub acted_so : GrantedTurns → (a.assured ≡ true → IsForAction queue_of c p job plan a walk) → behind_it
-      acted_so grants provided = by_admission a.assured refl grants provided
+      pub acted_so : GrantedTurns → (is_assured a ≡ true → IsForAction queue_of c p job a walk) → behind_it
+      acted_so grants provided = by_admission (is_assured a) refl grants provided

@@ -1,5 +1,5 @@
 -- A selected job's turn is the machine's case.
-use Rattle.std.proofs.Common.{◌≡◌, ℕ, List, ◌∷◌, [], All, Option, Some, None, length, refl, sym, ap, ◌∙◌, subst}
+use Rattle.std.proofs.Common.{◌≡◌, ℕ, List, ◌∷◌, [], All, Option, Some, None, length, refl, sym, ◌∙◌, subst}
 use Rattle.std.specs.List.{Contains}
 use Rattle.enq_core.specs.declared.table.Want.{Want}
 use Rattle.enq_core.specs.Holds.{HoldsNone}

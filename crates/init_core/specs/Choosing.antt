@@ -11,7 +11,7 @@ use Rattle.world_meaning.specs.Worlds.{Admission, Config}
 use Rattle.shared_core.specs.declared.store.SharedStore.{SharedStore}
 use Rattle.turn_core.specs.Performing.{growth_by, primary_by}
 use Rattle.place_core.specs.Placings.{placed}
-use Rattle.admit_core.specs.Admitted.{IsTold, fixed_by_room}
+use Rattle.admit_core.specs.Told.{IsTold, fixed_by_room}
 use Rattle.init_core.specs.Turning.{answers_of}
 
 -- a job that may fail is REFUSED where the command line says so

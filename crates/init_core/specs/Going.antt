@@ -29,7 +29,7 @@ IsLeft c holds job (Some r) = IsOn c holds job r
 
 -- a job that is answered is told of with its answer
 abbrev pub IsToldOnce : Stage → Progress → Type 0
-IsToldOnce (Named plan held) (GoesOn r from) = ⊥
+IsToldOnce (Named job) (GoesOn r from) = ⊥
 IsToldOnce stage came = Unit {0}
 
 -- what stays as it was in the queue, and of the holds of other jobs

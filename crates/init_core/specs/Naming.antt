@@ -34,7 +34,7 @@ Wishes old job wants before None new after = IsKeptOut old wants before new afte
 
 -- its names are held, or it goes on waiting for them
 abbrev pub stage_behind : JobPlan → List Want → Option ℕ → Stage
-stage_behind plan wants (Some held) = Named plan held
+stage_behind plan wants (Some held) = Named (record { plan = plan; held = held })
 stage_behind plan wants None = Wanting plan wants
 
 -- the job stands at its first action, with its listing

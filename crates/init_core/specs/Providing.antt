@@ -13,7 +13,8 @@ use Rattle.shared_core.specs.Shown.{world_store_of}
 use Rattle.place_core.specs.Placings.{NothingKeptFor}
 use Rattle.turn_core.specs.Standing.{count_at, undone}
 use Rattle.turn_core.specs.declared.walk.Walk.{Walk}
-use Rattle.admit_core.specs.declared.admission.Admission.{Admission}
+use Rattle.admit_core.specs.Admissions.{given_to, is_assured, named_of}
+use Rattle.admit_core.specs.declared.admission.AdmittedJob.{AdmittedJob}
 use Rattle.machine_core.specs.Shown.{shown}
 use Rattle.machine_core.specs.declared.parts.Parts.{Parts}
 use Rattle.init_core.specs.Running.{shown_admission}
@@ -28,16 +29,16 @@ pub record IsForAdmission {Q : Type 0} (p : Parts Q) (job : ℕ) (plan : JobPlan
   pub groups : HasSoundGroups (seen job (world_store_of p.store))
 
 -- Of an assured job: its own state fits what is left of its agenda, and tracks are kept for whatever it may yet make.
-pub record IsForAction {Q : Type 0} (queue_of : Q → RecordQueue) (c : Config) (p : Parts Q) (job : ℕ) (plan : JobPlan) (a : Admission) (walk : Walk) : Type 0 where
+pub record IsForAction {Q : Type 0} (queue_of : Q → RecordQueue) (c : Config) (p : Parts Q) (job : ℕ) (a : AdmittedJob) (walk : Walk) : Type 0 where
   pub programs : AreWellFormedPrograms c.programs
-  pub fits : Fits (names_of plan) a.meanings (undone plan c.programs walk.todo) walk.course.own
-  pub covered : IsCovered c (shown queue_of p) job plan (shown_admission c plan a) (count_at plan c.programs walk.todo) walk.course.own
+  pub fits : Fits (names_of (named_of a).plan) (given_to a).meanings (undone (named_of a).plan c.programs walk.todo) walk.course.own
+  pub covered : IsCovered c (shown queue_of p) job (named_of a).plan (shown_admission c a) (count_at (named_of a).plan c.programs walk.todo) walk.course.own
 
 abbrev pub IsProvidedAt : {Q : Type 0} → (Q → RecordQueue) → Config → Parts Q → ℕ → Walk → Stage → Type 0
 IsProvidedAt queue_of c p job walk (Selected first) = Unit {0}
 IsProvidedAt queue_of c p job walk (Wanting plan wants) = Unit {0}
-IsProvidedAt queue_of c p job walk (Named plan held) = IsForAdmission p job plan
-IsProvidedAt queue_of c p job walk (Admitted plan held a) = a.assured ≡ true → IsForAction queue_of c p job plan a walk
+IsProvidedAt queue_of c p job walk (Named named) = IsForAdmission p job named.plan
+IsProvidedAt queue_of c p job walk (Admitted a) = is_assured a ≡ true → IsForAction queue_of c p job a walk
 
 abbrev pub IsProvided : {Q : Type 0} → (Q → RecordQueue) → Config → Parts Q → Running → Type 0
 IsProvided queue_of c p r = IsProvidedAt queue_of c p r.job r.walk r.stage

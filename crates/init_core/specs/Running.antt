@@ -1,7 +1,6 @@
 -- A job at an initiator, as the machine's definitions have it.
 use Rattle.std.specs.Prelude.{◌≡◌, ◌≢◌, ℕ, ◌≤◌, List, [], ◌∷◌, ◌++◌, drop, length, Option, Some, None, All}
 use Rattle.std.specs.List.{Contains}
-use Rattle.jcl_plan.specs.declared.plan.JobPlan.{JobPlan}
 use Rattle.enq_core.specs.declared.table.Hold.{Hold}
 use Rattle.enq_core.specs.Holds.{HoldsNone}
 use Rattle.jcl_plan.specs.declared.entry.JobLine.{JobLine}
@@ -16,8 +15,8 @@ use Rattle.world_meaning.specs.Worlds.{Config}
 use Rattle.turn_core.specs.Standing.{Stands, count_at}
 use Rattle.turn_core.specs.declared.walk.Walk.{Walk}
 use Rattle.place_core.specs.Placings.{serials_of}
-use Rattle.admit_core.specs.Admitted.{fixed_for}
-use Rattle.admit_core.specs.declared.admission.Admission.{Admission}
+use Rattle.admit_core.specs.Admissions.{fixed_for, given_to, is_assured, named_of}
+use Rattle.admit_core.specs.declared.admission.AdmittedJob.{AdmittedJob}
 use Rattle.machine_core.specs.declared.parts.Parts.{Parts}
 use Rattle.init_core.specs.declared.running.Profile.{Profile}
 use Rattle.init_core.specs.declared.running.Progress.{Progress}
@@ -39,14 +38,15 @@ config_of p layout = record {
   explains = p.explains;
 }
 
-abbrev pub shown_admission : Config → JobPlan → Admission → world.Admission
-shown_admission c plan a = record { fixed = fixed_for c.volumes plan a; assured = a.assured }
+abbrev pub shown_admission : Config → AdmittedJob → world.Admission
+shown_admission c job = record { fixed = fixed_for c.volumes (named_of job).plan (given_to job); assured = is_assured job }
 
 abbrev pub shown_stage : Config → Walk → Stage → world.Stage
 shown_stage c walk (Selected first) = world.Selected first
 shown_stage c walk (Wanting plan wants) = world.Wanting plan
-shown_stage c walk (Named plan held) = world.Named plan
-shown_stage c walk (Admitted plan held a) = world.Admitted plan (shown_admission c plan a) (count_at plan c.programs walk.todo) walk.course.own
+shown_stage c walk (Named job) = world.Named job.plan
+shown_stage c walk (Admitted job) =
+    world.Admitted (named_of job).plan (shown_admission c job) (count_at (named_of job).plan c.programs walk.todo) walk.course.own
 
 abbrev pub shown_running : Config → Running → world.Running
 shown_running c r = record { job = r.job; listing = r.walk.course.lines; stage = shown_stage c r.walk r.stage }
@@ -85,16 +85,16 @@ abbrev pub AreOn : List (List ℕ) → List DdState → Type 0
 AreOn volumes dds = All (λ x. IsTakenOn volumes x.taken) dds
 
 -- what holds of an admitted job: its place is one of its agenda, and its sets are on configured volumes
-pub record IsUnderWay (c : Config) (plan : JobPlan) (a : Admission) (walk : Walk) : Type 0 where
-  pub stands : Stands plan c.programs walk.todo
+pub record IsUnderWay (c : Config) (job : AdmittedJob) (walk : Walk) : Type 0 where
+  pub stands : Stands (named_of job).plan c.programs walk.todo
   pub on : AreOn c.volumes walk.course.own.dds
 
 -- What holds of a job at an initiator, by how far this is with it.
 abbrev pub IsAt : Config → List Hold → ℕ → Walk → Stage → Type 0
 IsAt c holds job walk (Selected first) = HoldsNone holds job
 IsAt c holds job walk (Wanting plan wants) = HoldsNone holds job × (wants ≡ wants_of plan)
-IsAt c holds job walk (Named plan held) = held ≡ job
-IsAt c holds job walk (Admitted plan held a) = (held ≡ job) × IsUnderWay c plan a walk
+IsAt c holds job walk (Named named) = named.held ≡ job
+IsAt c holds job walk (Admitted admitted) = ((named_of admitted).held ≡ job) × IsUnderWay c admitted walk
 
 pub record IsReady (c : Config) (holds : List Hold) (r : Running) : Type 0 where
   pub some : r.job ≢ 0

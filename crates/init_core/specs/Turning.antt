@@ -13,8 +13,8 @@ use Rattle.shared_core.specs.Shown.{world_store_of}
 use Rattle.shared_core.specs.Tracks.{ConservesTracks, kept_shown}
 use Rattle.shared_core.specs.declared.store.SharedStore.{SharedStore}
 use Rattle.place_core.specs.Placings.{serials_of}
-use Rattle.admit_core.specs.Admitted.{fixed_for}
-use Rattle.admit_core.specs.declared.admission.Admission.{Admission}
+use Rattle.admit_core.specs.Admissions.{fixed_for, given_to, named_of}
+use Rattle.admit_core.specs.declared.admission.AdmittedJob.{AdmittedJob}
 use Rattle.turn_core.specs.Performing.{StoreAnswers}
 use Rattle.turn_core.specs.Turning.{Around}
 use Rattle.machine_core.specs.declared.parts.Parts.{Parts}
@@ -31,11 +31,11 @@ answers_of job s = record {
 }
 
 -- what a job's turn goes by
-abbrev pub around_in : Profile → List Operation → ℕ → JobPlan → Admission → Bool → SharedStore → Around
-around_in p operations job plan a cancelled store = record {
+abbrev pub around_in : Profile → List Operation → ℕ → AdmittedJob → Bool → SharedStore → Around
+around_in p operations job a cancelled store = record {
   programs = p.programs.now;
-  steps = plan.steps;
-  fixed = fixed_for p.volumes.now plan a;
+  steps = (named_of a).plan.steps;
+  fixed = fixed_for p.volumes.now (named_of a).plan (given_to a);
   operations = operations;
   job = job;
   cancel = cancelled;

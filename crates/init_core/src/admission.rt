@@ -1,25 +1,22 @@
 //! A job whose names are held is answered: it is admitted, waits for space, or is not run.
-ghost use Rattle.std.specs.Prelude.{◌≡◌, ◌≢◌, List, IfErr, IfOk, IfSome, OnErr};
+ghost use Rattle.std.specs.Prelude.{◌≡◌, ◌≢◌, List, IfErr, IfOk, OnErr};
 ghost use Rattle.jcl_plan.specs.declared.plan.JobPlan.{JobPlan};
 ghost use Rattle.jcl_meaning.specs.declared.program.SoloProgram.{SoloProgram};
 ghost use Rattle.turn_core.specs.Standing.{Stands, count_at};
-ghost use Rattle.turn_core.specs.declared.todo.Todo.TheVariants as todo;
-ghost use Rattle.init_core.specs.Answering.{is_turned_away, stage_answered, terms_of, walk_answered};
+ghost use Rattle.init_core.specs.Answering.{is_turned_away, terms_of};
 ghost use Rattle.init_core.specs.Going.{Went};
 ghost use Rattle.init_core.specs.Naming.{begun};
 ghost use Rattle.init_core.specs.Providing.{IsProvided};
 ghost use Rattle.init_core.specs.Running.{IsGood, config_of};
 ghost use Rattle.init_core.specs.declared.running.Stage.TheVariants as stage;
 
+use crate::ending::release_admitted;
 use crate::running::{Profile, Progress, Running, Stage, Told};
-use admit_core::admission::{Admission, Answer};
+use admit_core::admission::{AdmittedJob, Answer, Behind, NamedJob};
 use admit_core::admit::{Terms, admit};
 use cb_queue::store::RecordStore;
 use disp_core::course::Course;
-use enq_core::table::Held;
 use jcl_plan::entry::JobLine;
-use jcl_plan::plan::JobPlan;
-use machine_core::over::release;
 use machine_core::parts::Parts;
 use std::alloc::Global;
 use turn_core::walk::{Walk, first_walk};
@@ -46,43 +43,10 @@ fn begun(alloc: Global, walk: Walk) -> Walk
 }
 
 /// Whether a job that may fail is not run.
-fn is_turned_away(refuses: bool, admission: &Option<Admission>) -> bool
-    ensures { result ≡ is_turned_away refuses admission.now }
+fn is_turned_away(refuses: bool, admitted: &AdmittedJob) -> bool
+    ensures { result ≡ is_turned_away refuses admitted.now }
 {
-    match admission {
-        None => false,
-        Some(admission) => refuses && !admission.assured,
-    }
-}
-
-/// The job behind its answer: at its first action, or where it waits for space with its names.
-fn behind_answer(
-    alloc: Global,
-    job: u16,
-    walk: Walk,
-    plan: JobPlan,
-    held: Held,
-    admission: Option<Admission>,
-) -> Running
-    ensures is { result ≡ record { job = job; walk = walk_answered walk admission; stage = stage_answered plan held admission } }
-    ensures first { IfSome admission (λ _. (programs : List SoloProgram) → Stands plan programs (todo.Start 0) × (count_at plan programs (todo.Start 0) ≡ 0)) }
-{
-    match admission {
-        Some(admission) => Running {
-            job,
-            walk: begun(alloc, walk),
-            stage: Stage::Admitted {
-                plan,
-                held,
-                admission,
-            },
-        },
-        None => Running {
-            job,
-            walk,
-            stage: Stage::Named { plan, held },
-        },
-    }
+    refuses && !admitted.is_assured()
 }
 
 /// A turn of a job whose names are held. Where memory is wanting the job is given back as it was, and nothing has changed.
@@ -92,17 +56,16 @@ pub(crate) fn admit_job<Q: RecordStore>(
     profile: &Profile<'_>,
     job: u16,
     mut walk: Walk,
-    plan: JobPlan,
-    held: Held,
+    named: NamedJob,
 ) -> Result<Progress, Running>
     requires some { job ≢ 0 }
-    requires its_own { held ≡ job }
+    requires its_own { named.held ≡ job }
     requires good { IsGood Q.queue (config_of profile.now (Q.queue parts.old.queue).layout) parts.old }
     requires provided { IsProvided Q.queue (config_of profile.now (Q.queue parts.old.queue).layout) parts.old
-        (record { job = job; walk = walk; stage = stage.Named plan held }) }
+        (record { job = job; walk = walk; stage = stage.Named named }) }
     ensures ok { IfOk result (Went Q.queue (config_of profile.now (Q.queue parts.old.queue).layout) parts.old
-        (record { job = job; walk = walk; stage = stage.Named plan held }) parts.new) }
-    ensures err { IfErr result (λ r. r ≡ record { job = job; walk = walk; stage = stage.Named plan held }) }
+        (record { job = job; walk = walk; stage = stage.Named named }) parts.new) }
+    ensures err { IfErr result (λ r. r ≡ record { job = job; walk = walk; stage = stage.Named named }) }
     ensures same { OnErr result (parts.new ≡ parts.old) }
 {
     let date = parts.date;
@@ -112,35 +75,43 @@ pub(crate) fn admit_job<Q: RecordStore>(
         &mut parts.store,
         &terms,
         job,
-        &plan,
+        named,
         date,
         &mut walk.course.lines,
     ) {
-        Ok(
-            Answer {
-                line,
-                path,
-                admission,
-            },
-        ) => {
+        Ok(Answer { admission, path }) => {
+            let (line, behind) = admission.told();
             let told = Told { line, path };
-            if is_turned_away(profile.refuses, &admission) {
-                release(parts, job, held);
-                Ok(Progress::Over {
-                    before: Some(told),
-                    last: JobLine::Refused,
-                })
-            } else {
-                Ok(Progress::Answered {
-                    job: behind_answer(alloc, job, walk, plan, held, admission),
-                    told,
-                })
+            match behind {
+                Behind::Admitted(admitted) => {
+                    if is_turned_away(profile.refuses, &admitted) {
+                        release_admitted(parts, job, admitted);
+                        Ok(Progress::Over {
+                            before: Some(told),
+                            last: JobLine::Refused,
+                        })
+                    } else {
+                        let walk = begun(alloc, walk);
+                        let stage = Stage::Admitted(admitted);
+                        Ok(Progress::Answered {
+                            job: Running { job, walk, stage },
+                            told,
+                        })
+                    }
+                }
+                Behind::Waits(named) => {
+                    let stage = Stage::Named(named);
+                    Ok(Progress::Answered {
+                        job: Running { job, walk, stage },
+                        told,
+                    })
+                }
             }
         }
-        Err(_) => Err(Running {
+        Err(named) => Err(Running {
             job,
             walk,
-            stage: Stage::Named { plan, held },
+            stage: Stage::Named(named),
         }),
     }
 }

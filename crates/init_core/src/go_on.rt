@@ -39,11 +39,7 @@ pub fn go_on<Q: RecordStore>(
                 stage: Stage::Wanting { plan, wants },
             }),
         },
-        Stage::Named { plan, held } => admit_job(alloc, parts, profile, job, walk, plan, held),
-        Stage::Admitted {
-            plan,
-            held,
-            admission,
-        } => advance(alloc, parts, profile, job, walk, plan, held, admission),
+        Stage::Named(named) => admit_job(alloc, parts, profile, job, walk, named),
+        Stage::Admitted(admitted) => advance(alloc, parts, profile, job, walk, admitted),
     }
 }

@@ -2,6 +2,7 @@
 #![tactic(auto)]
 
 pub mod admission;
+pub mod ending;
 pub mod go_on;
 pub mod names;
 pub mod read;

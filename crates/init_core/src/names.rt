@@ -9,6 +9,7 @@ ghost use Rattle.init_core.specs.Running.{IsGood};
 ghost use Rattle.init_core.specs.declared.running.Stage.TheVariants as stage;
 
 use crate::running::{Progress, Running, Stage};
+use admit_core::admission::NamedJob;
 use cb_queue::store::RecordStore;
 use enq_core::table::{EnqTable, Held, HoldFault, Want};
 use jcl_plan::entry::JobLine;
@@ -55,7 +56,7 @@ fn stage_behind(plan: JobPlan, wants: Listed<Want>, held: Option<Held>) -> Stage
     ensures { result ≡ stage_behind plan wants held }
 {
     match held {
-        Some(held) => Stage::Named { plan, held },
+        Some(held) => Stage::Named(NamedJob { plan, held }),
         None => Stage::Wanting { plan, wants },
     }
 }

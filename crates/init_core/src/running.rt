@@ -1,8 +1,8 @@
 //! A job at an initiator, and what is fixed for all jobs.
 ghost use Rattle.std.specs.Prelude.{◌≡◌, drop};
 
-use admit_core::admission::Admission;
-use enq_core::table::{Held, Want};
+use admit_core::admission::{AdmittedJob, NamedJob};
+use enq_core::table::Want;
 use jcl_plan::entry::JobLine;
 use jcl_plan::plan::JobPlan;
 use jname_core::serial::Serial;
@@ -13,25 +13,13 @@ use turn_core::walk::Walk;
 /// How far an initiator is with its job.
 pub enum Stage {
     /// Its records are to be read; its JCT is this record.
-    Selected {
-        first: u32,
-    },
+    Selected { first: u32 },
     /// They are read, and it waits for these names.
-    Wanting {
-        plan: JobPlan,
-        wants: Listed<Want>,
-    },
+    Wanting { plan: JobPlan, wants: Listed<Want> },
     /// Its names are held.
-    Named {
-        plan: JobPlan,
-        held: Held,
-    },
+    Named(NamedJob),
     /// It is admitted.
-    Admitted {
-        plan: JobPlan,
-        held: Held,
-        admission: Admission,
-    },
+    Admitted(AdmittedJob),
 }
 
 /// A job at an initiator: its number, its place in its agenda with its own part and its listing so far, and how far the initiator is with it.

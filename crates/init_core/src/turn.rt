@@ -7,7 +7,7 @@ ghost use Rattle.world_meaning.specs.Lenses.{seen};
 ghost use Rattle.shared_core.specs.Shown.{world_store_of};
 ghost use Rattle.disp_core.specs.Courses.{fixed_by};
 ghost use Rattle.disp_core.specs.Grants.{made_of};
-ghost use Rattle.admit_core.specs.Admitted.{fixed_for};
+ghost use Rattle.admit_core.specs.Admissions.{fixed_for, given_to, named_of};
 ghost use Rattle.turn_core.specs.Standing.{Stands, TellsJob};
 ghost use Rattle.turn_core.specs.Turning.{acts, made_in, operations_by};
 ghost use Rattle.init_core.specs.Going.{Went};
@@ -17,16 +17,14 @@ ghost use Rattle.init_core.specs.Turning.{IsEnded, IsWritten, around_in};
 ghost use Rattle.init_core.specs.declared.running.Progress.TheVariants as progress;
 ghost use Rattle.init_core.specs.declared.running.Stage.TheVariants as stage;
 
+use crate::ending::release_admitted;
 use crate::running::{Profile, Progress, Running, Stage};
-use admit_core::admission::Admission;
+use admit_core::admission::AdmittedJob;
 use cb_queue::store::RecordStore;
 use disp_core::course::Given;
-use enq_core::table::Held;
 use grant_laws::granted_turns;
 use jcl_plan::entry::JobLine;
-use jcl_plan::plan::JobPlan;
 use job_core::cancels::Cancels;
-use machine_core::over::release;
 use machine_core::parts::Parts;
 use prog_core::units::{Units, operations_are_apart};
 use shared_core::laws::{kept_is_spent, sets_of_others_stay, tracks_are_conserved};
@@ -38,15 +36,16 @@ use turn_core::turn::turn;
 use turn_core::walk::{Acted, Setting, Turned, Walk};
 
 /// What is fixed for an admitted job.
-fn given<'a>(profile: &Profile<'a>, plan: &'a JobPlan, admission: &'a Admission) -> Given<'a>
-    ensures { fixed_by result ≡ fixed_for profile.now.volumes.now plan.now admission.now }
+fn given<'a>(profile: &Profile<'a>, admitted: &'a AdmittedJob) -> Given<'a>
+    ensures { fixed_by result ≡ fixed_for profile.now.volumes.now (named_of admitted.now).plan (given_to admitted.now) }
 {
+    let provision = admitted.provision();
     Given {
-        job_tests: plan.tests.as_slice(),
+        job_tests: admitted.plan().tests.as_slice(),
         volumes: profile.volumes,
-        places: admission.places.as_slice(),
-        meanings: admission.meanings.as_slice(),
-        date: admission.date,
+        places: provision.places.as_slice(),
+        meanings: provision.meanings.as_slice(),
+        date: provision.date,
     }
 }
 
@@ -57,13 +56,12 @@ fn take_turn(
     store: &mut SharedStore,
     units: &Units,
     job: u16,
-    plan: &JobPlan,
-    admission: &Admission,
+    admitted: &AdmittedJob,
     walk: &mut Walk,
     cancelled: bool,
 ) -> Result<Turned, AllocError>
-    requires stands { Stands plan.now profile.now.programs.now walk.old.todo }
-    ensures ok { IfOk result (TellsJob (around_in profile.now units.now job plan.now admission.now cancelled store.old) plan.now
+    requires stands { Stands (named_of admitted.now).plan profile.now.programs.now walk.old.todo }
+    ensures ok { IfOk result (TellsJob (around_in profile.now units.now job admitted.now cancelled store.old) (named_of admitted.now).plan
         (seen job (world_store_of store.old)) walk.old (seen job (world_store_of store.new)) walk.new) }
     ensures written { IfOk result (λ told. IsWritten job (made_of (made_in told)) store.old store.new) }
     ensures same { IfOk result (λ told. acts told ≡ false → (store.new ≡ store.old) × (walk.new ≡ walk.old)) }
@@ -77,10 +75,10 @@ fn take_turn(
         programs: profile.programs,
         units,
         job,
-        given: given(profile, plan, admission),
+        given: given(profile, admitted),
         cancelled,
     };
-    let told = turn(alloc, plan, &setting, store, walk);
+    let told = turn(alloc, admitted.plan(), &setting, store, walk);
     volumes_add_up(&*store);
     told
 }
@@ -109,17 +107,13 @@ fn enter_acted(units: &mut Units, cancels: &mut Cancels, job: u16, acted: &Acted
     }
 }
 
-fn admitted(job: u16, walk: Walk, plan: JobPlan, held: Held, admission: Admission) -> Running
-    ensures { result ≡ record { job = job; walk = walk; stage = stage.Admitted plan held admission } }
+fn running(job: u16, walk: Walk, admitted: AdmittedJob) -> Running
+    ensures { result ≡ record { job = job; walk = walk; stage = stage.Admitted admitted } }
 {
     Running {
         job,
         walk,
-        stage: Stage::Admitted {
-            plan,
-            held,
-            admission,
-        },
+        stage: Stage::Admitted(admitted),
     }
 }
 
@@ -128,32 +122,31 @@ fn end<Q: RecordStore>(
     parts: &mut Parts<Q>,
     job: u16,
     mut walk: Walk,
-    plan: JobPlan,
-    held: Held,
-    admission: Admission,
+    admitted: AdmittedJob,
 ) -> Result<Progress, Running>
     requires some { job ≢ 0 }
-    requires its_own { held ≡ job }
+    requires its_own { (named_of admitted).held ≡ job }
     ensures over { IfOk result (λ came. came ≡ progress.Over None line.End) }
-    ensures ok { OnOk result (IsEnded Q.queue job walk plan parts.old parts.new) }
-    ensures err { IfErr result (λ r. r ≡ record { job = job; walk = walk; stage = stage.Admitted plan held admission }) }
+    ensures ok { OnOk result (IsEnded Q.queue job walk (named_of admitted).plan parts.old parts.new) }
+    ensures err { IfErr result (λ r. r ≡ record { job = job; walk = walk; stage = stage.Admitted admitted }) }
     ensures same { OnErr result (parts.new ≡ parts.old) }
 {
+    let class = admitted.plan().message_class;
     match parts.spool.enter(
         job,
-        plan.message_class,
+        class,
         &mut walk.course.lines,
         JobLine::End,
         &mut walk.course.own.outputs,
     ) {
         Ok(()) => {
-            release(parts, job, held);
+            release_admitted(parts, job, admitted);
             Ok(Progress::Over {
                 before: None,
                 last: JobLine::End,
             })
         }
-        Err(_) => Err(admitted(job, walk, plan, held, admission)),
+        Err(_) => Err(running(job, walk, admitted)),
     }
 }
 
@@ -164,18 +157,16 @@ pub(crate) fn advance<Q: RecordStore>(
     profile: &Profile<'_>,
     job: u16,
     mut walk: Walk,
-    plan: JobPlan,
-    held: Held,
-    admission: Admission,
+    admitted: AdmittedJob,
 ) -> Result<Progress, Running>
     requires some { job ≢ 0 }
-    requires at { IsAt (config_of profile.now (Q.queue parts.old.queue).layout) parts.old.names job walk (stage.Admitted plan held admission) }
+    requires at { IsAt (config_of profile.now (Q.queue parts.old.queue).layout) parts.old.names job walk (stage.Admitted admitted) }
     requires good { IsGood Q.queue (config_of profile.now (Q.queue parts.old.queue).layout) parts.old }
     requires provided { IsProvided Q.queue (config_of profile.now (Q.queue parts.old.queue).layout) parts.old
-        (record { job = job; walk = walk; stage = stage.Admitted plan held admission }) }
+        (record { job = job; walk = walk; stage = stage.Admitted admitted }) }
     ensures ok { IfOk result (Went Q.queue (config_of profile.now (Q.queue parts.old.queue).layout) parts.old
-        (record { job = job; walk = walk; stage = stage.Admitted plan held admission }) parts.new) }
-    ensures err { IfErr result (λ r. r ≡ record { job = job; walk = walk; stage = stage.Admitted plan held admission }) }
+        (record { job = job; walk = walk; stage = stage.Admitted admitted }) parts.new) }
+    ensures err { IfErr result (λ r. r ≡ record { job = job; walk = walk; stage = stage.Admitted admitted }) }
     ensures same { OnErr result (parts.new ≡ parts.old) }
 {
     waits_advance();
@@ -192,23 +183,22 @@ pub(crate) fn advance<Q: RecordStore>(
         &mut parts.store,
         &parts.units,
         job,
-        &plan,
-        &admission,
+        &admitted,
         &mut walk,
         cancelled,
     ) {
         Ok(Turned::Waits) => Ok(Progress::GoesOn {
-            job: admitted(job, walk, plan, held, admission),
+            job: running(job, walk, admitted),
             from,
         }),
         Ok(Turned::Acts(acted)) => {
             enter_acted(&mut parts.units, &mut parts.cancels, job, &acted);
             Ok(Progress::GoesOn {
-                job: admitted(job, walk, plan, held, admission),
+                job: running(job, walk, admitted),
                 from,
             })
         }
-        Ok(Turned::Ends) => end(parts, job, walk, plan, held, admission),
-        Err(_) => Err(admitted(job, walk, plan, held, admission)),
+        Ok(Turned::Ends) => end(parts, job, walk, admitted),
+        Err(_) => Err(running(job, walk, admitted)),
     }
 }

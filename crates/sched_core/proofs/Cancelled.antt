@@ -86,8 +86,8 @@ still_none old new job other is none = subst (λ (hs : List Hold). HoldsNone hs 
 same_stage : (c : Config) (walk : Walk) (stage : Stage) → table.is_admitted (shown_stage c walk stage) ≡ is_admitted stage
 same_stage c walk (Selected first) = refl
 same_stage c walk (Wanting plan wants) = refl
-same_stage c walk (Named plan held) = refl
-same_stage c walk (Admitted plan held a) = refl
+same_stage c walk (Named job) = refl
+same_stage c walk (Admitted job) = refl
 
 added : (s : Shared) (job : ℕ) (b : Bool) →
     record s { cancels = cond b s.cancels (s.cancels ++ job ∷ []) } ≡ cond b s (record s { cancels = s.cancels ++ job ∷ [] })

@@ -30,7 +30,7 @@ use Rattle.world_meaning.specs.Worlds.{Admission, Admitted, Initiator, IsAt, Nam
 use Rattle.world_meaning.specs.Zaps.{not_owned, selected as zaps_selected, zapped}
 use Rattle.law_core.proofs.Over.{advance_stands, fewer, unanswered}
 use Rattle.law_core.proofs.PlainLines.{is_of_admission}
-use Rattle.admit_core.specs.Admitted.{IsTold, assured, fixed_by_room, no_space, risk, too_many}
+use Rattle.admit_core.specs.Told.{IsTold, assured, fixed_by_room, no_space, risk, too_many}
 use Rattle.jcl_meaning.specs.declared.state.Place.{Place}
 use Rattle.init_core.specs.Choosing.{IsAdmittedByVolumes, IsChosenByVolumes, lines_answered, with_refusal}
 use Rattle.sched_core.specs.Answers.{AnswersAreExact, AreExact, IsBroken, IsExact, IsExactly, IsThere}

@@ -71,8 +71,8 @@ module _ (few : ExplanationIsFew) (p : Profile) (l : Layout) (old : Shared) (q :
       length (explained_by c old q (shown_stage c walk stage) lines new runs g) ≤ (if p.explains then most_explained_at p stage else 0)
   by_stage (Selected first) g = omega arith
   by_stage (Wanting plan wants) g = omega arith
-  by_stage (Named plan held) g = by_choice few (fixed_at c old q.job plan g.places) plan (seen q.job old.store) p p.explains lines
-  by_stage (Admitted plan held a) g = omega arith
+  by_stage (Named named) g = by_choice few (fixed_at c old q.job named.plan g.places) named.plan (seen q.job old.store) p p.explains lines
+  by_stage (Admitted a) g = omega arith
 
 pub few_paths : ExplanationIsFew → {Q : Type 0} (queue_of : Q → RecordQueue) (p : Profile) (l : Layout) (old : Parts Q) (r : Running) (new : Parts Q)
     (came : Progress) → Went queue_of (config_of p l) old r new came → length (path_told came) ≤ most_explained p r

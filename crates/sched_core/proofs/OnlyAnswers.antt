@@ -13,7 +13,7 @@ use Rattle.world_meaning.specs.Admissions.{tracks_asked}
 use Rattle.world_meaning.specs.Lenses.{seen}
 use Rattle.shared_core.specs.Shown.{world_store_of}
 use Rattle.shared_core.specs.declared.store.SharedStore.{SharedStore}
-use Rattle.admit_core.specs.Admitted.{IsTold, assured, no_space, refused_by, risk, too_many}
+use Rattle.admit_core.specs.Told.{IsTold, assured, no_space, refused_by, risk, too_many}
 use Rattle.sched_core.specs.Answers.{IsSameAnswer}
 
 some_value : (a : Option (List ℕ)) (s t : List ℕ) → a ≡ Some s → a ≡ Some t → t ≡ s

@@ -4,7 +4,6 @@ use Rattle.std.specs.Prelude.{filter}
 use Rattle.std.specs.List.{list_any}
 use Rattle.cb_queue.specs.RecordQueues.{RecordQueue}
 use Rattle.extent_core.specs.declared.extent.Extent.{Extent}
-use Rattle.jcl_plan.specs.declared.plan.JobPlan.{JobPlan}
 use Rattle.case_laws.specs.Cases.{CanGoOn, is_assured_at}
 use Rattle.case_laws.proofs.KeptAlone.{none_before}
 use Rattle.law_core.specs.Soundness.{RunsAt, plan_read}
@@ -19,6 +18,7 @@ use Rattle.shared_core.specs.Shown.{kept_extents, mounted_in}
 use Rattle.shared_core.specs.Tracks.{kept_shown, kept_tracks}
 use Rattle.shared_core.proofs.ShownLists.{any_shown}
 use Rattle.place_core.specs.Placings.{NothingKeptFor}
+use Rattle.admit_core.specs.declared.admission.NamedJob.{NamedJob}
 use Rattle.init_core.specs.Providing.{IsForAction, IsForAdmission, IsProvided, IsProvidedAt}
 use Rattle.init_core.specs.Running.{shown_running, shown_stage}
 use Rattle.init_core.specs.declared.running.Running.{Running}
@@ -57,11 +57,11 @@ module _ {Q : Type 0} (queue_of : Q → RecordQueue) (c : Config) (s : State Q) 
   nothing_kept unassured serial at same =
       none_for r.job (mounted_in s.parts.store.volumes serial) at same (none_before w kept.sound kept.supplied.kept place (shown_running c r) runs unassured serial)
 
-  for_admission : (plan : JobPlan) (held : ℕ) → r.stage ≡ Named plan held → IsForAdmission s.parts r.job plan
-  for_admission plan held is = record {
+  for_admission : (named : NamedJob) → r.stage ≡ Named named → IsForAdmission s.parts r.job named.plan
+  for_admission named is = record {
     nothing = nothing_kept (ap (λ (x : Stage). is_assured_at (shown_stage c r.walk x)) is);
-    formed = plan_formed c.layout.most_steps _ plan
-        (kept.sound.denoted place (shown_running c r) plan runs (ap (λ (x : Stage). plan_read (shown_stage c r.walk x)) is)).denoted.in_range;
+    formed = plan_formed c.layout.most_steps _ named.plan
+        (kept.sound.denoted place (shown_running c r) named.plan runs (ap (λ (x : Stage). plan_read (shown_stage c r.walk x)) is)).denoted.in_range;
     groups = kept.sound.groups r.job;
   }
 
@@ -75,11 +75,11 @@ module _ {Q : Type 0} (queue_of : Q → RecordQueue) (c : Config) (s : State Q) 
   provided_at : (stage : Stage) → r.stage ≡ stage → IsProvidedAt queue_of c s.parts r.job r.walk stage
   provided_at (Selected first) is = tt
   provided_at (Wanting plan wants) is = tt
-  provided_at (Named plan held) is = for_admission plan held is
-  provided_at (Admitted plan held a) is = λ assured. record {
+  provided_at (Named named) is = for_admission named is
+  provided_at (Admitted a) is = λ assured. record {
     programs = kept.sound.programs;
-    fits = its_fit (Admitted plan held a) is;
-    covered = (can_go_on (Admitted plan held a) is).1 assured;
+    fits = its_fit (Admitted a) is;
+    covered = (can_go_on (Admitted a) is).1 assured;
   }
 
   pub provided : IsProvided queue_of c s.parts r

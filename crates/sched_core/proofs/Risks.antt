@@ -18,6 +18,7 @@ use Rattle.turn_core.specs.declared.walk.Walk.{Walk}
 use Rattle.machine_core.specs.Shown.{shown}
 use Rattle.machine_core.specs.declared.parts.Parts.{Parts}
 use Rattle.init_core.specs.Going.{IsToldOnce, Went}
+use Rattle.admit_core.specs.Admissions.{named_of}
 use Rattle.init_core.specs.Running.{shown_admission, shown_running, shown_stage}
 use Rattle.init_core.specs.declared.running.Progress.TheVariants as progress
 use Rattle.init_core.specs.declared.running.Running.{Running}
@@ -54,9 +55,9 @@ by_stage : (c : Config) (walk : Walk) (stage : Stage) (s : Shared) (r : world.Ru
     (runs : Option world.Running) → IsToldOnce stage (progress.GoesOn q from) → GoesOn c s r (shown_stage c walk stage) lines new runs → list_any is_risk lines ≡ false
 by_stage c walk (stage.Selected first) s r q from lines new runs once g = in_reading c s r first lines new runs g
 by_stage c walk (stage.Wanting plan wants) s r q from lines new runs once g = in_holds s r plan lines new runs g
-by_stage c walk (stage.Named plan hold) s r q from lines new runs once g = absurd once
-by_stage c walk (stage.Admitted plan hold a) s r q from lines new runs once g =
-    in_advance c s r plan (shown_admission c plan a) (count_at plan c.programs walk.todo) walk.course.own lines new runs g
+by_stage c walk (stage.Named named) s r q from lines new runs once g = absurd once
+by_stage c walk (stage.Admitted a) s r q from lines new runs once g =
+    in_advance c s r (named_of a).plan (shown_admission c a) (count_at (named_of a).plan c.programs walk.todo) walk.course.own lines new runs g
 
 pub no_risk : {Q : Type 0} (queue_of : Q → RecordQueue) (c : Config) (old : Parts Q) (r : Running) (new : Parts Q) (q : Running) (from : ℕ) →
     Went queue_of c old r new (progress.GoesOn q from) → All (λ l. unless_risk l ≡ Some l) (drop from q.walk.course.lines)

@@ -37,8 +37,8 @@ at_still : (c : Config) (old new : List Hold) (job : ℕ) (walk : Walk) (stage :
     running.IsAt c old job walk stage → running.IsAt c new job walk stage
 at_still c old new job walk (Selected first) still h = still h
 at_still c old new job walk (Wanting plan wants) still h = (still h.0, h.1)
-at_still c old new job walk (Named plan held) still h = h
-at_still c old new job walk (Admitted plan held a) still h = h
+at_still c old new job walk (Named named) still h = h
+at_still c old new job walk (Admitted a) still h = h
 
 pub ready_still : (c : Config) (old new : List Hold) (r : Running) → (HoldsNone old r.job → HoldsNone new r.job) → IsReady c old r → IsReady c new r
 ready_still c old new r still h = record { some = h.some; at = at_still c old new r.job r.walk r.stage still h.at }

@@ -21,8 +21,8 @@ use Rattle.sched_core.specs.declared.state.Initiator.{Initiator}
 abbrev pub is_admitted : Stage → Bool
 is_admitted (Selected first) = false
 is_admitted (Wanting plan wants) = false
-is_admitted (Named plan held) = false
-is_admitted (Admitted plan held a) = true
+is_admitted (Named job) = false
+is_admitted (Admitted job) = true
 
 abbrev pub has_admitted : Option Running → Bool
 has_admitted None = false

@@ -9,8 +9,8 @@ use Rattle.init_core.specs.declared.running.Stage.TheVariants.{Admitted, Named, 
 abbrev pub most_explained_at : Profile → Stage → ℕ
 most_explained_at p (Selected first) = 0
 most_explained_at p (Wanting plan wants) = 0
-most_explained_at p (Named plan held) = budget_of plan p.programs.now
-most_explained_at p (Admitted plan held a) = 0
+most_explained_at p (Named job) = budget_of job.plan p.programs.now
+most_explained_at p (Admitted job) = 0
 
 abbrev pub most_explained : Profile → Running → ℕ
 most_explained p r = if p.explains then most_explained_at p r.stage else 0

@@ -17,7 +17,9 @@ ghost use Rattle.sched_core.specs.declared.state.Initiator.{Initiator};
 use crate::fault::ApplyFault;
 use crate::lines::{cancelled, one};
 use crate::state::{Initiator, State};
+use admit_core::admission::NamedJob;
 use cb_queue::store::RecordStore;
+use init_core::ending::release_admitted;
 use init_core::running::{Profile, Running, Stage};
 use jcl_plan::entry::Entry;
 use jcl_plan::fault::{Cause, EventFault};
@@ -43,7 +45,7 @@ fn has_admitted(x: &Initiator) -> bool
 {
     match &x.running {
         None => false,
-        Some(running) => matches!(&running.stage, Stage::Admitted { .. }),
+        Some(running) => matches!(&running.stage, Stage::Admitted(_)),
     }
 }
 
@@ -93,12 +95,11 @@ fn give_up<Q: RecordStore>(parts: &mut Parts<Q>, running: Running)
     match stage {
         Stage::Selected { first: _ } => release_unnamed(parts, job),
         Stage::Wanting { plan: _, wants: _ } => release_unnamed(parts, job),
-        Stage::Named { plan: _, held } => release(parts, job, held),
-        Stage::Admitted {
-            plan: _,
-            held,
-            admission: _,
-        } => release(parts, job, held),
+        Stage::Named(named) => {
+            let NamedJob { plan: _, held } = named;
+            release(parts, job, held);
+        }
+        Stage::Admitted(admitted) => release_admitted(parts, job, admitted),
     }
 }
 

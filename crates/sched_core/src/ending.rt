@@ -1,5 +1,6 @@
 //! The end of the machine.
 use crate::state::{Initiator, State};
+use admit_core::admission::NamedJob;
 use cb_queue::store::RecordStore;
 use enq_core::table::EnqTable;
 use init_core::running::{Running, Stage};
@@ -24,12 +25,14 @@ fn spend(names: &mut EnqTable, x: Initiator) {
     match stage {
         Stage::Selected { first: _ } => {}
         Stage::Wanting { plan: _, wants: _ } => {}
-        Stage::Named { plan: _, held } => names.release(held),
-        Stage::Admitted {
-            plan: _,
-            held,
-            admission: _,
-        } => names.release(held),
+        Stage::Named(named) => {
+            let NamedJob { plan: _, held } = named;
+            names.release(held);
+        }
+        Stage::Admitted(admitted) => {
+            let NamedJob { plan: _, held } = admitted.into_named();
+            names.release(held);
+        }
     }
 }
 

@@ -66,8 +66,8 @@ fn phase_of(stage: &Stage) -> Phase
     match stage {
         Stage::Selected { .. } => Phase::Selected,
         Stage::Wanting { .. } => Phase::Wanting,
-        Stage::Named { .. } => Phase::Named,
-        Stage::Admitted { .. } => Phase::Admitted,
+        Stage::Named(_) => Phase::Named,
+        Stage::Admitted(_) => Phase::Admitted,
     }
 }
 
