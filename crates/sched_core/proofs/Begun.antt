@@ -23,7 +23,7 @@ use Rattle.law_core.specs.Soundness.{IsSound, StartsSound}
 use Rattle.shared_core.specs.declared.store.SharedStore.{SharedStore}
 use Rattle.enq_core.specs.Holds.{HoldsNone}
 use Rattle.place_core.specs.Placings.{serials_of}
-use Rattle.shared_core.specs.Shown.{kept_extents, mounted_in, set_on}
+use Rattle.shared_core.specs.Shown.{mounted_in, set_on}
 use Rattle.shared_core.specs.Tracks.{free_on, kept_shown}
 use Rattle.shared_core.proofs.Showing.{nothing_shown}
 use Rattle.world_meaning.specs.Starts.{IsStart}

@@ -1,18 +1,15 @@
 -- What the volumes decide, from what is known of an action and what is chosen.
-use Rattle.std.proofs.Common.{◌≡◌, ℕ, cond, Bool, true, false, List, [], ◌∷◌, Option, Some, refl, ap, sym, subst, ◌∙◌}
+use Rattle.std.proofs.Common.{◌≡◌, ℕ, cond, Bool, true, false, List, Some, ap, sym, subst, ◌∙◌}
 use Rattle.jcl_plan.specs.declared.entry.Entry.{Entry}
-use Rattle.jcl_plan.specs.declared.entry.JobLine.{JobLine}
-use Rattle.jcl_plan.specs.declared.entry.JobLine.TheVariants as line
-use Rattle.jcl_plan.specs.declared.outcome.Abend.TheVariants.{SB37}
 use Rattle.jcl_plan.specs.declared.plan.StepPlan.{StepPlan}
 use Rattle.jcl_meaning.specs.declared.program.Move.{Move}
 use Rattle.jcl_meaning.specs.Acts.{act}
 use Rattle.jcl_meaning.specs.Agendas.{Action, Ask, Take}
 use Rattle.jcl_meaning.specs.RequestActs.{asked, head_or}
-use Rattle.jcl_meaning.specs.States.{Done, State}
-use Rattle.request_core.specs.Requests.{Growth, growth_asked}
+use Rattle.jcl_meaning.specs.States.{Done}
+use Rattle.request_core.specs.Requests.{growth_asked}
 use Rattle.input_core.specs.declared.event.Event.{Event}
-use Rattle.world_meaning.specs.Choices.{AtAction, AtAdmission, Choice, choice_of}
+use Rattle.world_meaning.specs.Choices.{AtAction, Choice}
 use Rattle.world_meaning.specs.Turns.{Advanced}
 use Rattle.world_meaning.specs.Worlds.{Admission, World}
 use Rattle.turn_core.specs.Performing.{growth_by, growth_granted, primary_by}
@@ -20,7 +17,7 @@ use Rattle.init_core.specs.Choosing.{IsChosenByVolumes}
 use Rattle.init_core.specs.Turning.{answers_of}
 use Rattle.sched_core.specs.Deciding.{ActionsAreTold, GrowthIsRefused, IsAction, PrimaryIsRefused, SetsArePlaced}
 use Rattle.sched_core.specs.Systems.{Machine, Steps, denoting, meant_by, world_of}
-use Rattle.sched_core.proofs.ActionFacts.{IsDone, ToldOf, at_step}
+use Rattle.sched_core.proofs.ActionFacts.{ToldOf, at_step}
 use Rattle.sched_core.proofs.RefusedGrowth.{growth_refused}
 use Rattle.sched_core.proofs.RefusedPrimary.{primary_refused, volume_refused}
 

@@ -1,5 +1,5 @@
 -- The lines of a turn with those that explain the first, and how many there are.
-use Rattle.std.proofs.Common.{◌≡◌, ◌≤◌, ◌++◌, ◌∙◌, ℕ, Bool, true, false, List, [], ◌∷◌, length, map, Option, None, Some, arith, refl, sym, ap, subst}
+use Rattle.std.proofs.Common.{◌≡◌, ◌≤◌, ◌++◌, ◌∙◌, ℕ, Bool, true, false, List, [], ◌∷◌, length, map, Option, arith, refl, sym, ap, subst}
 use Rattle.std.specs.Option.{option_map}
 use Rattle.std.proofs.lemmas.List.{append-nil}
 use Rattle.std.specs.Prelude.{if◌then◌else◌}
@@ -30,7 +30,6 @@ use Rattle.init_core.specs.declared.running.Stage.TheVariants.{Admitted, Named, 
 use Rattle.cb_meaning.specs.declared.layout.Layout.{Layout}
 use Rattle.turn_core.specs.declared.walk.Walk.{Walk}
 use Rattle.sched_core.specs.Explaining.{most_explained, most_explained_at}
-use Rattle.sched_core.specs.Going.{TurnsJob}
 
 -- the first line, what explains it, and the others
 pub told_first : (job : ℕ) (first : JobLine) (lines path : List JobLine) →

@@ -1,5 +1,5 @@
 -- What a job's turn asks of a machine holds of one that is sound and supplied.
-use Rattle.std.proofs.Common.{◌≡◌, ℕ, ◌==◌, ◌||◌, Bool, true, false, cond, List, [], ◌∷◌, Option, Some, None, eq-eqb, refl, sym, ap, ◌∙◌, subst}
+use Rattle.std.proofs.Common.{◌≡◌, ℕ, ◌==◌, ◌||◌, Bool, true, false, cond, List, [], ◌∷◌, Option, Some, None, eq-eqb, refl, ap, subst}
 use Rattle.std.specs.Prelude.{filter}
 use Rattle.std.specs.List.{list_any}
 use Rattle.cb_queue.specs.RecordQueues.{RecordQueue}
@@ -9,17 +9,15 @@ use Rattle.case_laws.proofs.KeptAlone.{none_before}
 use Rattle.law_core.specs.Soundness.{RunsAt, plan_read}
 use Rattle.law_core.proofs.Reading.{plan_formed}
 use Rattle.world_laws.specs.Beside.{FitsAt, RunsFit}
-use Rattle.world_meaning.specs.Tracks.{kept_of}
-use Rattle.world_meaning.specs.Worlds as world
 use Rattle.world_meaning.specs.Worlds.{Config, Kept, World}
 use Rattle.mount_core.specs.declared.place.KeptPlace.{KeptPlace}
 use Rattle.mount_core.specs.Mounts.{MountedState}
 use Rattle.shared_core.specs.Shown.{kept_extents, mounted_in}
-use Rattle.shared_core.specs.Tracks.{kept_shown, kept_tracks}
+use Rattle.shared_core.specs.Tracks.{kept_tracks}
 use Rattle.shared_core.proofs.ShownLists.{any_shown}
 use Rattle.place_core.specs.Placings.{NothingKeptFor}
 use Rattle.admit_core.specs.declared.admission.NamedJob.{NamedJob}
-use Rattle.init_core.specs.Providing.{IsForAction, IsForAdmission, IsProvided, IsProvidedAt}
+use Rattle.init_core.specs.Providing.{IsForAdmission, IsProvided, IsProvidedAt}
 use Rattle.init_core.specs.Running.{shown_running, shown_stage}
 use Rattle.init_core.specs.declared.running.Running.{Running}
 use Rattle.init_core.specs.declared.running.Stage.{Stage}

@@ -1,6 +1,5 @@
 -- Where SB37 stands in the place of a request, it asked for tracks, and these were refused.
 use Rattle.std.proofs.Common.{◌≡◌, ℕ, ◌==◌, ◌||◌, Bool, true, false, List, [], ◌∷◌, Option, Some, None, drop, slice_get, refl}
-use Rattle.jcl_plan.specs.declared.entry.JobLine.{JobLine}
 use Rattle.jcl_plan.specs.declared.entry.JobLine.TheVariants as line
 use Rattle.jcl_plan.specs.declared.outcome.Abend.TheVariants as abend
 use Rattle.jcl_plan.specs.declared.plan.DdKind.{DdKind}
@@ -14,7 +13,7 @@ use Rattle.jcl_meaning.specs.declared.state.DdState.{DdState}
 use Rattle.jcl_meaning.specs.declared.state.TakenSet.{TakenSet}
 use Rattle.jcl_meaning.specs.declared.store.DataSet.{DataSet}
 use Rattle.jcl_meaning.specs.Programs.{dd_of, emptied, empties, is_concatenated, is_full, is_read_only, or_nothing}
-use Rattle.jcl_meaning.specs.RequestActs.{asked, asks_at, asks_dd, dd_name, gets_by, head_or, put_grows, put_to_set, puts, puts_in, puts_unless, reads}
+use Rattle.jcl_meaning.specs.RequestActs.{asked, asks_at, asks_dd, dd_name, gets_by, head_or, put_to_set, puts, puts_in, puts_unless, reads}
 use Rattle.jcl_meaning.specs.States.{Done, State, asks_open, cancel_due}
 use Rattle.jcl_meaning.specs.Takes.{secondary_of}
 use Rattle.request_core.specs.Requests.{Growth, growth_asked, growth_at, growth_at_dd, growth_for, growth_in, growth_of_kind, growth_unless, here_at}

@@ -1,8 +1,8 @@
 -- A Zap that is refused, and one that is taken.
-use Rattle.std.proofs.Common.{◌≡◌, ◌+◌, ◌==◌, ◌||◌, ◌&&◌, not, ℕ, Bool, true, false, List, [], ◌∷◌, map, length, Option, Some, None, Result, Ok, Err, arith, refl, sym, ap, ◌∙◌, subst}
+use Rattle.std.proofs.Common.{◌≡◌, ◌+◌, ◌==◌, ◌||◌, ◌&&◌, not, ℕ, Bool, true, false, List, [], ◌∷◌, map, length, Option, Some, None, Result, Err, refl, sym, ap, ◌∙◌, subst}
 use Rattle.std.specs.List.{list_any}
 use Rattle.std.specs.Option.{option_map}
-use Rattle.std.specs.Prelude.{is_none, is_some, nat_le}
+use Rattle.std.specs.Prelude.{nat_le}
 use Rattle.std.proofs.lemmas.Bool.{and_parts, both_ways, leb-true}
 use Rattle.jcl_plan.specs.declared.entry.Entry.{Entry}
 use Rattle.jcl_plan.specs.declared.entry.Entry.TheVariants as entry
@@ -11,11 +11,9 @@ use Rattle.jcl_plan.specs.declared.fault.Cause.TheVariants.{Q as OfQueue}
 use Rattle.jcl_plan.specs.declared.fault.QueueFault.{QueueFault}
 use Rattle.jcl_plan.specs.declared.fault.QueueFault.TheVariants.{Full, NotOwner, Selected}
 use Rattle.cb_meaning.specs.declared.layout.TheConstants.{RECORD_BYTES}
-use Rattle.cb_meaning.specs.Spelled.{Records}
 use Rattle.cb_meaning.specs.Walks.{is_free, owner_of}
 use Rattle.cb_queue.specs.RecordQueues as queue
 use Rattle.cb_queue.specs.RecordQueues.{RecordQueue, record_at}
-use Rattle.enq_core.specs.Holds.{HoldsNone}
 use Rattle.queue_core.specs.declared.queue.Queued.{Queued}
 use Rattle.cb_meaning.specs.Fields.{with_part}
 use Rattle.world_meaning.specs.Records.{SameRecords, with_record}
@@ -27,7 +25,6 @@ use Rattle.job_core.specs.Listed.{AreListed, waiting_in}
 use Rattle.job_core.specs.Zapping.{IsOwner, Overwrites}
 use Rattle.job_core.specs.declared.backlog.Listing.{Listing}
 use Rattle.machine_core.specs.Shown.{shown}
-use Rattle.machine_core.specs.declared.parts.Parts.{Parts}
 use Rattle.init_core.specs.Running.{shown_running}
 use Rattle.init_core.specs.declared.running.Running.{Running}
 use Rattle.sched_core.specs.Cancelling.{has_job}

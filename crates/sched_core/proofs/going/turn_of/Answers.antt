@@ -1,5 +1,4 @@
-use Rattle.std.proofs.Common.{◌≡◌, ◌≤◌, All, Some, List, Option, arith, length, subst, sym, ap, refl, ◌∙◌}
-use Rattle.jcl_plan.specs.declared.entry.JobLine.{JobLine}
+use Rattle.std.proofs.Common.{◌≡◌, ◌≤◌, All, Some, arith, length, subst, sym}
 use Rattle.init_core.specs.Going.{Went}
 use Rattle.init_core.specs.Running.{config_of, path_before}
 use Rattle.init_core.specs.declared.running.Progress.TheVariants.{Answered, Over}

@@ -3,7 +3,7 @@ use Rattle.world_meaning.specs.Zaps.{ZapsRecord}
 use Rattle.sched_core.specs.Events.{LeadsTo}
 use Rattle.sched_core.specs.Machines.{config_in, world_in}
 use Rattle.sched_core.specs.Zapping.{IsJudged}
-use Rattle.sched_core.proofs.Zapped.{fit, is_refused, leads, never_refused, refused_first}
+use Rattle.sched_core.proofs.Zapped.{is_refused, leads, never_refused, refused_first}
 use Rattle.sched_core.proofs.zapping.zap.Goals as goal
 
 pub returns-in-Some-clause-answer : goal.returns-in-Some-clause-answer

@@ -1,4 +1,4 @@
-use Rattle.std.proofs.Common.{◌≡◌, Bool, true, false, not, subst, sym, ap, refl, ◌∙◌}
+use Rattle.std.proofs.Common.{subst, sym, ap, ◌∙◌}
 use Rattle.std.specs.List.{list_any}
 use Rattle.world_meaning.specs.Zaps.{is_within}
 use Rattle.sched_core.specs.Cancelling.{has_job}
