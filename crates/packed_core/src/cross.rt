@@ -216,6 +216,9 @@ impl<'a, J: Job + Drop> PackedDomain<'a, J> {
             return placed_again(alloc, known);
         }
         let placed = self.place_step(alloc, before, n, step, abended, behind)?;
+        if before.are_few() {
+            return Ok(placed);
+        }
         before.tell(alloc, self.seals)?;
         let again = placed_again(alloc, &placed)?;
         behind.note_placed(alloc, before, n, abended, again)?;
@@ -241,6 +244,9 @@ impl<'a, J: Job + Drop> PackedDomain<'a, J> {
             return Ok(number);
         }
         let number = self.put_scene(behind, before.scene(n), n)?;
+        if before.are_few() {
+            return Ok(number);
+        }
         before.tell(alloc, self.seals)?;
         behind.note_idle(alloc, before, n, number)?;
         Ok(number)

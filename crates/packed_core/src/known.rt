@@ -12,7 +12,15 @@ use crate::views::PackedViews;
 use std::alloc::{AllocError, Global};
 use std::mem;
 
+/// Of so few views little is found twice, and nothing is noted.
+const FEW_VIEWS: usize = 2;
+
 impl<'a, J: Job> PackedViews<'a, J> {
+    /// Whether there are so few views that nothing is noted.
+    pub(crate) fn are_few(&self) -> bool {
+        self.rows.len() <= FEW_VIEWS
+    }
+
     /// Tells which scenes stand here, unless it was told.
     pub(crate) fn tell(&mut self, alloc: Global, seals: &'a [Seal]) -> Result<(), AllocError>
         requires seals { AreSeals J.seals seals.now }
