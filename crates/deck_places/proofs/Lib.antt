@@ -1,6 +1,8 @@
+pub mod Alike
 pub mod Before
 pub mod Begun
 pub mod Below
+pub mod Calls
 pub mod Cards
 pub mod Cuts
 pub mod Finding

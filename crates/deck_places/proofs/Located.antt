@@ -47,11 +47,11 @@ on_lines lines k n e = by (bad_line lines) e
         let same : length (map filled lines) ≡ length lines = length-map lines filled in omega arith
 
 -- what leads to a value
-from_ok : {A B : Type 0} (r : Result A Cause) (next : A → Option B) (b : B) → if_ok r next ≡ Some b → (a : A) × (r ≡ Ok a) × (next a ≡ Some b)
+pub from_ok : {A B : Type 0} (r : Result A Cause) (next : A → Option B) (b : B) → if_ok r next ≡ Some b → (a : A) × (r ≡ Ok a) × (next a ≡ Some b)
 from_ok (Ok a) next b e = (a, refl, e)
 from_ok (Err cause) next b e = absurd cc
 
-from_some : {A B : Type 0} (o : Option A) (next : A → Option B) (b : B) → if_some o next ≡ Some b → (a : A) × (o ≡ Some a) × (next a ≡ Some b)
+pub from_some : {A B : Type 0} (o : Option A) (next : A → Option B) (b : B) → if_some o next ≡ Some b → (a : A) × (o ≡ Some a) × (next a ≡ Some b)
 from_some (Some a) next b e = (a, refl, e)
 from_some None next b e = absurd cc
 

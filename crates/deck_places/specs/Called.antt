@@ -3,6 +3,7 @@ use Rattle.std.specs.Prelude.{◌≡◌, ◌<◌, ◌≤◌, ℕ, ◌+◌, Bool,
 use Rattle.std.specs.List.{position_from}
 use Rattle.std.specs.Str.{bytes_eq}
 use Rattle.card_core.specs.declared.statement.Statement.{Statement}
+use Rattle.jcl_cards.specs.declared.dd.DdCard.{DdCard}
 use Rattle.jcl_cards.specs.declared.exec.ExecCard.{ExecCard}
 use Rattle.jcl_cards.specs.declared.exec.Runs.{Runs}
 use Rattle.jcl_cards.specs.declared.exec.Runs.TheVariants.{Procedure, Program}
@@ -16,7 +17,7 @@ use Rattle.jcl_job.specs.Jobs.{statements_in}
 use Rattle.jcl_plan.specs.declared.fault.Cause.{Cause}
 use Rattle.jcl_procs.specs.Bodies.{is_proc}
 use Rattle.jcl_procs.specs.Calls.{Call, steps_of}
-use Rattle.jcl_procs.specs.Expansions.{Body, body_of, in_deck}
+use Rattle.jcl_procs.specs.Expansions.{Body, body_of, in_deck, steps_by}
 use Rattle.proc_library.specs.declared.library.LibraryProcedure.{LibraryProcedure}
 use Rattle.proc_library.specs.Libraries.{in_library}
 use Rattle.value_core.specs.Reads.{answer}
@@ -157,6 +158,14 @@ IsCalledFor (Some called) cause place = IsCalledIn called cause place
 -- overrides, or where the call is refused for something else, as for a step that the procedure does not have.
 abbrev pub IsCalled : List LibraryProcedure → List (List ℕ) → ℕ → Cause → Option CalledPlace → Type 0
 IsCalled library lines k cause place = IsCalledFor (called_by library lines k) cause place
+
+-- where such a statement is found, the call is refused for this, wherever it stands in a deck and whatever overrides its DDs
+abbrev pub CallsAreRefused : Type 0
+CallsAreRefused =
+    (library : List LibraryProcedure) (lines : List (List ℕ)) (statements : List Statement) (deck : Deck) (s : Statement) (card : ExecCard) (k : ℕ)
+    (cause : Cause) (place : CalledPlace) → statements_in lines ≡ Ok statements → deck_of statements ≡ Ok deck → slice_get statements k ≡ Some s →
+    operation_of s.operation ≡ IsExec → answer (exec_card s.name s.operand) ≡ Ok card → IsCalled library lines k cause (Some place) →
+    (number : ℕ) (dds : List DdCard) → steps_by card.runs library deck.procedures number (record { exec = card; dds = dds }) ≡ Err cause
 
 -- the lines on which the procedure of a place stands: the deck's, or those of the procedure of the session
 abbrev pub lines_in : Option LibraryProcedure → List (List ℕ)

@@ -2,7 +2,7 @@
 ghost use Rattle.std.specs.Prelude.{ℕ, List};
 ghost use Rattle.jcl_plan.specs.declared.fault.Cause.{Cause};
 ghost use Rattle.proc_library.specs.declared.library.LibraryProcedure.{LibraryProcedure};
-ghost use Rattle.deck_places.specs.Called.{ProceduresStand, StatementsAreOnLines};
+ghost use Rattle.deck_places.specs.Called.{CallsAreRefused, ProceduresStand, StatementsAreOnLines};
 ghost use Rattle.deck_places.specs.Cards.{walk_of};
 ghost use Rattle.deck_places.specs.Places.{IsPlace};
 ghost use Rattle.deck_places.specs.Spots.{IsWithin};
@@ -22,4 +22,9 @@ pub fn each_procedure_stands_in_its_deck()
 /// The card on which the statement of a called procedure begins is one of the lines on which the procedure stands.
 pub fn each_called_statement_is_on_a_line()
     ensures { StatementsAreOnLines }
+{}
+
+/// Where the statement of a called procedure is found, the call is refused for it.
+pub fn each_call_with_a_statement_is_refused()
+    ensures { CallsAreRefused }
 {}
