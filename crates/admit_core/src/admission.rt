@@ -115,6 +115,16 @@ impl Admission {
 }
 
 impl AdmittedJob {
+    /// Its number, by which its names are held.
+    pub fn number(&self) -> u16
+        ensures { result ≡ (named_of self.now).held }
+    {
+        match self {
+            AdmittedJob::Assured(job) => job.named.held.job(),
+            AdmittedJob::Risky(job) => job.named.held.job(),
+        }
+    }
+
     /// Its plan.
     pub fn plan(&self) -> &JobPlan
         ensures { result.now ≡ (named_of self.now).plan }

@@ -29,7 +29,7 @@ use Rattle.turn_core.specs.MachineTurns.{ActsAdvance, EndsAdvance, WaitsAdvance,
 use Rattle.turn_core.specs.Standing.{JobActs, JobEnds, TellsJob, count_at, undone}
 use Rattle.turn_core.specs.Performing.{StoreAnswers, primary_by}
 use Rattle.turn_core.specs.TurnLaws.{FewLines}
-use Rattle.turn_core.specs.Turning.{Around, Waits, operations_by}
+use Rattle.turn_core.specs.Turning.{Around, Waits, made_in, operations_by}
 use Rattle.turn_core.specs.declared.walk.Acted.{Acted}
 use Rattle.turn_core.specs.declared.walk.Turned.{Turned}
 use Rattle.turn_core.specs.declared.walk.Walk.{Walk}
@@ -49,7 +49,7 @@ use Rattle.init_core.specs.Choosing.{IsChosenByVolumes, IsGrantedByVolumes}
 use Rattle.init_core.specs.Going.{Went}
 use Rattle.init_core.specs.Providing.{IsForAction}
 use Rattle.init_core.specs.Running.{AreOn, IsAt, IsGood, config_of, shown_admission, shown_running}
-use Rattle.init_core.specs.Turning.{IsEnded, IsWritten, answers_of, around_in, with_spool}
+use Rattle.init_core.specs.Turning.{IsEnded, IsWritten, TellsTurn, answers_of, around_in, with_spool}
 use Rattle.init_core.proofs.Covering.{granted}
 use Rattle.init_core.proofs.Reading.{good_again}
 use Rattle.init_core.proofs.Rooms.{known_on, room_if, stand_on}
@@ -117,12 +117,16 @@ module _ {Q : Type 0} (queue_of : Q → RecordQueue) (profile : Profile) (p : Pa
   abbrev pub chosen_to : List JobLine → Shared → Option world.Running → Type 0
   chosen_to lines new runs = (g : advances_to lines new runs) × IsChosenByVolumes c p.store p.date (choice_of_advance g)
 
-  pub told_as : (st : SharedStore) (after : Walk) (cancelled : Bool) (told same : Turned) → cancelled ≡ has_cancel p.cancels job → told ≡ same →
-      TellsJob (around_in profile p.units job a cancelled p.store) plan (seen job (world_store_of p.store)) walk (seen job (world_store_of st)) after told →
+  pub told_as : (st : SharedStore) (after : Walk) (cancelled : Bool) (told same : Turned) → (named_of a).held ≡ job → cancelled ≡ has_cancel p.cancels job → told ≡ same →
+      TellsTurn profile p.units (named_of a).held a cancelled p.store walk st after told →
       TellsJob its_around plan (seen job (world_store_of p.store)) walk (seen job (world_store_of st)) after same
-  told_as st after cancelled told same due is t =
+  told_as st after cancelled told same own due is t =
       subst (λ x. TellsJob its_around plan (seen job (world_store_of p.store)) walk (seen job (world_store_of st)) after x) is
-      (subst (λ b. TellsJob (around_in profile p.units job a b p.store) plan (seen job (world_store_of p.store)) walk (seen job (world_store_of st)) after told) due t)
+      (subst (λ (x : ℕ × Bool). TellsTurn profile p.units x.0 a x.1 p.store walk st after told) (λ i. (own i, due i)) t)
+
+  pub written_as : (st : SharedStore) (told same : Turned) → (named_of a).held ≡ job → told ≡ same → IsWritten (named_of a).held (made_of (made_in told)) p.store st →
+      IsWritten job (made_of (made_in same)) p.store st
+  written_as st told same own is w = subst (λ (x : ℕ × Turned). IsWritten x.0 (made_of (made_in x.1)) p.store st) (λ i. (own i, is i)) w
 
   pub ended_err : (r : Result Progress Running) (st : SharedStore) (new : Parts Q) → st ≡ p.store → OnErr r (new ≡ record p { store = st }) → OnErr r (new ≡ p)
   ended_err (Ok came) st new is same = tt

@@ -3,17 +3,15 @@ ghost use Rattle.std.specs.Prelude.{◌≡◌, ◌≢◌, false, IfErr, IfOk, If
 ghost use Rattle.jcl_plan.specs.declared.entry.JobLine.TheVariants as line;
 ghost use Rattle.prog_core.specs.Operations.{IsRoomFor, is_busy};
 ghost use Rattle.world_meaning.specs.Holdings.{cancels_without};
-ghost use Rattle.world_meaning.specs.Lenses.{seen};
-ghost use Rattle.shared_core.specs.Shown.{world_store_of};
 ghost use Rattle.disp_core.specs.Courses.{fixed_by};
 ghost use Rattle.disp_core.specs.Grants.{made_of};
 ghost use Rattle.admit_core.specs.Admissions.{fixed_for, given_to, named_of};
-ghost use Rattle.turn_core.specs.Standing.{Stands, TellsJob};
+ghost use Rattle.turn_core.specs.Standing.{Stands};
 ghost use Rattle.turn_core.specs.Turning.{acts, made_in, operations_by};
 ghost use Rattle.init_core.specs.Going.{Went};
 ghost use Rattle.init_core.specs.Providing.{IsProvided};
 ghost use Rattle.init_core.specs.Running.{IsAt, IsGood, config_of};
-ghost use Rattle.init_core.specs.Turning.{IsEnded, IsWritten, around_in};
+ghost use Rattle.init_core.specs.Turning.{IsEnded, IsWritten, TellsTurn};
 ghost use Rattle.init_core.specs.declared.running.Progress.TheVariants as progress;
 ghost use Rattle.init_core.specs.declared.running.Stage.TheVariants as stage;
 
@@ -55,15 +53,13 @@ fn take_turn(
     profile: &Profile<'_>,
     store: &mut SharedStore,
     units: &Units,
-    job: u16,
     admitted: &AdmittedJob,
     walk: &mut Walk,
     cancelled: bool,
 ) -> Result<Turned, AllocError>
     requires stands { Stands (named_of admitted.now).plan profile.now.programs.now walk.old.todo }
-    ensures ok { IfOk result (TellsJob (around_in profile.now units.now job admitted.now cancelled store.old) (named_of admitted.now).plan
-        (seen job (world_store_of store.old)) walk.old (seen job (world_store_of store.new)) walk.new) }
-    ensures written { IfOk result (λ told. IsWritten job (made_of (made_in told)) store.old store.new) }
+    ensures ok { IfOk result (TellsTurn profile.now units.now (named_of admitted.now).held admitted.now cancelled store.old walk.old store.new walk.new) }
+    ensures written { IfOk result (λ told. IsWritten (named_of admitted.now).held (made_of (made_in told)) store.old store.new) }
     ensures same { IfOk result (λ told. acts told ≡ false → (store.new ≡ store.old) × (walk.new ≡ walk.old)) }
     ensures err { OnErr result ((store.new ≡ store.old) × (walk.new ≡ walk.old)) }
 {
@@ -74,7 +70,7 @@ fn take_turn(
     let setting = Setting {
         programs: profile.programs,
         units,
-        job,
+        job: admitted.number(),
         given: given(profile, admitted),
         cancelled,
     };
@@ -182,7 +178,6 @@ pub(crate) fn advance<Q: RecordStore>(
         profile,
         &mut parts.store,
         &parts.units,
-        job,
         &admitted,
         &mut walk,
         cancelled,

@@ -1,14 +1,11 @@
 use Rattle.std.proofs.Common.{ap, subst, sym}
-use Rattle.disp_core.specs.Grants.{made_of}
-use Rattle.turn_core.specs.Turning.{acts, made_in}
-use Rattle.turn_core.specs.declared.walk.Turned.{Turned}
+use Rattle.turn_core.specs.Turning.{acts}
 use Rattle.turn_core.specs.declared.walk.Turned.TheVariants as turned
 use Rattle.init_core.specs.Going.{Went}
 use Rattle.init_core.specs.Running.{config_of}
-use Rattle.init_core.specs.Turning.{IsWritten}
 use Rattle.init_core.specs.declared.running.Progress.TheVariants as progress
 use Rattle.init_core.specs.declared.running.Stage.TheVariants as stage
-use Rattle.init_core.proofs.Advancing.{acted_so, ended_by, ended_err, room, told_as, waits}
+use Rattle.init_core.proofs.Advancing.{acted_so, ended_by, ended_err, room, told_as, waits, written_as}
 use Rattle.init_core.proofs.turn.advance.Goals as goal
 
 pub enter_acted-requires-clause-room : goal.enter_acted-requires-clause-room
@@ -19,7 +16,7 @@ enter_acted-requires-clause-room g c =
     let after = c.take_turn.new.walk in
     room queue_of c.args.profile.now p c.args.job c.args.walk c.args.admitted c.requires.good c.requires.some c.requires.at st after c.in-Ok-Acts.acted
     (told_as queue_of c.args.profile.now p c.args.job c.args.walk c.args.admitted c.requires.good st after c.has-cancelled.result
-    c.in-Ok-Acts.field-0 (turned.Acts c.in-Ok-Acts.acted) c.has-cancelled.ensures c.in-Ok-Acts.field-0-is c.in-Ok-Acts.ensures.ok)
+    c.in-Ok-Acts.field-0 (turned.Acts c.in-Ok-Acts.acted) c.requires.at.0 c.has-cancelled.ensures c.in-Ok-Acts.field-0-is c.in-Ok-Acts.ensures.ok)
     c.operations_are_apart.ensures
 
 pub returns-in-Ok-Waits-clause-ok : goal.returns-in-Ok-Waits-clause-ok
@@ -35,7 +32,7 @@ returns-in-Ok-Waits-clause-ok g c =
     (waits queue_of c.args.profile.now p c.args.job c.args.walk c.args.admitted c.requires.good c.requires.some c.requires.at
     c.waits_advance.ensures st after same.0 same.1
     (told_as queue_of c.args.profile.now p c.args.job c.args.walk c.args.admitted c.requires.good st after c.has-cancelled.result
-    c.in-Ok-Waits.field-0 turned.Waits c.has-cancelled.ensures c.in-Ok-Waits.field-0-is c.in-Ok-Waits.ensures.ok))
+    c.in-Ok-Waits.field-0 turned.Waits c.requires.at.0 c.has-cancelled.ensures c.in-Ok-Waits.field-0-is c.in-Ok-Waits.ensures.ok))
 
 pub returns-in-Ok-Acts-clause-ok : goal.returns-in-Ok-Acts-clause-ok
 returns-in-Ok-Acts-clause-ok g c =
@@ -49,9 +46,10 @@ returns-in-Ok-Acts-clause-ok g c =
     (λ i. progress.GoesOn (sym c.running-in-Ok-Acts.ensures i) (sym c.len-from.ensures i))
     (acted_so queue_of c.args.profile.now p c.args.job c.args.walk c.args.admitted c.requires.good c.requires.some c.requires.at
     st after c.in-Ok-Acts.acted
-    (subst (λ (x : Turned). IsWritten c.args.job (made_of (made_in x)) p.store st) c.in-Ok-Acts.field-0-is c.in-Ok-Acts.ensures.written)
+    (written_as queue_of c.args.profile.now p c.args.job c.args.walk c.args.admitted c.requires.good st c.in-Ok-Acts.field-0 (turned.Acts c.in-Ok-Acts.acted)
+    c.requires.at.0 c.in-Ok-Acts.field-0-is c.in-Ok-Acts.ensures.written)
     (told_as queue_of c.args.profile.now p c.args.job c.args.walk c.args.admitted c.requires.good st after c.has-cancelled.result
-    c.in-Ok-Acts.field-0 (turned.Acts c.in-Ok-Acts.acted) c.has-cancelled.ensures c.in-Ok-Acts.field-0-is c.in-Ok-Acts.ensures.ok)
+    c.in-Ok-Acts.field-0 (turned.Acts c.in-Ok-Acts.acted) c.requires.at.0 c.has-cancelled.ensures c.in-Ok-Acts.field-0-is c.in-Ok-Acts.ensures.ok)
     c.acts_advance.ensures c.few_lines.ensures c.enter_acted.new.units c.enter_acted.new.cancels c.enter_acted.ensures.units c.enter_acted.ensures.cancels
     c.granted_turns.ensures c.requires.provided)
 
@@ -65,7 +63,7 @@ returns-in-Ok-Ends-clause-ok g c =
     ended_by queue_of c.args.profile.now p c.args.job c.args.walk c.args.admitted c.requires.good c.requires.some c.requires.at
     c.end.result st after same.0 c.end.new.parts same.1 c.end.ensures.over c.end.ensures.ok c.ends_advance.ensures
     (told_as queue_of c.args.profile.now p c.args.job c.args.walk c.args.admitted c.requires.good st after c.has-cancelled.result
-    c.in-Ok-Ends.field-0 turned.Ends c.has-cancelled.ensures c.in-Ok-Ends.field-0-is c.in-Ok-Ends.ensures.ok)
+    c.in-Ok-Ends.field-0 turned.Ends c.requires.at.0 c.has-cancelled.ensures c.in-Ok-Ends.field-0-is c.in-Ok-Ends.ensures.ok)
 
 pub returns-in-Ok-Ends-clause-same : goal.returns-in-Ok-Ends-clause-same
 returns-in-Ok-Ends-clause-same g c =
