@@ -2,7 +2,6 @@
 use Rattle.std.proofs.Common.{◌≡◌, ℕ, refl, subst, sym}
 use Rattle.cb_queue.specs.RecordQueues as queue
 use Rattle.cb_queue.specs.RecordQueues.{RecordQueue}
-use Rattle.shared_core.specs.Shown.{world_store_of}
 use Rattle.shared_core.specs.Tracks.{ConservesTracks, free_on}
 use Rattle.world_meaning.specs.Holdings.{released}
 use Rattle.world_meaning.specs.Records.{SameRecords, records_given_back}
