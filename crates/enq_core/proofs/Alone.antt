@@ -1,12 +1,12 @@
 -- A want that is looked at alone: the lowest job that stands in its way, hold by hold.
-use Rattle.std.proofs.Common.{◌≡◌, ℕ, ◌+◌, ◌<◌, ◌≤◌, ◌⊎◌, ◌&&◌, ◌||◌, ◌==◌, Bool, true, false, List, [], ◌∷◌, length, take, get_or, Option, Some, None, IfSome, refl, ap, sym, ◌∙◌, subst, ⊎_elim, arith, eq-eqb}
+use Rattle.std.proofs.Common.{◌≡◌, ℕ, ◌+◌, ◌<◌, ◌≤◌, ◌⊎◌, ◌&&◌, ◌||◌, ◌==◌, Bool, true, false, List, [], ◌∷◌, ◌++◌, length, take, drop, get_or, Option, Some, None, IfSome, refl, ap, sym, ◌∙◌, subst, ⊎_elim, arith, eq-eqb}
 use Rattle.std.specs.Prelude.{IsTrue}
 use Rattle.std.specs.List.{All, list_any}
 use Rattle.std.specs.Option.{IfNone}
 use Rattle.std.specs.Str.{bytes_eq}
 use Rattle.std.proofs.Math.Seq.{take-length}
 use Rattle.std.proofs.lemmas.Bool.{and_from, and_parts, false_from_ne_true, true≢false}
-use Rattle.std.proofs.lemmas.List.{get_or-take, length-take-le}
+use Rattle.std.proofs.lemmas.List.{append_assoc, get_or-take, length-take-le, take-append-drop}
 use Rattle.std.proofs.lemmas.List.Elements.{All-cons, All-more}
 use Rattle.std.proofs.lemmas.List.Folds.{list_any_at, list_any_kept, list_any_none}
 use Rattle.std.proofs.lemmas.Option.{none-some}
@@ -102,6 +102,19 @@ other_blocked holds first others blocked free b = record {
   behind = b.behind;
   stands = ap (λ ws. first ∷ ws) b.stands;
   free = All-cons (λ w. is_blocked holds w ≡ false) first b.before free b.free;
+  name = b.name;
+  holder = b.holder;
+  lowest = b.lowest;
+}
+
+-- what blocks the first wants blocks them all
+pub blocked_at_start : (holds : List Hold) (wants : List Want) (n : ℕ) (blocked : Blocked) → IsFirstBlock holds (take n wants) blocked → IsFirstBlock holds wants blocked
+blocked_at_start holds wants n blocked b = record {
+  before = b.before;
+  want = b.want;
+  behind = b.behind ++ drop n wants;
+  stands = sym (take-append-drop n wants) ∙ ap (λ ws. ws ++ drop n wants) b.stands ∙ append_assoc b.before (b.want ∷ b.behind) (drop n wants);
+  free = b.free;
   name = b.name;
   holder = b.holder;
   lowest = b.lowest;

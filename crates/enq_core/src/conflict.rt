@@ -135,7 +135,7 @@ fn lowest_holder(holds: &[MarkedHold], want: &Want) -> Option<u16>
 /// What stands in the way of the first want of all: a job that waits for all that another holds waits there.
 pub(crate) fn block_at_first(holds: &[MarkedHold], wants: &[Want]) -> Option<Blocked>
     ensures none { IfNone result (All (λ want. is_blocked holds.now want ≡ false) (take 1 wants.now)) }
-    ensures some { IfSome result (IsFirstBlock holds.now wants.now) }
+    ensures some { IfSome result (IsFirstBlock holds.now (take 1 wants.now)) }
 {
     let Some((first, _)) = wants.split_first() else {
         return None;

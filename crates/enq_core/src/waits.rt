@@ -1,5 +1,5 @@
 //! What stands in the way of jobs that wait, noted as long as no hold changes: a job that waits asks again in each of its turns.
-ghost use Rattle.std.specs.Prelude.{◌≡◌, List, [], All, IfNone, IfSome, false, take};
+ghost use Rattle.std.specs.Prelude.{◌≡◌, List, [], All, IfNone, IfSome, false, length, take};
 ghost use Rattle.std.specs.Bool.{OnTrue};
 ghost use Rattle.enq_core.specs.declared.table.Hold.{Hold};
 ghost use Rattle.enq_core.specs.Holds.{AreWants, IsFirstBlock, is_blocked};
@@ -11,7 +11,7 @@ use crate::marked::MarkedHold;
 use crate::table::{Blocked, Want};
 use plain::listed::Listed;
 
-/// A job that waits: what it wants, and what stands in its way.
+/// A job that waits: what it wants first, up to the blocked name or beyond it, and what stands in its way.
 #[derive(Drop)]
 pub(crate) struct Wait {
     job: u16,
@@ -25,33 +25,34 @@ fn same_want(a: &Want, b: &Want) -> bool
     a.exclusive == b.exclusive && a.name == b.name
 }
 
-fn same_wants(a: &[Want], b: &[Want]) -> bool
-    ensures { OnTrue result (a.now ≡ b.now) }
+/// Whether wants begin with what is noted.
+fn begin_with(wants: &[Want], noted: &[Want]) -> bool
+    ensures { OnTrue result (take (length noted.now) wants.now ≡ noted.now) }
 {
-    if a.len() != b.len() {
+    if noted.len() > wants.len() {
         return false;
     }
-    for i in 0..a.len() {
-        if !same_want(&a[i], &b[i]) {
+    for i in 0..noted.len() {
+        if !same_want(&wants[i], &noted[i]) {
             return false;
         }
     }
     true
 }
 
-/// What is noted for a job with these wants.
+/// What is noted for a job whose wants begin so.
 fn noted(waits: &[Wait], job: u16, wants: &[Want]) -> Option<Blocked>
     ensures { (holds : List Hold) → AreRight holds waits.now → IfSome result (IsFirstBlock holds wants.now) }
 {
     for wait in waits {
-        if wait.job == job && same_wants(wait.wants.as_slice(), wants) {
+        if wait.job == job && begin_with(wants, wait.wants.as_slice()) {
             return Some(wait.blocked);
         }
     }
     None
 }
 
-/// Notes what stands in the way of a job with these wants. Without memory nothing is noted.
+/// Notes what stands in the way of a job whose wants begin with these. Without memory nothing is noted.
 fn note(waits: &mut Vec<Wait>, job: u16, wants: &[Want], blocked: &Blocked)
     ensures { (holds : List Hold) → AreRight holds waits.old.items → IsFirstBlock holds wants.now blocked.now → AreRight holds waits.new.items }
 {
@@ -93,8 +94,8 @@ fn find(holds: &[MarkedHold], waits: &mut Vec<Wait>, job: u16, wants: &[Want]) -
     }
 }
 
-/// The first want that a hold conflicts with. The first of all is looked up; for those behind it there is what is noted for the job, or else what is
-/// found, which is noted then.
+/// The first want that a hold conflicts with: what is noted for the job, or else what is found, the first of all before those behind it. It is noted
+/// then, with no more wants than need be: a job that waits at its first name compares one name in its next turn.
 pub(crate) fn what_blocks(
     holds: &[MarkedHold],
     waits: &mut Vec<Wait>,
@@ -108,11 +109,14 @@ pub(crate) fn what_blocks(
     ensures some { IfSome result (IsFirstBlock holds.now wants.now) }
     ensures right { AreRight holds.now waits.new.items }
 {
-    if let Some(blocked) = block_at_first(holds, wants) {
+    if let Some(blocked) = noted(waits.as_slice(), job, wants) {
         return Some(blocked);
     }
-    match noted(waits.as_slice(), job, wants) {
-        Some(blocked) => Some(blocked),
+    match block_at_first(holds, wants) {
+        Some(blocked) => {
+            note(waits, job, &wants[..wants.len().min(1)], &blocked);
+            Some(blocked)
+        }
         None => find(holds, waits, job, wants),
     }
 }
