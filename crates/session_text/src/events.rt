@@ -43,7 +43,8 @@ fn writes<'a>(operands: &[u8]) -> Says<'a>
     }
 }
 
-fn device_end<'a>(operands: &[u8]) -> Says<'a>
+/// A device ends what it does.
+pub(crate) fn device_end<'a>(operands: &[u8]) -> Says<'a>
     ensures { result ≡ device_end_of (fields_of operands.now) }
 {
     let Some(serial) = only_field(operands) else {

@@ -3,7 +3,7 @@ ghost use Rattle.std.specs.Prelude.{◌≡◌, IfOk};
 ghost use Rattle.session_text.specs.Fields.{fields_of};
 ghost use Rattle.session_text.specs.Statements.{initiator_of, procedure_of, says_by, says_of, unit_of};
 
-use crate::events::{event_by, turns};
+use crate::events::{device_end, event_by, turns};
 use crate::fault::Fault;
 use crate::fields::{is_marked, next_field, only_field, two_fields};
 use crate::groups::group;
@@ -60,12 +60,15 @@ fn procedure(operands: &[u8]) -> Block
     }
 }
 
-/// What a line says by its word. Most lines are turns: so that word is looked for first.
+/// What a line says by its word. Most lines are turns, and then device ends: so those words are looked for first.
 fn word_says<'a>(alloc: Global, word: &[u8], operands: &[u8]) -> Result<LineSays<'a>, AllocError>
     ensures { IfOk result (λ l. l ≡ says_by word.now (fields_of operands.now)) }
 {
     if word == b"TURN".as_slice() {
         return Ok(LineSays::One(turns(operands)));
+    }
+    if word == b"DEV".as_slice() {
+        return Ok(LineSays::One(device_end(operands)));
     }
     if word == b"VOLUME".as_slice() {
         Ok(LineSays::One(volume(alloc, operands)?))
