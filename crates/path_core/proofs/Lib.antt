@@ -9,4 +9,5 @@ mod Passing
 mod PathFates
 mod SamePaths
 mod ShownOutcomes
+mod Still
 mod TakesBeside

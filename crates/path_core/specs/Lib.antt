@@ -4,3 +4,4 @@ pub mod Marks
 pub mod MarksMet
 pub mod Reports
 pub mod Starts
+pub mod Untested

@@ -6,6 +6,7 @@ pub mod check;
 pub mod explain;
 mod fates;
 mod marks;
+pub mod setless;
 pub mod start;
 
 ghost use Rattle.path_core.specs.Endings.{ExplanationsEnd};
