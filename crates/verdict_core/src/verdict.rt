@@ -1,12 +1,15 @@
 //! What may become of a job in the store of all jobs.
-ghost use Rattle.std.specs.Prelude.{◌≡◌, IfOk};
+ghost use Rattle.std.specs.Prelude.{◌≡◌, Bool, IfOk, [], ℕ};
+ghost use Rattle.jcl_plan.specs.declared.plan.JobPlan.{JobPlan};
 ghost use Rattle.jcl_meaning.specs.Names.{names_of};
 ghost use Rattle.jcl_meaning.specs.Resolutions.{meanings_of};
 ghost use Rattle.jcl_meaning.specs.Solo.{fixed_in};
+ghost use Rattle.jcl_meaning.specs.States.{Fixed};
 ghost use Rattle.jcl_meaning.specs.WellFormed.{IsWellFormedPlan};
 ghost use Rattle.part_laws.specs.Keeping.{HasSoundGroups};
-ghost use Rattle.jcl_meaning.specs.Stores.{store_of};
+ghost use Rattle.jcl_meaning.specs.Stores.{Store, store_of};
 ghost use Rattle.path_core.specs.Starts.{fixed_from};
+ghost use Rattle.path_meaning.specs.Verdicts.{IsFree};
 ghost use Rattle.place_core.specs.Placings.{serials_of};
 ghost use Rattle.shared_core.specs.Shown.{world_store_of};
 ghost use Rattle.verdict_core.specs.Judging.{IsFound, path_of};
@@ -21,6 +24,7 @@ use part_core::part::part_of;
 use part_laws::start_fits;
 use path_core::analyse::analyse_named;
 use path_core::explain::path_lines;
+use path_core::setless::is_plainly_free;
 use path_core::start::StartView;
 use path_search::verdict::Verdict;
 use plain::listed::Listed;
@@ -77,6 +81,17 @@ fn find(
     Ok(Finding { verdict, path })
 }
 
+/// What is told of a job that is free and makes no set.
+fn free(alloc: Global) -> Finding
+    ensures { (fixed : Fixed) (plan : JobPlan) (store : Store) (most_views : ℕ) (explains : Bool) → IsFree fixed plan store most_views [] →
+        IsFound fixed plan store most_views explains result }
+{
+    Finding {
+        verdict: Verdict::Safe(Vec::new(alloc)),
+        path: Listed::empty(alloc),
+    }
+}
+
 /// What may become of a job in the store as it sees it, where its sets are placed so and its keys mean this, on a date, with this many views behind a step at most. It is found
 /// on a copy of what stands under the job's names; the store is as it was.
 pub fn verdict_in(
@@ -96,6 +111,9 @@ pub fn verdict_in(
     ensures { IfOk result (IsFound (fixed_in (serials_of store.now.volumes) (seen job (world_store_of store.now)) plan.now places.now date) plan.now
         (seen job (world_store_of store.now)) most_views explains) }
 {
+    if is_plainly_free(plan, most_views) {
+        return Ok(free(alloc));
+    }
     start_fits();
     meanings_are_seen();
     free_is_seen();

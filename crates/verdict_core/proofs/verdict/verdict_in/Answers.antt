@@ -1,10 +1,17 @@
 use Rattle.std.proofs.Common.{◌∙◌}
+use Rattle.jcl_meaning.specs.Solo.{fixed_in}
 use Rattle.jcl_meaning.specs.Stores.{store_of}
 use Rattle.shared_core.specs.Shown.{world_store_of}
 use Rattle.place_core.specs.Placings.{serials_of}
 use Rattle.world_meaning.specs.Lenses.{seen}
 use Rattle.verdict_core.proofs.Seen.{judged, meant}
 use Rattle.verdict_core.proofs.verdict.verdict_in.Goals as goal
+
+pub returns-then-is_plainly_free : goal.returns-then-is_plainly_free
+returns-then-is_plainly_free c =
+    let store = seen c.args.job (world_store_of c.args.store.now) in
+    let fixed = fixed_in (serials_of c.args.store.now.volumes) store c.args.plan.now c.args.places.now c.args.date in
+    c.free.ensures fixed c.args.plan.now store c.args.most_views c.args.explains (c.if-is_plainly_free.ensures fixed store)
 
 pub returns : goal.returns
 returns c =
