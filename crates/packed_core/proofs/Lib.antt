@@ -6,6 +6,7 @@ pub mod Places
 pub mod Standing
 pub mod Joining
 pub mod Indexing
+pub mod Sheets
 pub mod Chains
 pub mod Skipping
 pub mod Adding

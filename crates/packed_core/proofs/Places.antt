@@ -39,6 +39,11 @@ got_read [] n x h e = absurd (omega arith)
 got_read (y ∷ xs) zero x h e = ap Some (sym e)
 got_read (y ∷ xs) (suc n) x h e = got_read xs n x (omega arith) e
 
+pub got_at : {X : Type 0} (xs : List X) (n : ℕ) (d : X) → n < length xs → slice_get xs n ≡ Some (get_or xs n d)
+got_at [] n d h = absurd (omega arith)
+got_at (y ∷ xs) zero d h = refl
+got_at (y ∷ xs) (suc n) d h = got_at xs n d (omega arith)
+
 pub got_image : {X Y : Type 0} (f : X → Y) (xs : List X) (i : ℕ) (x : X) → slice_get xs i ≡ Some x → slice_get (map f xs) i ≡ Some (f x)
 got_image f [] i x e = absurd cc
 got_image f (y ∷ xs) zero x e = ap (λ z. Some (f z)) (same_Some y x e)

@@ -8,6 +8,7 @@ ghost use Rattle.packed_core.specs.Words.{IsRow};
 
 use crate::classes::Class;
 use crate::domain::PackedDomain;
+use crate::index::hash_of;
 use crate::job::Job;
 use crate::view::PackedView;
 use crate::views::PackedViews;
@@ -54,7 +55,8 @@ fn move_to<J: Job + Drop>(
     requires row { IsRow (room_at J.plan behind.now.part) row.items }
     ensures leads { LeadsTo (λ v. v.row.items) behind.now.rows outcome row.items result }
 {
-    if behind.rows.has(&row) {
+    let hash = hash_of(row.as_slice());
+    if behind.rows.has(row.as_slice(), hash) {
         return None;
     }
     Some(move_of(outcome, row, behind))

@@ -10,6 +10,7 @@ ghost use Rattle.packed_core.specs.Starting.{IsBlank};
 
 use crate::cross::{renumbered, view_of};
 use crate::domain::PackedDomain;
+use crate::index::hash_of;
 use crate::job::Job;
 use crate::masks::blank;
 use crate::placed::nothing_known;
@@ -64,14 +65,16 @@ impl<'a, J: Job + Drop> PackedDomain<'a, J> {
         ensures part { OnOk result (views.new.part ≡ views.old.part) }
     {
         let PackedView { part, row, job: _ } = view;
-        let number = number_in(row.as_slice());
+        let words = row.as_slice();
+        let number = number_in(words);
         if part != views.part || number >= views.entries.len() {
             return Err(AllocError);
         }
-        if views.rows.has(&row) {
+        let hash = hash_of(words);
+        if views.rows.has(words, hash) {
             return Ok(true);
         }
-        views.rows.push(alloc, row)?;
+        views.rows.push(alloc, words, hash)?;
         Ok(false)
     }
 

@@ -1,29 +1,30 @@
 //! Rows in the order in which they were put, each once.
 ghost use Rattle.std.specs.Prelude.{◌≡◌, ◌<◌, ◌++◌, ◌∷◌, [], OnErr, OnOk, false, length};
+ghost use Rattle.packed_core.specs.Indexed.{hash_from};
 ghost use Rattle.packed_core.specs.Rows.{IsFound, has_row, row_at};
 ghost use Rattle.packed_core.specs.Words.{joined_words};
 
-use crate::index::{Index, find_among, index_more};
+use crate::index::{Index, find_among, hash_joined, index_more};
+use crate::sheet::Sheet;
 use std::alloc::{AllocError, Global};
 use std::marker::Model;
 
 /// Rows of words, each once, of which contracts see the list. Few are looked through one by one, and one of many is found by an index.
 #[derive(Drop)]
 pub struct RowList {
-    rows: Vec<Vec<u64>>,
-    index: Option<Index>,
+    rows: Sheet,
+    index: Option<Box<Index>>,
 }
 
 impl Model for RowList {
-    ghost use Rattle.std.specs.Prelude.{ℕ, List, IfSome, length, map};
-    ghost use Rattle.packed_core.specs.Indexed.{IsIndexed};
-    ghost use Rattle.packed_core.specs.Rows.{items_of};
+    ghost use Rattle.std.specs.Prelude.{ℕ, List, IfSome};
+    ghost use Rattle.packed_core.specs.Indexed.{IsIndexOf};
 
     ghost Value = { List (List ℕ) };
 
-    ghost view = { λ l. map items_of l.rows.items };
+    ghost view = { λ l. l.rows };
 
-    ghost invariant = { λ l. IfSome l.index (λ x. IsIndexed (map items_of l.rows.items) (length l.rows.items) x.heads.items x.next.items) };
+    ghost invariant = { λ l. IfSome l.index (λ x. IsIndexOf l.rows x.value) };
 }
 
 impl RowList {
@@ -32,7 +33,7 @@ impl RowList {
         ensures { result ≡ [] }
     {
         RowList {
-            rows: Vec::new(alloc),
+            rows: Sheet::none(alloc),
             index: None,
         }
     }
@@ -49,7 +50,7 @@ impl RowList {
         requires { number < length self.now }
         ensures { result.now ≡ row_at self.now number }
     {
-        self.rows[number].as_slice()
+        self.rows.at(number)
     }
 
     /// The number of a row with a mask beside it.
@@ -58,33 +59,39 @@ impl RowList {
         ensures { IsFound self.now (joined_words row.now mask.now) result }
     {
         match &self.index {
-            Some(index) => index.find(self.rows.as_slice(), row, mask),
-            None => find_among(self.rows.as_slice(), row, mask),
+            Some(index) => index.find(&self.rows, row, mask, hash_joined(row, mask)),
+            None => find_among(&self.rows, row, mask),
         }
     }
 
-    /// The number of a row.
-    pub fn find(&self, row: &[u64]) -> Option<usize>
+    /// The number of a row, whose words come to this.
+    pub fn find(&self, row: &[u64], hash: u64) -> Option<usize>
+        requires hash { hash ≡ hash_from 0 row.now }
         ensures { IsFound self.now row.now result }
     {
-        self.find_joined(row, row)
+        match &self.index {
+            Some(index) => index.find(&self.rows, row, row, hash),
+            None => find_among(&self.rows, row, row),
+        }
     }
 
-    /// Whether a row is among them.
-    pub fn has(&self, row: &Vec<u64>) -> bool
-        ensures { result ≡ has_row row.now.items self.now }
+    /// Whether a row, whose words come to this, is among them.
+    pub fn has(&self, row: &[u64], hash: u64) -> bool
+        requires hash { hash ≡ hash_from 0 row.now }
+        ensures { result ≡ has_row row.now self.now }
     {
-        self.find(row.as_slice()).is_some()
+        self.find(row, hash).is_some()
     }
 
-    /// Puts a row behind them that is not among them.
-    pub fn push(&mut self, alloc: Global, row: Vec<u64>) -> Result<(), AllocError>
-        requires { has_row row.items self.old ≡ false }
-        ensures put { OnOk result (self.new ≡ self.old ++ row.items ∷ []) }
+    /// Puts a row behind them that is not among them, whose words come to this.
+    pub fn push(&mut self, alloc: Global, row: &[u64], hash: u64) -> Result<(), AllocError>
+        requires new { has_row row.now self.old ≡ false }
+        requires hash { hash ≡ hash_from 0 row.now }
+        ensures put { OnOk result (self.new ≡ self.old ++ row.now ∷ []) }
         ensures kept { OnErr result (self.new ≡ self.old) }
     {
         let index = self.index.take();
-        let more = index_more(alloc, index, self.rows.as_slice(), row.as_slice())?;
+        let more = index_more(alloc, index, &self.rows, hash)?;
         self.rows.push(row)?;
         self.index = more;
         Ok(())

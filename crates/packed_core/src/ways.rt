@@ -3,7 +3,7 @@ ghost use Rattle.std.specs.Prelude.{◌≡◌, ℕ, All, IfSome, List, OnOk, Som
 ghost use Rattle.packed_core.specs.Ways.{AreKept, AreLooked, AreOffered, HasNoOther, HasNoOthers, IsThere};
 
 use crate::classes::{Class, Classes};
-use crate::index::is_joined;
+use crate::index::{hash_of, is_joined};
 use crate::row_list::RowList;
 use std::alloc::{AllocError, Global};
 use std::rc::Rc;
@@ -140,7 +140,7 @@ impl Ways {
         if self.notes.is_empty() {
             return None;
         }
-        let n = rows.find(base)?;
+        let n = rows.find(base, hash_of(base))?;
         if n < self.notes.len() {
             self.notes[n]
         } else {

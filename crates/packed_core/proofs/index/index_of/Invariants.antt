@@ -1,7 +1,9 @@
-use Rattle.std.proofs.Common.{map}
-use Rattle.packed_core.specs.Indexed.{IsIndexed}
-use Rattle.packed_core.specs.Rows.{items_of}
+use Rattle.std.proofs.Common.{◌<◌, length, take}
+use Rattle.packed_core.specs.Indexed.{IsIndexOf}
 use Rattle.packed_core.proofs.index.index_of.Given as goal
 
-abbrev pub invariant-loop-row : goal.invariant-loop-row
-invariant-loop-row l = IsIndexed (map items_of l.rows) l.row-index l.index.heads.items l.index.next.items
+abbrev pub invariant-loop-n : goal.invariant-loop-n
+invariant-loop-n l = record {
+  linked : IsIndexOf (take l.n l.rows) l.index.value;
+  some : 0 < length l.index.value.heads.items;
+}

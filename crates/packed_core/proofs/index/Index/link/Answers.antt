@@ -1,25 +1,25 @@
 use Rattle.std.proofs.Common.{◌≡◌, ◌∙◌, ◌+◌, ◌<◌, ◌%◌, ◌++◌, ◌∷◌, [], ℕ, List, ap, arith, get_or, length, set}
+use Rattle.std.specs.Vec.{with_item}
 use Rattle.std.proofs.lemmas.List.{get_or_default}
-use Rattle.packed_core.specs.Indexed.{hash_from, place_in}
-use Rattle.packed_core.proofs.Joining.{joined_self}
+use Rattle.packed_core.specs.declared.index.Index.{Index}
+use Rattle.packed_core.specs.Indexed.{place_in}
+use Rattle.packed_core.proofs.Indexing.{index_linked}
 use Rattle.packed_core.proofs.index.Index.link.Goals as goal
 
-pub returns-clause-next : goal.returns-clause-next
-returns-clause-next c =
-    let heads : List ℕ = c.args.self.now.heads.items in
-    let next : List ℕ = c.args.self.now.next.items in
-    let hash : c.hash_of.result ≡ hash_from 0 c.args.row.now = c.hash_of.ensures ∙ ap (hash_from 0) (joined_self c.args.row.now) in
+pub returns-clause-linked : goal.returns-clause-linked
+returns-clause-linked c rows row is its =
+    let old : Index = c.args.self.now in
+    let hash : ℕ = c.args.hash in
+    let heads : List ℕ = old.heads.items in
+    let next : List ℕ = old.next.items in
     let many : c.len.result ≡ length heads = omega (arith, c.len.ensures) in
-    let place : c.hash_of.result % c.len.result ≡ place_in (length heads) c.args.row.now = λ i. hash i % many i in
-    let within : c.hash_of.result % c.len.result < length heads = omega (arith, many, c.requires.some) in
-    c.in_ok-push.ensures.items
-    ∙ ap (λ (k : ℕ). next ++ k ∷ []) (c.index.ensures ∙ get_or_default heads (c.hash_of.result % c.len.result) c.index.result.now 0 within
-    ∙ ap (λ (k : ℕ). get_or heads k 0) place)
-
-pub returns-clause-heads : goal.returns-clause-heads
-returns-clause-heads c =
-    let heads : List ℕ = c.args.self.now.heads.items in
-    let hash : c.hash_of.result ≡ hash_from 0 c.args.row.now = c.hash_of.ensures ∙ ap (hash_from 0) (joined_self c.args.row.now) in
-    let many : c.len.result ≡ length heads = omega (arith, c.len.ensures) in
-    let longer : c.len-2.result ≡ length c.args.self.now.next.items + 1 = omega (arith, c.len-2.ensures, c.in_ok-push.ensures.len) in
-    λ i. set heads (hash i % many i) (longer i)
+    let place : hash % c.len.result ≡ place_in (length heads) hash = ap (λ (n : ℕ). hash % n) many in
+    let within : hash % c.len.result < length heads = omega (arith, many, c.requires.some) in
+    let longer : c.len-2.result ≡ length next + 1 = omega (arith, c.len-2.ensures, c.in_ok-push-2.ensures.len) in
+    index_linked rows row old
+    (record { hashes = c.push.new.self; heads = with_item old.heads (hash % c.len.result) c.len-2.result; next = c.push-2.new.self }) is
+    hash its c.in_ok-push.ensures.items
+    (c.in_ok-push-2.ensures.items
+    ∙ ap (λ (k : ℕ). next ++ k ∷ []) (c.index.ensures ∙ get_or_default heads (hash % c.len.result) c.index.result.now 0 within
+    ∙ ap (λ (k : ℕ). get_or heads k 0) place))
+    (λ i. set heads (place i) (longer i))

@@ -9,6 +9,4 @@ found_has rows row None h = sym h
 found_has rows row (Some n) h = sym (got_stands row rows n h)
 
 pub returns : goal.returns
-returns c =
-    c.is_some.ensures ∙ found_has c.args.self.now c.as_slice.result.now c.find.result c.find.ensures
-    ∙ ap (λ (r : List ℕ). has_row r c.args.self.now) c.as_slice.ensures.value
+returns c = c.is_some.ensures ∙ found_has c.args.self.now c.args.row.now c.find.result c.find.ensures
