@@ -17,7 +17,9 @@ use crate::dd_value::{
     OfDdName, OfDisposition, OfLabel, OfSetName, OfSpace, OfSysout, OfUnit, OfVolume, coding,
 };
 use crate::given::{excludes_in, is_read_word, is_word};
-use crate::rules::{KeywordRule, Spelling, each_fault, long_operand, spelled_by, twice_fault};
+use crate::rules::{
+    KeywordRule, Spelling, each_fault, is_same, long_operand, spelled_by, twice_fault,
+};
 use crate::value_in::coded_in;
 use card_core::statement::DataCard;
 use jcl_plan::fault::{Cause, StatementFault};
@@ -125,18 +127,18 @@ fn is_known(key: &[u8]) -> bool
     ensures { result ≡ known_on_dd key.now }
 {
     let key = spelled_by(Spelling::Two, key);
-    key == b"DSNAME".as_slice()
-        || key == b"DISP".as_slice()
-        || key == b"UNIT".as_slice()
-        || key == b"VOLUME".as_slice()
-        || key == b"SPACE".as_slice()
-        || key == b"SYSOUT".as_slice()
-        || key == b"DDNAME".as_slice()
-        || key == b"LABEL".as_slice()
-        || key == b"DCB".as_slice()
-        || key == b"UCS".as_slice()
-        || key == b"FCB".as_slice()
-        || key == b"OUTLIM".as_slice()
+    is_same(key, b"DSNAME")
+        || is_same(key, b"DISP")
+        || is_same(key, b"UNIT")
+        || is_same(key, b"VOLUME")
+        || is_same(key, b"SPACE")
+        || is_same(key, b"SYSOUT")
+        || is_same(key, b"DDNAME")
+        || is_same(key, b"LABEL")
+        || is_same(key, b"DCB")
+        || is_same(key, b"UCS")
+        || is_same(key, b"FCB")
+        || is_same(key, b"OUTLIM")
 }
 
 fn is_left_out(key: &[u8]) -> bool
@@ -190,16 +192,10 @@ fn positional_fault(part: Option<&[u8]>) -> Option<Cause>
 fn word_of(alloc: Global, part: Option<&[u8]>, cards: Option<Listed<DataCard>>) -> Option<Word>
     ensures { result ≡ word_of (option_copied part.entry) cards }
 {
-    let text = part?;
-    if text == b"DUMMY".as_slice() {
-        return Some(Word::Dummy);
-    }
-    if !is_word(text) {
-        return None;
-    }
-    match cards {
-        Some(cards) => Some(Word::Cards(cards)),
-        None => Some(Word::Cards(Listed::empty(alloc))),
+    match part? {
+        b"DUMMY" => Some(Word::Dummy),
+        b"*" | b"DATA" => Some(Word::Cards(cards.unwrap_or(Listed::empty(alloc)))),
+        _ => None,
     }
 }
 

@@ -8,7 +8,7 @@ ghost use Rattle.jcl_cards.specs.Dds.{coding};
 ghost use Rattle.jcl_cards.specs.Keywords.{coded_text};
 
 use crate::coded::Coded;
-use crate::rules::{Spelling, spelled_by};
+use crate::rules::{Spelling, is_same, spelled_by};
 use crate::value_in::ValueReader;
 use jcl_plan::fault::{Cause, StatementFault};
 use jcl_plan::plan::Space;
@@ -175,7 +175,7 @@ pub(crate) fn coding(keywords: &[Keyword<'_>], key: &[u8]) -> Coded<()>
     ensures { result ≡ coding key.now keywords.now }
 {
     for keyword in keywords {
-        if spelled_by(Spelling::Two, keyword.key()) == key {
+        if is_same(spelled_by(Spelling::Two, keyword.key()), key) {
             return coding_of(keyword.value());
         }
     }

@@ -71,7 +71,10 @@ fn any_given(keywords: &[Keyword<'_>]) -> bool
 pub(crate) fn is_word(text: &[u8]) -> bool
     ensures { result ≡ is_word text.now }
 {
-    text == b"*".as_slice() || text == b"DATA".as_slice() || text == b"DUMMY".as_slice()
+    match text {
+        b"*" | b"DATA" | b"DUMMY" => true,
+        _ => false,
+    }
 }
 
 /// Whether a positional part is `*`, DATA or DUMMY.

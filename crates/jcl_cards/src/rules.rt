@@ -1,6 +1,7 @@
 //! The rules that statements have for their keywords.
 ghost use Rattle.std.specs.Prelude.{◌≡◌, Some, None, IfOk};
 ghost use Rattle.std.specs.List.{flat_map};
+ghost use Rattle.std.specs.Str.{bytes_eq};
 ghost use Rattle.operand_core.specs.Faults.{earlier, told};
 ghost use Rattle.jname_core.specs.Characters.{is_name_character};
 ghost use Rattle.jname_core.specs.Faults.{has_other_than};
@@ -15,6 +16,20 @@ use operand_core::operand::Keyword;
 use operand_core::value::{unquoted, value_or_nothing};
 use plain::short::Short;
 use std::alloc::{AllocError, Global};
+
+/// Whether two texts are the same, from the front: most keys differ in the first character or the second.
+pub(crate) fn is_same(text: &[u8], other: &[u8]) -> bool
+    ensures { result ≡ bytes_eq text.now other.now }
+{
+    let mut rest = other;
+    for c in text {
+        match rest.split_first() {
+            Some((first, behind)) if *first == *c => rest = behind,
+            _ => return false,
+        }
+    }
+    rest.is_empty()
+}
 
 /// How many spellings the keywords of a statement have.
 #[derive(Clone, Copy)]
@@ -42,9 +57,7 @@ pub(crate) fn spelled_by<'a>(spelling: Spelling, key: &'a [u8]) -> &'a [u8]
 pub(crate) fn has_spelled(spelling: Spelling, keywords: &[Keyword<'_>], key: &[u8]) -> bool
     ensures { result ≡ has_spelled spelling key.now keywords.now }
 {
-    keywords
-        .iter()
-        .any(|keyword| spelled_by(spelling, keyword.key()) == key)
+    keywords.iter().any(|keyword| is_same(spelled_by(spelling, keyword.key()), key))
 }
 
 /// Whether a keyword stands twice.

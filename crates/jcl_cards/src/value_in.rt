@@ -8,7 +8,7 @@ ghost use Rattle.jcl_cards.specs.JobCards.{is_key as is_key_of_job};
 ghost use Rattle.jcl_cards.specs.Reading.{IsReadBefore, and_later};
 
 use crate::coded::Coded;
-use crate::rules::{Spelling, has_spelled, spelled_by};
+use crate::rules::{Spelling, has_spelled, is_same, spelled_by};
 use jcl_plan::fault::Cause;
 use operand_core::fault::lower;
 use operand_core::operand::Keyword;
@@ -72,7 +72,7 @@ fn coded_before<R: ValueReader>(
 ) -> Result<Coded<R::Value>, Cause>
     ensures { IsReadBefore (coded_in (is_key key.now) R.reads) keyword.now later result }
 {
-    if spelled_by(Spelling::Two, keyword.key()) == key {
+    if is_same(spelled_by(Spelling::Two, keyword.key()), key) {
         and_later(coded_text::<R>(keyword.value()), later)
     } else {
         later

@@ -6,8 +6,8 @@ use Rattle.jcl_cards.specs.Keywords.{and_later, coded_in, coded_text}
 use Rattle.jcl_cards.proofs.Later.{and_later_is}
 use Rattle.jcl_cards.proofs.value_in.coded_before.Goals as goal
 
-pub returns-then-eq : goal.returns-then-eq
-returns-then-eq g c = λ behind is.
+pub returns-then-is_same : goal.returns-then-is_same
+returns-then-is_same g c = λ behind is.
     let reads = g.R.ValueReader.reads in
     let key = c.args.key.now in
     let keyword = c.args.keyword.now in
