@@ -8,10 +8,11 @@ ghost use Rattle.jcl_cards.specs.JobCards.{is_key as is_key_of_job};
 ghost use Rattle.jcl_cards.specs.Reading.{IsReadBefore, and_later};
 
 use crate::coded::Coded;
-use crate::rules::{Spelling, has_spelled, is_same, spelled_by};
+use crate::rules::{Spelling, is_same, spelled_by};
 use jcl_plan::fault::Cause;
 use operand_core::fault::lower;
 use operand_core::operand::Keyword;
+use std::mem::replace;
 
 /// What reads the values of a keyword.
 pub(crate) trait ValueReader {
@@ -64,18 +65,17 @@ fn coded_text<R: ValueReader>(text: Option<&[u8]>) -> Result<Coded<R::Value>, Ca
     }
 }
 
-/// What a DD codes of a keyword, by one that may be it and what the later ones code.
-fn coded_before<R: ValueReader>(
+/// Puts what a keyword codes, where it is this one, before what the later ones code.
+fn put_before<R: ValueReader>(
     keyword: &Keyword<'_>,
     key: &[u8],
-    later: Result<Coded<R::Value>, Cause>,
-) -> Result<Coded<R::Value>, Cause>
-    ensures { IsReadBefore (coded_in (is_key key.now) R.reads) keyword.now later result }
+    later: &mut Result<Coded<R::Value>, Cause>,
+)
+    ensures { IsReadBefore (coded_in (is_key key.now) R.reads) keyword.now later.old later.new }
 {
     if is_same(spelled_by(Spelling::Two, keyword.key()), key) {
-        and_later(coded_text::<R>(keyword.value()), later)
-    } else {
-        later
+        let behind = replace(later, Ok(Coded::NotGiven));
+        *later = and_later(coded_text::<R>(keyword.value()), behind);
     }
 }
 
@@ -86,14 +86,11 @@ pub(crate) fn coded_in<R: ValueReader>(
 ) -> Result<Coded<R::Value>, Cause>
     ensures { IsRead result (coded_in (is_key key.now) R.reads keywords.now) }
 {
-    if !has_spelled(Spelling::Two, keywords, key) {
-        return Ok(Coded::NotGiven);
-    }
     let mut found = Ok(Coded::NotGiven);
     let mut at = keywords.len();
     while at > 0 {
         at -= 1;
-        found = coded_before::<R>(&keywords[at], key, found);
+        put_before::<R>(&keywords[at], key, &mut found);
     }
     found
 }

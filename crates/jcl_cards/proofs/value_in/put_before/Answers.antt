@@ -3,8 +3,9 @@ use Rattle.value_core.specs.Reads.{answer}
 use Rattle.value_core.proofs.Both.{at_true}
 use Rattle.jcl_cards.specs.DdCards.{is_key}
 use Rattle.jcl_cards.specs.Keywords.{and_later, coded_in, coded_text}
+use Rattle.jcl_cards.specs.Reading.{and_later as and_later_of}
 use Rattle.jcl_cards.proofs.Later.{and_later_is}
-use Rattle.jcl_cards.proofs.value_in.coded_before.Goals as goal
+use Rattle.jcl_cards.proofs.value_in.put_before.Goals as goal
 
 pub returns-then-is_same : goal.returns-then-is_same
 returns-then-is_same g c = λ behind is.
@@ -15,4 +16,5 @@ returns-then-is_same g c = λ behind is.
     let here = coded_text reads keyword.value in
     let later = coded_in (is_key key) reads behind in
     at_true (is_key key keyword.key) (and_later here later) later same
-    (and_later_is here later (c.coded_text.ensures ∙ ap (λ text. answer (coded_text reads text)) c.value.ensures) is c.and_later.ensures)
+    (and_later_is here later (c.coded_text.ensures ∙ ap (λ text. answer (coded_text reads text)) c.value.ensures) is
+    (c.and_later.ensures ∙ ap (and_later_of c.coded_text.result) c.replace-behind.ensures.value))
