@@ -9,7 +9,7 @@ use Rattle.jcl_plan.specs.declared.fault.Cause.TheVariants.{P}
 use Rattle.jcl_plan.specs.declared.fault.StatementFault.TheVariants.{BadValue, UnbalancedParentheses}
 use Rattle.operand_core.specs.Calm.{is_calm, is_mark}
 use Rattle.operand_core.specs.Faults.{told, when}
-use Rattle.operand_core.specs.Operands.{balanced_from, depth_after, is_balanced, is_closed, is_read, open_at_end, part_faults, parts_from, places_of}
+use Rattle.operand_core.specs.Operands.{balanced_from, depth_after, is_balanced, is_closed, open_at_end, part_faults, parts_from, places_of, read_of}
 
 neither : (a b : Bool) → (a || b) ≡ false → (a ≡ false) × (b ≡ false)
 neither true b none = absurd (cc)
@@ -69,18 +69,32 @@ never_opens (c ∷ cs) none =
 calm_closed : (text : List ℕ) → is_calm text ≡ true → is_closed text ≡ true
 calm_closed text is = ap not (never_opens text (unmarked (list_any is_mark text) is))
 
--- it is read, and has no fault
-either : (calm balanced closed : Bool) → (calm ≡ true → balanced ≡ true) → (calm ≡ true → closed ≡ true) → (calm || (balanced && closed)) ≡ (balanced && closed)
-either true balanced closed well shut = let b = well refl in let s = shut refl in cc
-either false balanced closed well shut = refl
-
-pub calm_or_read : (part : List ℕ) → (is_calm part || (is_balanced part && is_closed part)) ≡ is_read part
-calm_or_read part = either (is_calm part) (is_balanced part) (is_closed part) (calm_balanced part) (calm_closed part)
-
+-- it has no fault
 pub calm_faultless : (part : List ℕ) → is_calm part ≡ true → None ≡ told (part_faults part)
 calm_faultless part is =
     let faults_by : Bool → Bool → List Cause = λ b s. cond b (when (not s) (P BadValue)) (P UnbalancedParentheses ∷ []) in
     sym (ap (λ b. told (faults_by b (is_closed part))) (calm_balanced part is) ∙ ap (λ s. told (faults_by true s)) (calm_closed part is))
+
+-- a part is read where it has no fault
+abbrev faults_by : Bool → Bool → List Cause
+faults_by balanced closed = cond balanced (when (not closed) (P BadValue)) (P UnbalancedParentheses ∷ [])
+
+read_cases : (balanced closed : Bool) (text : List ℕ) → told (faults_by balanced closed) ≡ None → Some text ≡ cond (balanced && closed) (Some text) None
+read_cases true true text none = refl
+read_cases true false text none = absurd (cc)
+read_cases false closed text none = absurd (cc)
+
+unread_cases : (balanced closed : Bool) (text : List ℕ) (fault : Cause) → told (faults_by balanced closed) ≡ Some fault →
+    ◌≡◌ {A = Option (List ℕ)} None (cond (balanced && closed) (Some text) None)
+unread_cases true true text fault is = absurd (cc)
+unread_cases true false text fault is = refl
+unread_cases false closed text fault is = refl
+
+pub read_faultless : (part text : List ℕ) → told (part_faults part) ≡ None → Some text ≡ read_of part text
+read_faultless part text none = read_cases (is_balanced part) (is_closed part) text none
+
+pub unread_faulty : (part text : List ℕ) (fault : Cause) → told (part_faults part) ≡ Some fault → None ≡ read_of part text
+unread_faulty part text fault is = unread_cases (is_balanced part) (is_closed part) text fault is
 
 -- a text without a comma is one part
 and_false : (a b : Bool) → b ≡ false → (a && b) ≡ false

@@ -8,7 +8,6 @@ ghost use Rattle.operand_core.specs.Reading.{IsOperand};
 
 use crate::fault::{earlier, when};
 use crate::parts::{Part, parts_of};
-use crate::scan::{is_balanced, is_calm, is_closed, is_read};
 use jcl_plan::fault::{Cause, StatementFault};
 use std::alloc::{AllocError, Global};
 use std::marker::Model;
@@ -79,24 +78,12 @@ pub struct Operand<'a> {
     pub fault: Option<Cause>,
 }
 
-fn part_fault(part: &[u8]) -> Option<Cause>
-    ensures { result ≡ told (part_faults part.now) }
-{
-    if is_calm(part) {
-        None
-    } else if is_balanced(part) {
-        when(!is_closed(part), Cause::P(StatementFault::BadValue))
-    } else {
-        Some(Cause::P(StatementFault::UnbalancedParentheses))
-    }
-}
-
 fn parts_fault(parts: &[Part<'_>]) -> Option<Cause>
     ensures { result ≡ told (flat_map part_faults parts.now) }
 {
     let mut fault = None;
     for part in parts {
-        fault = earlier(fault, part_fault(part.text()));
+        fault = earlier(fault, part.fault());
     }
     fault
 }
@@ -123,10 +110,13 @@ fn is_crowded(most: usize, parts: &[Part<'_>]) -> bool
 }
 
 /// The text, where the part that it stands in is read.
-fn read_of<'a>(part: &[u8], text: &'a [u8]) -> Option<&'a [u8]>
+fn read_of<'a>(part: &Part<'_>, text: &'a [u8]) -> Option<&'a [u8]>
     ensures { option_copied result ≡ read_of part.now text.now }
 {
-    if is_read(part) { Some(text) } else { None }
+    match part.fault() {
+        None => Some(text),
+        Some(_) => None,
+    }
 }
 
 fn positional_of<'a>(alloc: Global, parts: &[Part<'a>]) -> Result<Vec<Positional<'a>>, AllocError>
@@ -135,9 +125,8 @@ fn positional_of<'a>(alloc: Global, parts: &[Part<'a>]) -> Result<Vec<Positional
     let (front, _) = parts.split_at(positional_count(parts));
     let mut positional = Vec::new(alloc);
     for part in front {
-        let text = part.text();
         positional.push(Positional {
-            text: read_of(text, text),
+            text: read_of(part, part.text()),
         })?;
     }
     Ok(positional)
@@ -151,7 +140,7 @@ fn keywords_of<'a>(alloc: Global, parts: &[Part<'a>]) -> Result<Vec<Keyword<'a>>
         if let Some((key, value)) = part.keyword() {
             keywords.push(Keyword {
                 key,
-                value: read_of(part.text(), value),
+                value: read_of(part, value),
             })?;
         }
     }

@@ -2,9 +2,12 @@
 ghost use Rattle.std.specs.Prelude.{◌≡◌, ◌∷◌, [], take_while, ◌<◌, ◌≤◌, ◌||◌, ◌==◌, length, Some, None, IfOk, IfSome, IfNone, MatchOption};
 ghost use Rattle.std.specs.List.{position};
 ghost use Rattle.std.specs.Option.{option_copied};
-ghost use Rattle.operand_core.specs.Operands.{places_of, parts_of, keyword_of, is_key_character, is_positional};
+ghost use Rattle.operand_core.specs.Faults.{told};
+ghost use Rattle.operand_core.specs.Operands.{places_of, part_faults, parts_of, keyword_of, is_key_character, is_positional};
 
-use crate::scan::{depth_after, ends_part, is_calm, quoted_after};
+use crate::fault::when;
+use crate::scan::{depth_after, ends_part, is_balanced, is_calm, is_closed, quoted_after};
+use jcl_plan::fault::{Cause, StatementFault};
 use jname_core::name8::is_name_character;
 use std::alloc::{AllocError, Global};
 use std::marker::Model;
@@ -16,6 +19,8 @@ pub struct Part<'a> {
     /// Its keyword and what stands behind its `=`, both or neither.
     key: Option<&'a [u8]>,
     value: Option<&'a [u8]>,
+    /// The fault of its form: a part without one is read.
+    fault: Option<Cause>,
 }
 
 impl<'a> Model for Part<'a> {
@@ -28,26 +33,31 @@ impl<'a> Model for Part<'a> {
     ghost use Rattle.std.specs.Prelude.{◌≡◌};
     ghost use Rattle.std.specs.Option.{option_copied};
     ghost use Rattle.operand_core.specs.Calm.{pair_of};
-    ghost use Rattle.operand_core.specs.Operands.{keyword_of};
+    ghost use Rattle.operand_core.specs.Faults.{told};
+    ghost use Rattle.operand_core.specs.Operands.{keyword_of, part_faults};
 
-    ghost invariant = { λ p. pair_of (option_copied p.key) (option_copied p.value) ≡ keyword_of p.text.now };
+    ghost invariant = { λ p.
+        (pair_of (option_copied p.key) (option_copied p.value) ≡ keyword_of p.text.now) × (p.fault ≡ told (part_faults p.text.now)) };
 }
 
 impl<'a> Part<'a> {
-    /// The part of these characters, whose keyword is looked for once.
+    /// The part of these characters, whose keyword and fault are looked for once.
     fn new(text: &'a [u8]) -> Part<'a>
         ensures { result ≡ text.entry.now }
     {
+        let fault = part_fault(text);
         match keyword_of(text) {
             Some((key, value)) => Part {
                 text,
                 key: Some(key),
                 value: Some(value),
+                fault,
             },
             None => Part {
                 text,
                 key: None,
                 value: None,
+                fault,
             },
         }
     }
@@ -57,6 +67,13 @@ impl<'a> Part<'a> {
         ensures { result.now ≡ self.now }
     {
         self.text
+    }
+
+    /// The fault of its form.
+    pub(crate) fn fault(&self) -> Option<Cause>
+        ensures { result ≡ told (part_faults self.now) }
+    {
+        self.fault
     }
 
     /// Whether it begins with no keyword.
@@ -74,6 +91,18 @@ impl<'a> Part<'a> {
             (Some(key), Some(value)) => Some((key, value)),
             _ => None,
         }
+    }
+}
+
+fn part_fault(part: &[u8]) -> Option<Cause>
+    ensures { result ≡ told (part_faults part.now) }
+{
+    if is_calm(part) {
+        None
+    } else if is_balanced(part) {
+        when(!is_closed(part), Cause::P(StatementFault::BadValue))
+    } else {
+        Some(Cause::P(StatementFault::UnbalancedParentheses))
     }
 }
 

@@ -3,7 +3,7 @@ ghost use Rattle.std.specs.Prelude.{◌≡◌, ◌≤◌, ◌<◌, length, false
 ghost use Rattle.std.specs.List.{list_any};
 ghost use Rattle.card_core.specs.Fields.{quoted_after};
 ghost use Rattle.operand_core.specs.Calm.{is_calm, is_mark};
-ghost use Rattle.operand_core.specs.Operands.{depth_after, ends_part, closes_nothing, is_balanced, is_closed, is_read};
+ghost use Rattle.operand_core.specs.Operands.{depth_after, ends_part, closes_nothing, is_balanced, is_closed};
 
 /// Whether an apostrophe is open behind a character.
 pub fn quoted_after(quoted: bool, c: u8) -> bool
@@ -85,12 +85,4 @@ pub(crate) fn is_closed(text: &[u8]) -> bool
         open = quoted_after(open, *c);
     }
     !open
-}
-
-/// Whether a part's parentheses balance and its apostrophes close.
-#[tactic(auto, using(crate::proofs::Calm::calm_or_read))]
-pub(crate) fn is_read(part: &[u8]) -> bool
-    ensures { result ≡ is_read part.now }
-{
-    is_calm(part) || is_balanced(part) && is_closed(part)
 }

@@ -9,8 +9,8 @@ pub loop-part-preserved : goal.loop-part-preserved
 loop-part-preserved c =
     let parts = c.args.parts.now in
     let at = c.loop-part.part-index in
-    let one = c.part_fault.ensures ∙ ap (λ part. told (part_faults part)) (c.text.ensures ∙ c.part-item.is) in
+    let one = c.fault.ensures ∙ ap (λ part. told (part_faults part)) c.part-item.is in
     c.earlier-fault.ensures
-    ∙ ap (λ front. earlier front c.part_fault.result) c.loop-part.invariant
+    ∙ ap (λ front. earlier front c.fault.result) c.loop-part.invariant
     ∙ ap (earlier (told (flat_map part_faults (take at parts)))) one
     ∙ sym (told_flat_map_more part_faults parts at c.part-item.result c.loop-part-test.true)
