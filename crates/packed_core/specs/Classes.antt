@@ -1,5 +1,5 @@
 -- Classes of codes by which a step may end, as they are kept.
-use Rattle.std.specs.Prelude.{◌≡◌, ℕ, ◌+◌, nat_lt, false, if◌then◌else◌, All, List, drop, map, slice_index_or}
+use Rattle.std.specs.Prelude.{◌≡◌, ◌<◌, ◌≤◌, ℕ, ◌+◌, ◌*◌, ◌^◌, nat_lt, false, if◌then◌else◌, All, List, drop, length, map, slice_index_or}
 use Rattle.cond_core.specs.Classes.{AreClasses}
 use Rattle.jcl_plan.specs.declared.outcome.Outcome.TheVariants as outcome
 use Rattle.jcl_plan.specs.declared.plan.JobPlan.{JobPlan}
@@ -8,7 +8,7 @@ use Rattle.jcl_meaning.specs.History.{looks_at, met_by}
 use Rattle.view_core.specs.Bits.{kept_tests, looking}
 use Rattle.packed_core.specs.declared.classes.Class.{Class}
 use Rattle.packed_core.specs.declared.room.Room.{Room}
-use Rattle.packed_core.specs.Words.{IsRow, bit, met_of}
+use Rattle.packed_core.specs.Words.{AreWords, IsCleared, IsRow, bit, met_of}
 
 -- the bit of a test that is kept, by its place among them
 abbrev pub bit_at : Room → ℕ → ℕ
@@ -20,6 +20,13 @@ pub record IsMask (n : ℕ) (tests : List Test) (room : Room) (code : ℕ) (mask
   pub unnumbered : slice_index_or mask 0 0 ≡ 0
   pub calm : bit mask 0 ≡ false
   pub met : met_of room mask ≡ map (λ t. met_by t n (outcome.Code code)) tests
+
+-- So many bits of a class's mask can be cleared, from one of them on, and then it is the mask of step n too.
+pub record Serves (n : ℕ) (tests : List Test) (room : Room) (from count : ℕ) (class : Class) : Type 0 where
+  pub there : from + count + 64 ≤ 64 * length class.mask.items
+  pub small : from + count < 2 ^ 64
+  pub within : AreWords class.mask.items
+  pub serves : (new : List ℕ) → IsCleared from count class.mask.items new → IsMask n tests room class.code new
 
 -- a class for each that these tests cannot tell apart
 pub record AreMasks (n : ℕ) (tests : List Test) (room : Room) (classes : List Class) : Type 0 where

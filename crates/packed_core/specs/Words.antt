@@ -35,3 +35,12 @@ pub record IsRow (room : Room) (row : List ℕ) : Type 0 where
   pub within : AreWords row
   pub gap : (i : ℕ) → room.job < i → i ≤ room.job + room.passed → bit row i ≡ false
   pub beyond : (i : ℕ) → room.job + room.passed + room.left < i → bit row i ≡ false
+
+-- so many bits are clear, from one of them on, and the others as they were
+pub record IsCleared (from count : ℕ) (row new : List ℕ) : Type 0 where
+  pub size : length new ≡ length row
+  pub cleared : (k : ℕ) → from ≤ k → k < from + count → bit new k ≡ false
+  pub before : (k : ℕ) → k < from → bit new k ≡ bit row k
+  pub after : (k : ℕ) → from + count ≤ k → bit new k ≡ bit row k
+  pub first : slice_index_or new 0 0 ≡ slice_index_or row 0 0
+  pub within : AreWords new

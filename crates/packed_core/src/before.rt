@@ -1,9 +1,9 @@
 //! The views before a part: their rows, what the part comes to on their scenes, and the ways into them.
-ghost use Rattle.std.specs.Prelude.{◌≡◌, ◌<◌, ◌+◌, ◌∷◌, ℕ, List, IfOk, IfSome, drop, length, slice_get, slice_index_or, Some};
+ghost use Rattle.std.specs.Prelude.{◌≡◌, ◌<◌, ◌+◌, ◌∷◌, ℕ, All, List, IfOk, IfSome, drop, length, slice_get, slice_index_or, Some};
 ghost use Rattle.disp_core.specs.Courses.{fixed_by};
 ghost use Rattle.view_core.specs.declared.scene.Scene.{Scene};
 ghost use Rattle.view_core.specs.Legs.{EndsJob};
-ghost use Rattle.packed_core.specs.Classes.{AreMasks, tests_before};
+ghost use Rattle.packed_core.specs.Classes.{AreMasks, Serves, tests_before};
 ghost use Rattle.packed_core.specs.Crossing.{IsStep};
 ghost use Rattle.packed_core.specs.Rooms.{room_at};
 ghost use Rattle.packed_core.specs.Rows.{row_at};
@@ -15,7 +15,9 @@ use crate::classes::Classes;
 use crate::domain::PackedDomain;
 use crate::job::Job;
 use crate::masks::{classes_of, look_alike};
+use crate::rooms::next_bit;
 use crate::row_list::RowList;
+use crate::served::Served;
 use crate::views::PackedViews;
 use crate::ways::Ways;
 use jcl_plan::plan::{StepPlan, Test};
@@ -111,14 +113,41 @@ impl<'a, J: Job> PackedViews<'a, J> {
         Some(&ways.classes)
     }
 
-    /// The classes by which the step before these views may end, before which these tests are kept.
-    fn new_classes(&self, alloc: Global, kept: &[Test]) -> Result<Rc<Classes>, AllocError>
+    /// The classes by which the step before these views may end, if their masks serve for the part's own step, behind which these tests are kept.
+    fn served(&self, step: &StepPlan, kept: &[Test]) -> Served<'_>
+        requires part { self.now.part < usize.MAX }
+        requires step { IsStep J.plan self.now.part step.now }
+        requires kept { kept.now ≡ tests_before J.plan (self.now.part + 1) }
+        ensures serve { All (Serves (self.now.part + 1) (tests_before J.plan (self.now.part + 1)) (room_at J.plan (self.now.part + 1))
+            result.from result.count) result.list.now }
+    {
+        let Some(ways) = &self.ways else {
+            return Served::none();
+        };
+        if !look_alike(kept, self.part) {
+            return Served::none();
+        }
+        Served {
+            list: ways.classes.list.as_slice(),
+            from: next_bit(self.room),
+            count: step.tests.as_slice().len(),
+        }
+    }
+
+    /// The classes by which the step before these views may end, before which these tests are kept. Masks may be had from those that serve.
+    fn new_classes(
+        &self,
+        alloc: Global,
+        kept: &[Test],
+        served: Served<'_>,
+    ) -> Result<Rc<Classes>, AllocError>
         requires kept { kept.now ≡ tests_before J.plan self.now.part }
+        requires serve { All (Serves self.now.part kept.now (room_at J.plan self.now.part) served.from served.count) served.list.now }
         ensures masks { IfOk result (λ classes. AreMasks self.now.part (tests_before J.plan self.now.part)
             (room_at J.plan self.now.part) classes.value.list.items) }
         ensures compared { IfOk result (λ classes. AreCompared classes.value) }
     {
-        let list = classes_of(alloc, self.part, kept, self.room)?;
+        let list = classes_of(alloc, self.part, kept, self.room, served)?;
         let classes = compared(alloc, list)?;
         match Rc::new(alloc, classes) {
             Ok(classes) => Ok(classes),
@@ -145,9 +174,10 @@ impl<'a, J: Job + Drop> PackedDomain<'a, J> {
         ensures compared { IfOk result (λ classes. AreCompared classes.value) }
     {
         let kept = kept_tests(alloc, self.plain.plan.tests.as_slice(), later)?;
-        match before.serving(step, kept.as_slice()) {
+        let tests = kept.as_slice();
+        match before.serving(step, tests) {
             Some(classes) => classes.clone(),
-            None => behind.new_classes(alloc, kept.as_slice()),
+            None => behind.new_classes(alloc, tests, before.served(step, tests)),
         }
     }
 

@@ -20,6 +20,7 @@ mod room;
 mod rooms;
 pub mod row_list;
 mod scenes;
+mod served;
 mod sheet;
 pub mod sights;
 pub mod view;

@@ -1,11 +1,12 @@
 //! The tests that a step meets, by the code with which it ends.
 ghost use Rattle.std.specs.Prelude.{◌≡◌, ◌<◌, ◌+◌, ◌/◌, ℕ, All, IfOk, length, slice_index_or, true};
-ghost use Rattle.packed_core.specs.Classes.{AreMasks, IsMask, LooksAlike, bit_at};
+ghost use Rattle.packed_core.specs.Classes.{AreMasks, IsMask, LooksAlike, Serves, bit_at};
 ghost use Rattle.packed_core.specs.Rooms.{IsSmall};
 
 use crate::classes::Class;
 use crate::room::Room;
 use crate::rooms::words_of;
+use crate::served::Served;
 use crate::words::mark;
 use jcl_plan::outcome::{Code, Outcome};
 use jcl_plan::plan::Test;
@@ -35,7 +36,7 @@ pub(crate) fn blank(alloc: Global, room: Room) -> Result<Vec<u64>, AllocError>
 }
 
 /// The tests that step n meets, which ends by a code, as bits.
-fn mask_of(
+pub(crate) fn mask_of(
     alloc: Global,
     n: usize,
     tests: &[Test],
@@ -54,21 +55,25 @@ fn mask_of(
     Ok(mask)
 }
 
-/// The classes of codes by which step n may end, where these tests are kept behind it.
+/// The classes of codes by which step n may end, where these tests are kept behind it. Masks may be had from those that serve.
 pub(crate) fn classes_of(
     alloc: Global,
     n: usize,
     tests: &[Test],
     room: Room,
+    served: Served<'_>,
 ) -> Result<Vec<Class>, AllocError>
     requires small { IsSmall room }
     requires kept { length tests.now ≡ room.job + room.left }
+    requires serve { All (Serves n tests.now room served.from served.count) served.list.now }
     ensures { IfOk result (λ classes. AreMasks n tests.now room classes.items) }
 {
     let codes = codes_at(alloc, n, tests)?;
     let mut classes = Vec::new(alloc);
+    let mut at = 0;
     for code in codes.representatives() {
-        let mask = mask_of(alloc, n, tests, room, *code)?;
+        at = served.seek(at, *code);
+        let mask = served.mask(alloc, at, n, tests, room, *code)?;
         classes.push(Class { code: *code, mask })?;
     }
     Ok(classes)
