@@ -1,6 +1,6 @@
 -- Which classes need not be offered, and what is noted for it.
 use Rattle.std.proofs.Common.{◌≡◌, inl, inr, ◌++◌, ◌∷◌, ◌∙◌, ℕ, zero, suc, true, List, [], Vec, Option, None, Some, sym, ap, subst}
-use Rattle.std.specs.Global.{Global}
+use Rattle.std.specs.Global.{Box, Global}
 use Rattle.std.specs.Prelude.{All, Err, IfSome, Ok, OnErr, OnOk, Result, slice_get}
 use Rattle.std.proofs.lemmas.Bool.{or_left, or_right}
 use Rattle.std.proofs.lemmas.List.Elements.{All-contains}
@@ -112,9 +112,9 @@ kept_more rows more ways kept = record {
     row = got_front rows more i (joined_words n.base n.class.mask.items) n.row;
     all = λ j other h. has_more (joined_words n.base other.mask.items) rows more (n.all j other h);
   };
-  pending = if_some ways.pending (λ (p : Pending). AreLooked rows ways.classes.value.list.items p.base.items p.looked.items)
-      (λ (p : Pending). AreLooked (rows ++ more) ways.classes.value.list.items p.base.items p.looked.items)
-      (λ p. looked_more rows more ways.classes.value.list.items p.base.items p.looked.items) kept.pending;
+  pending = if_some ways.pending (λ (p : Box Pending). AreLooked rows ways.classes.value.list.items p.value.base.items p.value.looked.items)
+      (λ (p : Box Pending). AreLooked (rows ++ more) ways.classes.value.list.items p.value.base.items p.value.looked.items)
+      (λ p. looked_more rows more ways.classes.value.list.items p.value.base.items p.value.looked.items) kept.pending;
 }
 
 pub ways_pushed : {T E : Type 0} (r : Result T E) (plan : JobPlan) (part : ℕ) (old new : List (List ℕ)) (row : List ℕ) (ways : Option Ways) →

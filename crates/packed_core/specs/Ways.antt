@@ -84,7 +84,7 @@ HasNoOthers old new looked = (i c : ℕ) → slice_get new i ≡ Some (Some c) �
 pub record AreKept (rows : List (List ℕ)) (ways : Ways) : Type 0 where
   pub compared : AreCompared ways.classes.value
   pub notes : AreNotes rows ways.classes.value.list.items ways.notes.items
-  pub pending : IfSome ways.pending (λ p. AreLooked rows ways.classes.value.list.items p.base.items p.looked.items)
+  pub pending : IfSome ways.pending (λ p. AreLooked rows ways.classes.value.list.items p.value.base.items p.value.looked.items)
 
 -- and the classes are those by which the step before a part may end
 pub record AreWays (plan : JobPlan) (part : ℕ) (rows : List (List ℕ)) (ways : Ways) : Type 0 where

@@ -349,21 +349,22 @@ impl<'a, J: Job + Drop> PackedDomain<'a, J> {
         }
     }
 
-    /// The job's end.
+    /// The job's end, from the view of this number.
     fn cross_end(
         &self,
         alloc: Global,
         before: &mut PackedViews<'a, J>,
-        row: &[u64],
+        number: usize,
         behind: &PackedViews<'a, J>,
     ) -> Result<Crossed<PackedView<J>>, AllocError>
         requires end { drop before.old.part J.plan.steps ≡ [] }
-        requires row { IsRow (room_at J.plan before.old.part) row.now }
-        requires numbered { slice_index_or row.now 0 0 < length before.old.scenes }
+        requires number { number < length before.old.rows }
         ensures before { OnOk result (before.new ≡ before.old) }
-        ensures crossed { IfOk result (λ crossed. (scene : Scene) → NamesScene before.old row.now scene →
-            IsLedTo (λ w. w.row.items) J.plan J.fixed before.old.part (row_shows J.plan before.old.part scene row.now) behind.now crossed) }
+        ensures crossed { IfOk result (λ crossed. (scene : Scene) → NamesScene before.old (row_at before.old.rows number) scene →
+            IsLedTo (λ w. w.row.items) J.plan J.fixed before.old.part (row_shows J.plan before.old.part scene (row_at before.old.rows number))
+            behind.now crossed) }
     {
+        let row = before.row(number);
         let n = number_in(row);
         let abended = bit_of(row, 0);
         match before.end(alloc, &self.plain, n, abended)? {
@@ -388,11 +389,13 @@ impl<'a, J: Job + Drop> PackedDomain<'a, J> {
         ensures crossed { IfOk result (IsCrossed (λ w. shown_among J.plan J.fixed.date behind.new w.row.items) J.plan J.fixed before.old.part
             (all_shown J.plan J.fixed.date behind.new) (shown_among J.plan J.fixed.date before.old (row_at before.old.rows number))) }
     {
-        let row = Vec::from_slice(alloc, before.row(number))?;
         let left = drop_first(self.plain.plan.steps.as_slice(), before.part);
         match left.split_first() {
-            Some((step, later)) => self.cross_step(alloc, before, step, later, row, behind),
-            None => self.cross_end(alloc, before, row.as_slice(), behind),
+            Some((step, later)) => {
+                let row = Vec::from_slice(alloc, before.row(number))?;
+                self.cross_step(alloc, before, step, later, row, behind)
+            }
+            None => self.cross_end(alloc, before, number, behind),
         }
     }
 }

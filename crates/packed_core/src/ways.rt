@@ -28,7 +28,7 @@ pub struct Pending {
 pub struct Ways {
     pub classes: Rc<Classes>,
     pub notes: Vec<Option<usize>>,
-    pub pending: Option<Pending>,
+    pub pending: Option<Box<Pending>>,
 }
 
 /// Whether the row of a class that was looked at stands at its number.
@@ -124,7 +124,7 @@ impl Ways {
         let Some(pending) = self.pending.take() else {
             return Ok(());
         };
-        let Pending { base, mut looked } = pending;
+        let Pending { base, mut looked } = Box::into_inner(pending);
         let list = self.classes.list.as_slice();
         if place_all(rows, list, base.as_slice(), &mut looked) {
             lengthen(&mut self.notes, rows.len())?;
@@ -177,7 +177,7 @@ impl Ways {
             return Ok(());
         }
         let base = Vec::from_slice(alloc, base)?;
-        self.pending = Some(Pending { base, looked });
+        self.pending = Some(Box::new(alloc, Pending { base, looked })?);
         Ok(())
     }
 }

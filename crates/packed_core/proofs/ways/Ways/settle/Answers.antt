@@ -4,6 +4,7 @@ use Rattle.packed_core.specs.declared.classes.Class.{Class}
 use Rattle.packed_core.specs.declared.classes.Classes.{Classes}
 use Rattle.packed_core.specs.declared.ways.Looked.{Looked}
 use Rattle.packed_core.specs.declared.ways.Pending.{Pending}
+use Rattle.std.specs.Global.{Box}
 use Rattle.packed_core.specs.Ways.{AreKept, AreLooked, HasNoOthers, IsThere}
 use Rattle.packed_core.proofs.Skipping.{no_others_more, settled}
 use Rattle.packed_core.proofs.ways.Ways.settle.Goals.{else-place_all, then-place_all+in_ok-lengthen}
@@ -13,16 +14,17 @@ pub returns-clause-kept : goal.returns-clause-kept
 returns-clause-kept c =
     let rows : List (List ℕ) = c.args.rows.now in
     let list : List Class = c.args.self.now.classes.value.list.items in
-    let base : List ℕ = c.in-Some.pending.base.items in
+    let base : List ℕ = c.into_inner-base.result.base.items in
     let looked : List Looked = c.place_all.new.looked.items in
-    let told : AreLooked rows list base c.in-Some.pending.looked.items =
-    subst (λ (o : Option Pending). IfSome o (λ (p : Pending). AreLooked rows list p.base.items p.looked.items)) (sym c.in-Some.ensures.value)
-    c.requires.kept.pending in
+    let told : AreLooked rows list base c.into_inner-base.result.looked.items =
+    subst (λ (p : Pending). AreLooked rows list p.base.items p.looked.items) (sym c.into_inner-base.ensures)
+    (subst (λ (o : Option (Box Pending)). IfSome o (λ (p : Box Pending). AreLooked rows list p.value.base.items p.value.looked.items)) (sym c.in-Some.ensures.value)
+    c.requires.kept.pending) in
     let all : AreLooked rows list base looked = λ j class at. elim (told j class at) [
       | inl h ↦ inl (subst (λ (l : List ℕ). Contains l j) (sym c.place_all.ensures.same) h)
       | inr h ↦ inr h
     ] in
-    let none = subst (λ (o : Option Pending). IfSome o (λ (p : Pending). AreLooked rows list p.base.items p.looked.items)) (sym c.take.ensures.after) tt in
+    let none = subst (λ (o : Option (Box Pending)). IfSome o (λ (p : Box Pending). AreLooked rows list p.value.base.items p.value.looked.items)) (sym c.take.ensures.after) tt in
     elim c.if-place_all.branch [
       | then-place_all+in_ok-lengthen w ↦
           let there : All (IsThere rows list base) looked =
