@@ -2,7 +2,7 @@ use Rattle.std.proofs.Common.{◌≡◌, ◌∙◌, ◌-◌, ◌%◌, ◌<◌, �
 use Rattle.std.proofs.lemmas.Bool.{cases_lt}
 use Rattle.std.proofs.lemmas.List.{get_or_default}
 use Rattle.packed_core.specs.Indexed.{hash_at, hash_from, place_in}
-use Rattle.packed_core.specs.Rows.{row_at, same_words}
+use Rattle.packed_core.specs.Rows.{row_at}
 use Rattle.packed_core.specs.Words.{joined_words}
 use Rattle.packed_core.proofs.Indexing.{hash_there}
 use Rattle.packed_core.proofs.Joining.{none_there, words_alike}

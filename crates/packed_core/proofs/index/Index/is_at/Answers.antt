@@ -1,4 +1,4 @@
-use Rattle.std.proofs.Common.{◌≡◌, ◌∙◌, ◌<◌, ℕ, List, ap, arith, length, sym}
+use Rattle.std.proofs.Common.{◌≡◌, ◌∙◌, ℕ, List, ap, arith, length, sym}
 use Rattle.std.proofs.lemmas.List.{get_or_default, length-map}
 use Rattle.packed_core.specs.Indexed.{hash_at, hash_from}
 use Rattle.packed_core.specs.Rows.{row_at}

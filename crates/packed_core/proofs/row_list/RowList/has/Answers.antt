@@ -1,4 +1,4 @@
-use Rattle.std.proofs.Common.{◌≡◌, ◌∙◌, ℕ, List, Option, None, Some, ap, sym}
+use Rattle.std.proofs.Common.{◌≡◌, ◌∙◌, ℕ, List, Option, None, Some, sym}
 use Rattle.std.specs.Prelude.{is_some}
 use Rattle.packed_core.specs.Rows.{IsFound, has_row}
 use Rattle.packed_core.proofs.Skipping.{got_stands}

@@ -1,4 +1,4 @@
-use Rattle.std.proofs.Common.{◌≡◌, ◌∙◌, ◌+◌, ◌*◌, ◌<◌, ◌≤◌, ℕ, List, ap, arith, drop, length, sym, take}
+use Rattle.std.proofs.Common.{◌≡◌, ◌∙◌, ◌+◌, ◌*◌, ◌≤◌, ℕ, List, ap, arith, drop, length, sym, take}
 use Rattle.packed_core.specs.Rows.{row_at}
 use Rattle.packed_core.proofs.Sheets.{chunk_at, length-chunks, row_within}
 use Rattle.packed_core.proofs.sheet.Sheet.at.Goals as goal

@@ -1,4 +1,4 @@
-use Rattle.std.proofs.Common.{◌≡◌, ◌++◌, ◌∷◌, ◌∙◌, ◌+◌, ℕ, suc, List, [], add-one, ap}
+use Rattle.std.proofs.Common.{◌≡◌, ◌++◌, ◌∷◌, ◌∙◌, ℕ, suc, List, [], add-one, ap}
 use Rattle.std.specs.Simd.{first_chunks}
 use Rattle.packed_core.proofs.Sheets.{chunk_more}
 use Rattle.packed_core.proofs.sheet.Sheet.push.Goals as goal
