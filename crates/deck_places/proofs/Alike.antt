@@ -1,17 +1,17 @@
--- What a call is refused for does not depend on its place among others.
-use Rattle.std.proofs.Common.{◌≡◌, ◌∷◌, ◌++◌, ◌∙◌, ℕ, ◌||◌, ◌==◌, Bool, true, false, List, [], Option, None, Some, Result, Ok, Err, ap, length, map, refl, subst, sym}
+-- What a call is refused for behind some statements of a procedure depends on little of them: on whether there is a step so far, and which DDs are refused by
+-- their place. It does not depend on the place of the call among others.
+use Rattle.std.proofs.Common.{◌≡◌, ◌∷◌, ◌++◌, ◌∙◌, ℕ, ◌||◌, ◌&&◌, ◌==◌, Bool, true, false, not, List, [], Option, None, Some, Result, Ok, Err, ap, arith, length, map, refl, subst, sym}
 use Rattle.std.specs.Prelude.{is_some, if◌then◌else◌}
-use Rattle.std.proofs.lemmas.List.{length-map}
 use Rattle.card_core.specs.declared.statement.Statement.{Statement}
 use Rattle.jcl_cards.specs.declared.dd.DdCard.{DdCard}
 use Rattle.jcl_cards.specs.DdCards.{dd_card, dd_name_faults, has_data}
 use Rattle.jcl_cards.specs.Merging.{by_itself}
 use Rattle.jcl_deck.specs.declared.operation.Operation.{Operation}
 use Rattle.jcl_deck.specs.declared.operation.Operation.TheVariants.{IsDd, IsExec, IsJob, IsOther, IsPend, IsProc}
-use Rattle.jcl_deck.specs.Decks.{dd_place_faults, operation_of}
+use Rattle.jcl_deck.specs.Decks.{dd_place_faults, has_no_name, last_has_dd, operation_of}
 use Rattle.jcl_plan.specs.declared.fault.Cause.{Cause}
 use Rattle.jcl_plan.specs.declared.fault.Cause.TheVariants.{P}
-use Rattle.jcl_plan.specs.declared.fault.StatementFault.TheVariants.{CardsInProcedure, NoStep, NoSuchProcedureStep}
+use Rattle.jcl_plan.specs.declared.fault.StatementFault.TheVariants.{CardsInProcedure, NoStep, NoSuchProcedureStep, NothingToContinue}
 use Rattle.jcl_procs.specs.declared.step.FlatStep.{FlatStep}
 use Rattle.jcl_procs.specs.Calls.{Call, Place, behind_by, onto_last, read_with, steps_behind, steps_from, steps_of, takes_dd}
 use Rattle.jcl_symbols.specs.declared.symbol.Symbol.{Symbol}
@@ -19,14 +19,24 @@ use Rattle.jcl_symbols.specs.Substitutions.{substituted}
 use Rattle.operand_core.specs.Faults.{or_fault, told, when}
 use Rattle.value_core.specs.Reads.{Read}
 
-abbrev dds_of : List FlatStep → List (List DdCard)
+abbrev pub dds_of : List FlatStep → List (List DdCard)
 dds_of steps = map (λ (step : FlatStep). step.dds) steps
 
-record AreAlike (a b : Place) : Type 0 where
-  library : a.job_library ≡ b.job_library
-  dds : dds_of a.steps ≡ dds_of b.steps
+-- for what a DD statement is refused by its place
+abbrev pub placed : Place → Statement → List Cause
+placed place s = dd_place_faults place.job_library (dds_of place.steps) s
 
-abbrev Follow : Result Place Cause → Result Place Cause → Type 0
+abbrev pub has_none : Place → Bool
+has_none place = length place.steps == 0
+
+pub record AreAlike (a b : Place) : Type 0 where
+  pub none : has_none a ≡ has_none b
+  pub faults : (s : Statement) → placed a s ≡ placed b s
+
+pub turned : (a b : Place) → AreAlike a b → AreAlike b a
+turned a b alike = record { none = sym alike.none; faults = λ s. sym (alike.faults s) }
+
+abbrev pub Follow : Result Place Cause → Result Place Cause → Type 0
 Follow (Ok a) (Ok b) = AreAlike a b
 Follow (Err f) (Err g) = f ≡ g
 Follow (Ok a) (Err g) = ⊥
@@ -36,25 +46,86 @@ follow_fault : (fault : Option Cause) (a b : Place) → AreAlike a b → Follow 
 follow_fault None a b alike = alike
 follow_fault (Some fault) a b alike = refl
 
--- steps with one more
-more_dds : (steps : List FlatStep) (step : FlatStep) → dds_of (steps ++ step ∷ []) ≡ dds_of steps ++ step.dds ∷ []
-more_dds [] step = refl
-more_dds (x ∷ steps) step = ap (λ l. x.dds ∷ l) (more_dds steps step)
+-- behind an EXEC statement: a DD without a name has nothing to continue
+abbrev pub with_step : Place → FlatStep → Place
+with_step place step = record place { steps = place.steps ++ step ∷ [] }
 
--- the last with one more DD
-abbrev onto_dds : DdCard → List (List DdCard) → List (List DdCard)
-onto_dds dd [] = []
-onto_dds dd (dds ∷ []) = (dds ++ by_itself dd ∷ []) ∷ []
-onto_dds dd (dds ∷ next ∷ more) = dds ∷ onto_dds dd (next ∷ more)
+pub some_step : (steps : List FlatStep) (step : FlatStep) → (length (steps ++ step ∷ []) == 0) ≡ false
+some_step [] step = refl
+some_step (x ∷ steps) step = grind arith
 
-last_dds : (dd : DdCard) (steps : List FlatStep) → dds_of (onto_last dd steps) ≡ onto_dds dd (dds_of steps)
-last_dds dd [] = refl
-last_dds dd (step ∷ []) = refl
-last_dds dd (step ∷ next ∷ steps) = ap (λ l. step.dds ∷ l) (last_dds dd (next ∷ steps))
+last_none : (steps : List FlatStep) (step : FlatStep) → step.dds ≡ [] → last_has_dd (dds_of (steps ++ step ∷ [])) ≡ false
+last_none [] step empty = ap (λ (l : List DdCard). not (length l == 0)) empty
+last_none (x ∷ []) step empty = last_none [] step empty
+last_none (x ∷ y ∷ steps) step empty = last_none (y ∷ steps) step empty
 
-as_many : (a b : Place) → AreAlike a b → length a.steps ≡ length b.steps
-as_many a b alike =
-    sym (length-map a.steps (λ (step : FlatStep). step.dds)) ∙ ap length alike.dds ∙ length-map b.steps (λ (step : FlatStep). step.dds)
+some_dds : (steps : List FlatStep) (step : FlatStep) → (length (dds_of (steps ++ step ∷ [])) == 0) ≡ false
+some_dds [] step = refl
+some_dds (x ∷ steps) step = grind arith
+
+pub behind_step : (place : Place) (step : FlatStep) (s : Statement) → step.dds ≡ [] →
+    placed (with_step place step) s ≡ when (has_no_name s && true) (P NothingToContinue)
+behind_step place step s empty = rw (some_dds place.steps step, last_none place.steps step empty) refl
+
+pub alike_steps : (a b : Place) (one other : FlatStep) → one.dds ≡ [] → other.dds ≡ [] → AreAlike (with_step a one) (with_step b other)
+alike_steps a b one other empty too = record {
+  none = some_step a.steps one ∙ sym (some_step b.steps other);
+  faults = λ s. behind_step a one s empty ∙ sym (behind_step b other s too);
+}
+
+-- behind a DD: before the first step it is a JOBLIB, or continues one; in a step the next is never refused by its place
+abbrev pub with_dd : Place → DdCard → Place
+with_dd place dd = record place { job_library = place.job_library || length place.steps == 0; steps = onto_last dd place.steps }
+
+or_true : (b : Bool) → (b || true) ≡ true
+or_true true = refl
+or_true false = refl
+
+and_false : (b : Bool) → (b && false) ≡ false
+and_false true = refl
+and_false false = refl
+
+some_behind : (dds : List DdCard) (dd : DdCard) → not (length (dds ++ dd ∷ []) == 0) ≡ true
+some_behind [] dd = refl
+some_behind (x ∷ dds) dd = grind arith
+
+last_dd : (dd : DdCard) (step : FlatStep) (steps : List FlatStep) → last_has_dd (dds_of (onto_last dd (step ∷ steps))) ≡ true
+last_dd dd step [] = some_behind step.dds (by_itself dd)
+last_dd dd step (next ∷ []) = last_dd dd next []
+last_dd dd step (next ∷ more ∷ steps) = last_dd dd next (more ∷ steps)
+
+as_many : (dd : DdCard) (steps : List FlatStep) → (length (onto_last dd steps) == 0) ≡ (length steps == 0)
+as_many dd [] = refl
+as_many dd (step ∷ []) = refl
+as_many dd (step ∷ next ∷ steps) = grind arith
+
+as_many_dds : (dd : DdCard) (step : FlatStep) (steps : List FlatStep) → (length (dds_of (onto_last dd (step ∷ steps))) == 0) ≡ false
+as_many_dds dd step [] = refl
+as_many_dds dd step (next ∷ steps) = grind arith
+
+pub has_none_behind : (place : Place) (dd : DdCard) → has_none (with_dd place dd) ≡ has_none place
+has_none_behind place dd = as_many dd place.steps
+
+abbrev by_none : Bool → Statement → List Cause
+by_none true s = dd_place_faults true [] s
+by_none false s = []
+
+has_some : (step : FlatStep) (steps : List FlatStep) → (length (step ∷ steps) == 0) ≡ false
+has_some step steps = grind arith
+
+placed_by : (library : Bool) (steps : List FlatStep) (dd : DdCard) (s : Statement) →
+    dd_place_faults (library || length steps == 0) (dds_of (onto_last dd steps)) s ≡ by_none (length steps == 0) s
+placed_by library [] dd s = ap (λ (b : Bool). dd_place_faults b [] s) (or_true library)
+placed_by library (step ∷ steps) dd s = rw (has_some step steps, as_many_dds dd step steps, last_dd dd step steps, and_false (has_no_name s)) refl
+
+pub behind_dd : (place : Place) (dd : DdCard) (s : Statement) → has_none place ≡ false → placed (with_dd place dd) s ≡ []
+behind_dd place dd s some = placed_by place.job_library place.steps dd s ∙ ap (λ b. by_none b s) some
+
+pub alike_dds : (a b : Place) (dd : DdCard) → AreAlike a b → AreAlike (with_dd a dd) (with_dd b dd)
+alike_dds a b dd alike = record {
+  none = has_none_behind a dd ∙ alike.none ∙ sym (has_none_behind b dd);
+  faults = λ s. placed_by a.job_library a.steps dd s ∙ ap (λ n. by_none n s) alike.none ∙ sym (placed_by b.job_library b.steps dd s);
+}
 
 -- calls that differ in their places alone
 module _ (name : Option (List ℕ)) (symbols : List Symbol) (i j : ℕ) where
@@ -63,28 +134,18 @@ module _ (name : Option (List ℕ)) (symbols : List Symbol) (i j : ℕ) where
 
   follow_dd : (a b : Place) (s : Statement) → AreAlike a b → Follow (takes_dd (at i) a s) (takes_dd (at j) b s)
   follow_dd a b s alike =
-      let faults : Bool → List (List DdCard) → DdCard → List Cause = λ library dds dd. when (has_data dd) (P CardsInProcedure)
-      ++ dd_place_faults library dds s ++ when (is_some dd.qualifier) (P NoSuchProcedureStep) in
+      let faults : List Cause → DdCard → List Cause = λ by_place dd. when (has_data dd) (P CardsInProcedure)
+      ++ by_place ++ when (is_some dd.qualifier) (P NoSuchProcedureStep) in
       let read : (DdCard → List Cause) → Read DdCard = λ by_place.
       read_with (substituted symbols true s.operand) (dd_name_faults s.name) (λ operand. dd_card s.name operand s.cards) by_place in
-      let made : Place → Read DdCard → Place = λ p r.
-      record p { job_library = p.job_library || length p.steps == 0; steps = onto_last r.value p.steps } in
-      let one : Read DdCard = read (faults a.job_library (dds_of a.steps)) in
-      let other : Read DdCard = read (faults b.job_library (dds_of b.steps)) in
-      let same : one ≡ other = (λ k. read (faults (alike.library k) (alike.dds k))) in
-      let many = as_many a b alike in
-      subst (λ (r : Read DdCard). Follow (or_fault (told one.faults) (made a one)) (or_fault (told r.faults) (made b r))) same
-      (follow_fault (told one.faults) (made a one) (made b one) (record {
-        library = (λ k. alike.library k || many k == 0);
-        dds = last_dds one.value a.steps ∙ ap (onto_dds one.value) alike.dds ∙ sym (last_dds one.value b.steps);
-      }))
+      let one : Read DdCard = read (faults (placed a s)) in
+      let other : Read DdCard = read (faults (placed b s)) in
+      let same : one ≡ other = (λ k. read (faults (alike.faults s k))) in
+      subst (λ (r : Read DdCard). Follow (or_fault (told one.faults) (with_dd a one.value)) (or_fault (told r.faults) (with_dd b r.value))) same
+      (follow_fault (told one.faults) (with_dd a one.value) (with_dd b one.value) (alike_dds a b one.value alike))
 
-  follow_by : (operation : Operation) (a b : Place) (s : Statement) → AreAlike a b → Follow (behind_by operation (at i) a s) (behind_by operation (at j) b s)
-  follow_by IsExec a b s alike =
-      follow_fault _ _ _ (record {
-        library = alike.library;
-        dds = more_dds a.steps _ ∙ ap (λ l. l ++ [] ∷ []) alike.dds ∙ sym (more_dds b.steps _);
-      })
+  pub follow_by : (operation : Operation) (a b : Place) (s : Statement) → AreAlike a b → Follow (behind_by operation (at i) a s) (behind_by operation (at j) b s)
+  follow_by IsExec a b s alike = follow_fault _ _ _ (alike_steps a b _ _ refl refl)
   follow_by IsDd a b s alike = follow_dd a b s alike
   follow_by IsProc a b s alike = follow_fault _ a b alike
   follow_by IsJob a b s alike = follow_fault _ a b alike
@@ -106,10 +167,10 @@ module _ (name : Option (List ℕ)) (symbols : List Symbol) (i j : ℕ) where
   follow_turn (Ok a) (Err g) statements cause never more e = absurd never
   follow_turn (Err f) (Ok b) statements cause never more e = absurd never
 
-  follow_from : (statements : List Statement) (cause : Cause) (a b : Place) → AreAlike a b → steps_from (at i) a statements ≡ Err cause →
+  pub follow_from : (statements : List Statement) (cause : Cause) (a b : Place) → AreAlike a b → steps_from (at i) a statements ≡ Err cause →
       steps_from (at j) b statements ≡ Err cause
   follow_from [] cause a b alike e =
-      ap (λ (n : ℕ). let r : Result (List FlatStep) Cause = if n == 0 then Err (P NoStep) else Ok b.steps in r) (sym (as_many a b alike))
+      ap (λ (n : Bool). let r : Result (List FlatStep) Cause = if n then Err (P NoStep) else Ok b.steps in r) (sym alike.none)
       ∙ ends_by (length a.steps == 0) a.steps b.steps cause e
   follow_from (s ∷ statements) cause a b alike e =
       follow_turn (behind_by (operation_of s.operation) (at i) a s) (behind_by (operation_of s.operation) (at j) b s) statements cause
@@ -118,4 +179,4 @@ module _ (name : Option (List ℕ)) (symbols : List Symbol) (i j : ℕ) where
   pub refused_elsewhere : (statements : List Statement) (cause : Cause) → steps_of (at i) statements ≡ Err cause → steps_of (at j) statements ≡ Err cause
   refused_elsewhere statements cause e =
       follow_from statements cause (record { job_library = false; steps = [] }) (record { job_library = false; steps = [] })
-      (record { library = refl; dds = refl }) e
+      (record { none = refl; faults = λ s. refl }) e

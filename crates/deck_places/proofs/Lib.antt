@@ -11,6 +11,7 @@ pub mod Located
 pub mod Marked
 pub mod Read
 pub mod Refused
+pub mod Shortened
 pub mod Spotted
 pub mod Standing
 pub mod Statements

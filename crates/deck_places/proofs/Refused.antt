@@ -1,5 +1,6 @@
 -- What is refused of the first statements of a procedure stays refused with more of them.
-use Rattle.std.proofs.Common.{◌≡◌, ◌∷◌, ◌≤◌, ◌<◌, ℕ, zero, suc, ◌+◌, ◌==◌, Bool, true, false, List, [], None, Result, Ok, Err, ap, arith, length, take}
+use Rattle.std.proofs.Common.{◌≡◌, ◌∷◌, ◌∙◌, ◌≤◌, ◌<◌, ℕ, zero, suc, ◌+◌, ◌==◌, Bool, true, false, List, [], None, Result, Ok, Err, ap, arith, length, sym, take}
+use Rattle.std.proofs.lemmas.List.{take_all}
 use Rattle.std.specs.Prelude.{if◌then◌else◌}
 use Rattle.card_core.specs.declared.statement.Statement.{Statement}
 use Rattle.jcl_deck.specs.Decks.{operation_of}
@@ -7,8 +8,9 @@ use Rattle.jcl_plan.specs.declared.fault.Cause.{Cause}
 use Rattle.jcl_plan.specs.declared.fault.Cause.TheVariants.{P}
 use Rattle.jcl_plan.specs.declared.fault.StatementFault.TheVariants.{NoStep}
 use Rattle.jcl_procs.specs.declared.step.FlatStep.{FlatStep}
-use Rattle.jcl_procs.specs.Calls.{Call, Place, behind_by, steps_behind, steps_from, steps_with}
+use Rattle.jcl_procs.specs.Calls.{Call, Place, behind_by, steps_behind, steps_from, steps_of, steps_with}
 use Rattle.deck_places.specs.Called.{IsFirst, IsFirstRefused, IsRefusedTo}
+use Rattle.deck_places.specs.Tried.{WantsStep}
 
 -- at their end they are refused for want of a step alone
 ended_by : (none : Bool) (steps : List FlatStep) (cause : Cause) →
@@ -42,20 +44,41 @@ stays_refused call statements cause m n some less e =
     stays call cause (λ none. some (let h : IsRefusedTo call statements cause 0 = ap (λ c. let r : Result (List FlatStep) Cause = Err c in r) none in h))
     (record { job_library = false; steps = [] }) m n statements less e
 
--- nothing is refused first where all is refused from the start, or nothing at all
-pub none_from : (call : Call) (statements : List Statement) (cause : Cause) → IsRefusedTo call statements cause 0 → IsFirst call statements cause None
-none_from call statements cause e n first = first.first 0 (omega arith) e
+-- no statement at all is refused for want of a step
+pub at_start : (call : Call) (statements : List Statement) (cause : Cause) → IsRefusedTo call statements cause 0 → WantsStep cause
+at_start call statements cause e = (let h : (let r : Result (List FlatStep) Cause = Err (P NoStep) in r) ≡ Err cause = e in cc)
 
-pub none_to : (call : Call) (statements : List Statement) (cause : Cause) → (IsRefusedTo call statements cause 0 → ⊥) →
-    (IsRefusedTo call statements cause (length statements) → ⊥) → IsFirst call statements cause None
-none_to call statements cause some never n first =
+at_all : (call : Call) (statements : List Statement) (cause : Cause) → IsRefusedTo call statements cause (length statements) → steps_of call statements ≡ Err cause
+at_all call statements cause e = ap (steps_of call) (sym (take_all (length statements) statements (omega arith))) ∙ e
+
+pub all_at : (call : Call) (statements : List Statement) (cause : Cause) → steps_of call statements ≡ Err cause → IsRefusedTo call statements cause (length statements)
+all_at call statements cause e = ap (steps_of call) (take_all (length statements) statements (omega arith)) ∙ e
+
+-- with the first with which they are refused they all are
+first_all : (call : Call) (statements : List Statement) (cause : Cause) (n : ℕ) → IsFirstRefused call statements cause n → steps_of call statements ≡ Err cause
+first_all call statements cause n first =
     let there : n < length statements = first.there in
-    never (stays_refused call statements cause (n + 1) (length statements) some (omega arith) first.refused)
+    at_all call statements cause
+    (stays_refused call statements cause (n + 1) (length statements) (first.first 0 (omega arith)) (omega arith) first.refused)
 
-pub first_at : (call : Call) (statements : List Statement) (cause : Cause) (n : ℕ) → (IsRefusedTo call statements cause 0 → ⊥) → n < length statements →
-    (IsRefusedTo call statements cause n → ⊥) → IsRefusedTo call statements cause (n + 1) → IsFirstRefused call statements cause n
+pub first_at : (call : Call) (statements : List Statement) (cause : Cause) (n : ℕ) → (WantsStep cause → ⊥) → n < length statements →
+    (IsRefusedTo call statements cause n → WantsStep cause) → IsRefusedTo call statements cause (n + 1) → IsFirstRefused call statements cause n
 first_at call statements cause n some there before refused = record {
   there = there;
   refused = refused;
-  first = λ m less e. before (stays_refused call statements cause m n some less e);
+  first = λ m less e. some (before (stays_refused call statements cause m n (λ none. some (at_start call statements cause none)) less e));
 }
+
+-- where all are refused for something else, or for nothing, none is the first for this
+pub first_of_other : (call : Call) (statements : List Statement) (other cause : Cause) (n : ℕ) → IsFirstRefused call statements other n →
+    (other ≡ cause → ⊥) → IsFirst call statements cause None
+first_of_other call statements other cause n it differ m first =
+    differ (let both : (let r : Result (List FlatStep) Cause = Err other in r) ≡ Err cause
+    = sym (first_all call statements other n it) ∙ first_all call statements cause m first in cc)
+
+pub first_of_none : (call : Call) (statements : List Statement) (cause : Cause) →
+    ((other : Cause) → steps_of call statements ≡ Err other → WantsStep other) → IsFirst call statements cause None
+first_of_none call statements cause calm m first =
+    let wants : P NoStep ≡ cause = calm cause (first_all call statements cause m first) in
+    first.first 0 (omega arith)
+    (let h : IsRefusedTo call statements cause 0 = ap (λ c. let r : Result (List FlatStep) Cause = Err c in r) wants in h)

@@ -5,6 +5,8 @@ pub mod Cuts
 pub mod Judging
 pub mod Parts
 pub mod Places
+pub mod Short
 pub mod Spots
 pub mod Statements
+pub mod Tried
 pub mod Walks

@@ -1,19 +1,20 @@
 //! The statement of a called procedure for which the call is refused.
-ghost use Rattle.std.specs.Prelude.{◌≡◌, ◌≢◌, ◌≤◌, ◌∷◌, IfOk, Ok, Err, false, length, slice_get, take, true};
+ghost use Rattle.std.specs.Prelude.{◌≡◌, ◌∷◌, IfOk, Ok, slice_get, true};
 ghost use Rattle.std.specs.Option.{option_copied};
 ghost use Rattle.std.specs.Result.{result_ok};
 ghost use Rattle.card_core.specs.Deck.{statements_of};
 ghost use Rattle.jcl_deck.specs.Decks.{deck_of};
 ghost use Rattle.jcl_procs.specs.Bodies.{is_proc};
 ghost use Rattle.jcl_procs.specs.Calling.{call_of};
-ghost use Rattle.jcl_procs.specs.Calls.{steps_of};
 ghost use Rattle.jcl_procs.specs.Expansions.{in_deck};
 ghost use Rattle.deck_places.specs.Called.{IsCalled, IsCalledFor, IsCalledIn, IsFirst, StandsAmong, called_among, called_in, calling_by, calling_of};
 ghost use Rattle.deck_places.specs.Called.{found_in_deck, found_in_session, found_on, if_some, proc_of};
 ghost use Rattle.deck_places.specs.Calling.{StandsOnCards, called_of, denoted};
+ghost use Rattle.deck_places.specs.Tried.{AreTried, IsRefusal};
 
 use crate::copies::cut;
 use crate::same::is_same;
+use crate::short::{short_of, with_more};
 use crate::walk::walk_lines;
 use card_core::read::{ReadError as CardError, read_statements};
 use card_core::statement::{Card, Statement};
@@ -22,7 +23,7 @@ use jcl_cards::procedure::procedure_card;
 use jcl_deck::deck::{Deck, Procedure};
 use jcl_deck::operation::{Operation, operation_of};
 use jcl_deck::read::read_deck;
-use jcl_plan::fault::Cause;
+use jcl_plan::fault::{Cause, StatementFault};
 use jcl_procs::calls::{Caller, steps_of};
 use jcl_symbols::symbol::Symbol;
 use jname_core::name8::Name8;
@@ -48,10 +49,10 @@ pub struct CalledPlace {
 
 /// A call of a procedure: the name on the EXEC statement, and the symbols to which it gives values.
 #[derive(Drop)]
-struct Calling {
-    procedure: Name8,
-    name: Option<Name8>,
-    symbols: Listed<Symbol>,
+pub(crate) struct Calling {
+    pub(crate) procedure: Name8,
+    pub(crate) name: Option<Name8>,
+    pub(crate) symbols: Listed<Symbol>,
 }
 
 /// A procedure that is called.
@@ -86,7 +87,10 @@ fn calling_by(card: ExecCard) -> Option<Calling>
 }
 
 /// The call that a statement is.
-fn calling_of(alloc: Global, statement: &Statement) -> Result<Option<Calling>, AllocError>
+pub(crate) fn calling_of(
+    alloc: Global,
+    statement: &Statement,
+) -> Result<Option<Calling>, AllocError>
     ensures { IfOk result (λ calling. calling ≡ calling_of statement.now) }
 {
     match operation_of(statement.operation.as_slice()) {
@@ -105,7 +109,7 @@ fn calling_of(alloc: Global, statement: &Statement) -> Result<Option<Calling>, A
 }
 
 /// The deck that statements are.
-fn deck_in(alloc: Global, statements: &[Statement]) -> Result<Option<Deck>, AllocError>
+pub(crate) fn deck_in(alloc: Global, statements: &[Statement]) -> Result<Option<Deck>, AllocError>
     ensures { IfOk result (λ deck. deck ≡ result_ok (deck_of statements.now)) }
 {
     let copies = cut(alloc, statements, statements.len())?;
@@ -128,7 +132,7 @@ fn in_deck<'a>(procedures: &'a [Procedure], name: Name8) -> Option<&'a Procedure
     None
 }
 
-fn is_proc(statement: &Statement) -> bool
+pub(crate) fn is_proc(statement: &Statement) -> bool
     ensures { result ≡ is_proc statement.now }
 {
     match operation_of(statement.operation.as_slice()) {
@@ -149,24 +153,75 @@ fn proc_of(name: Name8, statements: &[Statement]) -> Option<usize>
     None
 }
 
-/// Whether the first statements of a procedure, so many, are refused for this at a call.
-fn is_refused_to(
+/// What statements that are read at a call are found to be.
+#[derive(Drop)]
+enum Tried {
+    /// They are taken so far: these stand for them.
+    Taken(Vec<Statement>),
+    Refused(Cause),
+}
+
+/// Reads statements at a call.
+fn read_part(
+    alloc: Global,
+    caller: &Caller<'_>,
+    statements: Vec<Statement>,
+) -> Result<Tried, AllocError>
+    ensures { IfOk result (AreTried (call_of caller.now) statements.items) }
+{
+    let own = Caller { ..*caller };
+    match steps_of(alloc, own, statements.as_slice()) {
+        Ok(_) => Ok(Tried::Taken(short_of(alloc, statements.as_slice())?)),
+        Err(ReadError::Refused(cause)) => {
+            if is_same(cause, Cause::P(StatementFault::NoStep)) {
+                Ok(Tried::Taken(statements))
+            } else {
+                Ok(Tried::Refused(cause))
+            }
+        }
+        Err(ReadError::Memory) => Err(AllocError),
+    }
+}
+
+/// A statement of a procedure with which a call is refused, and for what.
+#[derive(Clone, Copy)]
+pub(crate) struct Refusal {
+    pub(crate) statement: usize,
+    pub(crate) cause: Cause,
+}
+
+/// The first statement with which those of a procedure are refused at a call. What stands for those that are taken is read before the next.
+pub(crate) fn first_refusal(
     alloc: Global,
     caller: &Caller<'_>,
     statements: &[Statement],
-    n: usize,
-    cause: Cause,
-) -> Result<bool, AllocError>
-    requires { n ≤ length statements.now }
-    ensures same { IfOk result (λ r. r ≡ true → steps_of (call_of caller.now) (take n statements.now) ≡ Err cause) }
-    ensures other { IfOk result (λ r. r ≡ false → steps_of (call_of caller.now) (take n statements.now) ≢ Err cause) }
+) -> Result<Option<Refusal>, AllocError>
+    ensures { IfOk result (IsRefusal (call_of caller.now) statements.now) }
 {
-    let (first, _) = statements.split_at(n);
-    let own = Caller { ..*caller };
-    match steps_of(alloc, own, first) {
-        Ok(_) => Ok(false),
-        Err(ReadError::Refused(other)) => Ok(is_same(other, cause)),
-        Err(ReadError::Memory) => Err(AllocError),
+    let mut short = Vec::new(alloc);
+    let mut low = 0;
+    let mut high = statements.len() + 1;
+    let mut found = None;
+    while low + 1 < high {
+        let middle = low + (high - low) / 2;
+        let more = with_more(alloc, short.as_slice(), statements, low, middle)?;
+        match read_part(alloc, caller, more)? {
+            Tried::Taken(next) => {
+                short = next;
+                low = middle;
+            }
+            Tried::Refused(cause) => {
+                found = Some(cause);
+                high = middle;
+            }
+        }
+    }
+    match found {
+        Some(cause) => Ok(Some(Refusal {
+            statement: low,
+            cause,
+        })),
+        None => Ok(None),
     }
 }
 
@@ -179,23 +234,14 @@ fn first_refused(
 ) -> Result<Option<usize>, AllocError>
     ensures { IfOk result (IsFirst (call_of caller.now) statements.now cause) }
 {
-    if is_refused_to(alloc, caller, statements, 0, cause)? {
+    let Some(refusal) = first_refusal(alloc, caller, statements)? else {
         return Ok(None);
+    };
+    if is_same(refusal.cause, cause) {
+        Ok(Some(refusal.statement))
+    } else {
+        Ok(None)
     }
-    if !is_refused_to(alloc, caller, statements, statements.len(), cause)? {
-        return Ok(None);
-    }
-    let mut low = 0;
-    let mut high = statements.len();
-    while low + 1 < high {
-        let middle = low + (high - low) / 2;
-        if is_refused_to(alloc, caller, statements, middle, cause)? {
-            high = middle;
-        } else {
-            low = middle;
-        }
-    }
-    Ok(Some(low))
 }
 
 /// The card on which a statement begins, if one is asked for.
@@ -329,7 +375,7 @@ fn lent<'a>(alloc: Global, lines: &'a [Text]) -> Result<Vec<Lent<'a>>, AllocErro
 }
 
 /// The same of a procedure of the session.
-fn called_in_session(
+pub(crate) fn called_in_session(
     alloc: Global,
     library: &ProcLibrary,
     calling: &Calling,

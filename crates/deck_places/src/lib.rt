@@ -11,4 +11,5 @@ pub mod part;
 mod parts;
 mod refusing;
 mod same;
+mod short;
 pub mod walk;
