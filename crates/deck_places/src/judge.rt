@@ -159,6 +159,28 @@ fn judge_cards(alloc: Global, lines: &[Card<'_>], fault: CardFault) -> Result<Ju
     Ok(Judged::Refused(Cause::C(fault.number()), At::Card(n)))
 }
 
+/// The same as of `judge`. A statement that brings a refusal is looked for near this one first, if one is given.
+pub fn judge_near(
+    alloc: Global,
+    units: &UnitNames,
+    library: &ProcLibrary,
+    lines: &[Card<'_>],
+    near: Option<usize>,
+) -> Result<Judged, AllocError>
+    ensures { IfOk result (IsJudged units.now library.now lines.now) }
+{
+    let sources = Sources {
+        units,
+        library,
+        near,
+    };
+    match read_statements(alloc, lines) {
+        Ok(statements) => judge_statements(alloc, &sources, statements.as_slice()),
+        Err(CardError::Fault(fault)) => judge_cards(alloc, lines, fault),
+        Err(CardError::Memory) => Err(AllocError),
+    }
+}
+
 /// The job that the lines of a deck denote with these names of units and these procedures, or their first refusal, and where it is.
 pub fn judge(
     alloc: Global,
@@ -168,10 +190,5 @@ pub fn judge(
 ) -> Result<Judged, AllocError>
     ensures { IfOk result (IsJudged units.now library.now lines.now) }
 {
-    let sources = Sources { units, library };
-    match read_statements(alloc, lines) {
-        Ok(statements) => judge_statements(alloc, &sources, statements.as_slice()),
-        Err(CardError::Fault(fault)) => judge_cards(alloc, lines, fault),
-        Err(CardError::Memory) => Err(AllocError),
-    }
+    judge_near(alloc, units, library, lines, None)
 }

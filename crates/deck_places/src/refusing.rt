@@ -1,5 +1,5 @@
 //! Which statement brings a refusal of a deck's calls or of its plan.
-ghost use Rattle.std.specs.Prelude.{◌≡◌, IfOk, true};
+ghost use Rattle.std.specs.Prelude.{◌≡◌, ◌<◌, ◌+◌, IfOk, true};
 ghost use Rattle.deck_places.specs.Cuts.{BringsRefusal, cut, plan_part, refuses, refuses_deck};
 
 use crate::copies::cut;
@@ -20,6 +20,28 @@ use value_core::refusal::ReadError;
 pub(crate) struct Sources<'a> {
     pub(crate) units: &'a UnitNames,
     pub(crate) library: &'a ProcLibrary,
+    /// The statement near which one that brings a refusal is looked for first.
+    pub(crate) near: Option<usize>,
+}
+
+/// How many statements are tried next of those between two numbers: up to one near which the last that is wanted stands, then ever more behind it; else half.
+pub(crate) fn next_count(low: usize, high: usize, near: Option<usize>, width: usize) -> usize
+    requires { low + 1 < high }
+    ensures above { low < result }
+    ensures below { result < high }
+{
+    let half = low + (high - low) / 2;
+    let Some(near) = near else { return half };
+    let wanted = if low < near {
+        near
+    } else {
+        low.saturating_add(width)
+    };
+    if low < wanted && wanted < high {
+        wanted
+    } else {
+        half
+    }
 }
 
 /// The part of a plan that a refusal of it belongs to.
@@ -89,13 +111,15 @@ impl<'a> Sources<'a> {
     {
         let mut low = 0;
         let mut high = statements.len();
+        let mut width: usize = 1;
         while low + 1 < high {
-            let middle = low + (high - low) / 2;
+            let middle = next_count(low, high, self.near, width);
             if self.refuses_cut(alloc, part, statements, middle)? {
                 high = middle;
             } else {
                 low = middle;
             }
+            width = width.saturating_mul(2);
         }
         Ok(low)
     }

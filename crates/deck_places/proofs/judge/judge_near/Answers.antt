@@ -2,7 +2,7 @@ use Rattle.std.proofs.Common.{subst}
 use Rattle.std.specs.Prelude.{IfOk}
 use Rattle.deck_places.specs.Judging.{AreJudged}
 use Rattle.deck_places.proofs.Judged.{all_so}
-use Rattle.deck_places.proofs.judge.judge.Goals as goal
+use Rattle.deck_places.proofs.judge.judge_near.Goals as goal
 
 pub returns-in-Ok : goal.returns-in-Ok
 returns-in-Ok c =
