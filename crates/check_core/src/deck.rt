@@ -13,15 +13,18 @@ use crate::mark::spot_of;
 use crate::mended::Mended;
 use crate::report::{Checked, Report, Spot};
 use card_core::statement::Card;
-use deck_places::judge::{At, Judged, judge};
+use deck_places::judge::{At, Judged, judge, judge_near};
 use jcl_plan::fault::Cause;
 use jcl_refs::units::UnitNames;
 use plain::text::Text;
 use proc_library::library::ProcLibrary;
 use std::alloc::{AllocError, Global};
 
-/// The most that is told of one deck.
+/// The most refusals of one deck that are mended.
 pub const MOST_REPORTS: usize = 100;
+
+/// The most cards that are read to find those behind the first: of a deck of 10,000 cards a hundred refused statements are told, or twenty refused calls.
+pub const MOST_READ: usize = 1_000_000;
 
 /// What a deck is read with: the names of units, and the procedures of the session. The names of both stand beside them once more, from which one is
 /// guessed that may have been meant.
@@ -72,6 +75,43 @@ fn report_of(
     })
 }
 
+/// How often a deck is read, about, to find what comes behind a refusal there: the statement that brings that of a call or of a plan is tried for.
+fn readings_behind(at: At) -> usize {
+    match at {
+        At::Call(_) | At::Planned(_, _) => 5,
+        At::Card(_) | At::Statement(_) | At::End => 1,
+    }
+}
+
+/// The statement that brings a refusal of a call or of a plan.
+fn bringer_of(at: At) -> Option<usize> {
+    match at {
+        At::Call(k) | At::Planned(_, k) => Some(k),
+        At::Card(_) | At::Statement(_) | At::End => None,
+    }
+}
+
+/// The first refusal of a deck in which this place was mended, unless it is too far to read: what is left to be read is as much less.
+fn next_refusal(
+    alloc: Global,
+    sources: &Sources<'_>,
+    mended: &Mended,
+    at: At,
+    left: &mut usize,
+) -> Result<Option<(Cause, At)>, AllocError> {
+    let lent = mended.lent(alloc)?;
+    let lines = lent.as_slice();
+    let cards = lines.len().saturating_mul(readings_behind(at));
+    if *left < cards {
+        return Ok(None);
+    }
+    *left -= cards;
+    match judge_near(alloc, sources.units, sources.library, lines, bringer_of(at))? {
+        Judged::Taken(_) => Ok(None),
+        Judged::Refused(cause, at) => Ok(Some((cause, at))),
+    }
+}
+
 /// What else is wrong, once the first refusal is mended.
 fn later_of(
     alloc: Global,
@@ -81,20 +121,14 @@ fn later_of(
     at: At,
 ) -> Result<Vec<Report>, AllocError> {
     let mut later = Vec::new(alloc);
+    let mut left = MOST_READ;
     let mut cause = cause;
     let mut at = at;
     for _ in 0..MOST_REPORTS {
         if !mended.mend(alloc, cause, at)? {
             break;
         }
-        let lent = mended.lent(alloc)?;
-        let Judged::Refused(next, place) = judge(
-            alloc,
-            sources.units,
-            sources.library,
-            lent.as_slice(),
-        )?
-        else {
+        let Some((next, place)) = next_refusal(alloc, sources, mended, at, &mut left)? else {
             break;
         };
         cause = next;
