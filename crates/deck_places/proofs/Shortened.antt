@@ -20,7 +20,7 @@ use Rattle.operand_core.specs.Faults.{earlier, or_fault, told, when, written_nam
 use Rattle.operand_core.proofs.Told.{told_append}
 use Rattle.value_core.specs.Reads.{Read}
 use Rattle.deck_places.specs.Called.{IsRefusedTo}
-use Rattle.deck_places.specs.Short.{StandFor, is_exec, is_exec_by, short_from, short_of, with_next}
+use Rattle.deck_places.specs.Short.{StandFor, is_exec_by, short_from, short_of, with_next}
 use Rattle.deck_places.proofs.Alike.{AreAlike, Follow, alike_steps, behind_dd, follow_by, follow_from, has_none, has_none_behind, placed, some_step, turned, with_dd, with_step}
 
 abbrev begin : Place
