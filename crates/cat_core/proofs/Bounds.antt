@@ -11,9 +11,8 @@ use Rattle.std.specs.declared.ops.Bound.TheVariants.{Included, Excluded, Unbound
 use Rattle.std.proofs.lemmas.Bool.{and_parts, cond-true}
 use Rattle.std.proofs.lemmas.Map.Views.{any-filter_same}
 use Rattle.jname_core.specs.Characters.{is_digit}
-use Rattle.jname_core.specs.Generations.{base_of, before_suffix, generation_of, has_generation_form, is_suffix, suffix_number}
+use Rattle.jname_core.specs.Generations.{above_generations, base_of, before_suffix, below_generations, generation_of, has_generation_form, is_suffix, suffix_number}
 use Rattle.group_core.specs.declared.entry.CatEntry.{CatEntry}
-use Rattle.cat_core.specs.Bounds.{above_generations, below_generations}
 use Rattle.cat_core.specs.Catalogs.{enters_generation_of, is_generation_of, is_volume, name_cmp}
 
 -- the first pair decides where it differs, and else the rest

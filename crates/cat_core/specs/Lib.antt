@@ -1,4 +1,3 @@
-pub mod Bounds
 pub mod Catalogs
 pub mod Codes
 pub mod RefusalNumbers

@@ -7,13 +7,13 @@ ghost use Rattle.std.specs.declared.ops.Bound.TheVariants.{Excluded, Included, U
 ghost use Rattle.group_core.specs.declared.entry.CatEntry.TheVariants.{Volume};
 ghost use Rattle.group_core.specs.Entries.{group_in, volume_in};
 ghost use Rattle.group_core.specs.Groups.{RollsInRange};
-ghost use Rattle.cat_core.specs.Bounds.{above_generations, below_generations};
+ghost use Rattle.jname_core.specs.Generations.{above_generations, below_generations};
 ghost use Rattle.cat_core.specs.Catalogs.{Gives, catalog_fault, contents_of, entered_name, enters_generation_of, entry_among, entry_with, entry_within, entry_without, found, generation_entered, generation_entered_by, group_made, group_of, has_generation_entered, is_entered, is_generation_of, is_volume, member_of, name_cmp, name_removed, relative, with_generation, with_group, with_name, without_name, without_number};
 
 use crate::fault::CatFault;
 use group_core::entry::CatEntry;
 use group_core::group::{Group, GroupFault, Rolled};
-use jname_core::ds_name::{DsName, MOST_CHARACTERS, read_ds_name};
+use jname_core::ds_name::DsName;
 use jname_core::key::Sign;
 use jname_core::serial::Serial;
 use std::alloc::{AllocError, Global};
@@ -84,44 +84,6 @@ fn enters_generation_of(base: &DsName, name: &DsName, entry: &CatEntry) -> bool
     is_volume(entry) && is_generation_of(base, name)
 }
 
-/// Nine characters behind a base, and what is left of the room.
-fn joined(base: &[u8], end: &[u8; 9]) -> [u8; MOST_CHARACTERS + 9]
-    requires { length base.now ≤ 44 }
-    ensures { take (length base.now + 9) result ≡ base.now ++ end.now }
-{
-    let mut text = [0u8; MOST_CHARACTERS + 9];
-    let len = base.len();
-    text[..len].copy_from_slice(base);
-    text[len..len + 9].copy_from_slice(end);
-    text
-}
-
-/// The name that nine characters make behind a base, where it is one.
-fn name_behind(base: &DsName, end: &[u8; 9]) -> Option<DsName>
-    ensures { IfSome result (λ name. name ≡ base.now ++ end.now) }
-{
-    let base = base.as_slice();
-    let text = joined(base, end);
-    match read_ds_name(&text[..base.len() + 9]) {
-        Ok(name) => Some(name),
-        Err(_) => None,
-    }
-}
-
-/// Two names between which each generation of a base stands. Behind a base of over 35 characters nothing makes a name.
-pub fn generation_bounds(base: &DsName) -> Option<(DsName, DsName)>
-    ensures below { IfSome result (λ bounds. bounds.0 ≡ below_generations base.now) }
-    ensures above { IfSome result (λ bounds. bounds.1 ≡ above_generations base.now) }
-{
-    match (
-        name_behind(base, b".G0000V0#"),
-        name_behind(base, b".G9999V9A"),
-    ) {
-        (Some(below), Some(above)) => Some((below, above)),
-        _ => None,
-    }
-}
-
 /// Whether a generation of the base is entered as a plain name, by the names between two that stand around them all.
 fn has_generation_between(entries: &Entries, base: &DsName, below: DsName, above: DsName) -> bool
     requires below { below ≡ below_generations base.now }
@@ -146,7 +108,7 @@ fn has_generation_among_all(entries: &Entries, base: &DsName) -> bool
 fn has_generation_entered(entries: &Entries, base: &DsName) -> bool
     ensures { result ≡ has_generation_entered (contents_of entries.now.entries) base.now }
 {
-    match generation_bounds(base) {
+    match base.generation_bounds() {
         Some((below, above)) => has_generation_between(entries, base, below, above),
         None => has_generation_among_all(entries, base),
     }

@@ -48,6 +48,15 @@ component_of_suffix n h =
 pub dotted_generation : (base : List ℕ) (n : ℕ) → IsDotted 44 base → length base ≤ 35 → n ≤ 9999 → IsDotted 44 (base ++ suffix_for n)
 dotted_generation base n h l k = dotted_joined 44 base (drop 1 (suffix_for n)) h (component_of_suffix n k) (omega arith)
 
+-- the names below and above all generations of a base
+pub dotted_below : (base : List ℕ) → IsDotted 44 base → length base ≤ 35 → IsDotted 44 (base ++ codes ".G0000V0#")
+dotted_below base h l =
+    dotted_joined 44 base (codes "G0000V0#") h ((refl, (refl, (refl, (refl, (refl, (refl, (refl, (refl, tt))))))), omega arith), tt) (omega arith)
+
+pub dotted_above : (base : List ℕ) → IsDotted 44 base → length base ≤ 35 → IsDotted 44 (base ++ codes ".G9999V9A")
+dotted_above base h l =
+    dotted_joined 44 base (codes "G9999V9A") h ((refl, (refl, (refl, (refl, (refl, (refl, (refl, (refl, tt))))))), omega arith), tt) (omega arith)
+
 -- what the test of nine characters tells of each
 suffix_parts : (period g a b c d v e f : ℕ) → IsTrue (is_suffix (period ∷ g ∷ a ∷ b ∷ c ∷ d ∷ v ∷ e ∷ f ∷ [])) →
     (period ≡ 46) × (g ≡ 71) × IsTrue (is_digit a) × IsTrue (is_digit b) × IsTrue (is_digit c) × IsTrue (is_digit d) × (v ≡ 86) × IsTrue (is_digit e) × IsTrue (is_digit f)

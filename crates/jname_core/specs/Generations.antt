@@ -51,3 +51,10 @@ generation_of text = if has_generation_form text then Some (suffix_number (drop 
 -- the name under which a data set name is held: a generation's base, and else the name itself
 abbrev pub base_of : List ℕ → List ℕ
 base_of text = if has_generation_form text then take (before_suffix text) text else text
+
+-- two names between which each generation of a base stands, in byte order
+abbrev pub below_generations : List ℕ → List ℕ
+below_generations base = base ++ codes ".G0000V0#"
+
+abbrev pub above_generations : List ℕ → List ℕ
+above_generations base = base ++ codes ".G9999V9A"

@@ -2,7 +2,7 @@
 ghost use Rattle.std.specs.Prelude.{◌≡◌, ◌↔◌, ◌+◌, ◌≤◌, ◌<◌, ◌&&◌, ◌++◌, ℕ, List, false, Some, None, IsSome, IsTrue, is_some, IfSome, MatchResult, MatchOption, codes, length, take, drop};
 ghost use Rattle.jname_core.specs.Characters.{is_digit};
 ghost use Rattle.jname_core.specs.Faults.{ds_name_fault, has_bad_component, has_empty_component, has_long_component, name8_fault, unit_name_fault};
-ghost use Rattle.jname_core.specs.Generations.{base_of, generation_name, generation_of, has_generation_form, is_bad_generation, before_suffix, is_suffix, suffix_number, suffix_version, number_of_digits, four_digits};
+ghost use Rattle.jname_core.specs.Generations.{above_generations, base_of, below_generations, generation_name, generation_of, has_generation_form, is_bad_generation, before_suffix, is_suffix, suffix_number, suffix_version, number_of_digits, four_digits};
 ghost use Rattle.jname_core.specs.Grammar.{IsDotted, IsDsNameWithin, IsName8, IsUnitName};
 
 use crate::character::is_digit;
@@ -243,6 +243,24 @@ impl DsName {
         Some(DsName {
             text: joined(base, &suffix_of(number)),
         })
+    }
+
+    /// Two names between which each generation of this base stands. Behind a base of over 35 characters nothing makes a name.
+    pub fn generation_bounds(&self) -> Option<(DsName, DsName)>
+        ensures below { IfSome result (λ bounds. bounds.0 ≡ below_generations self.now) }
+        ensures above { IfSome result (λ bounds. bounds.1 ≡ above_generations self.now) }
+    {
+        let base = self.as_slice();
+        if base.len() > MOST_OF_A_BASE {
+            return None;
+        }
+        let below = DsName {
+            text: joined(base, b".G0000V0#"),
+        };
+        let above = DsName {
+            text: joined(base, b".G9999V9A"),
+        };
+        Some((below, above))
     }
 }
 

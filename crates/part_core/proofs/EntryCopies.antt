@@ -11,7 +11,7 @@ use Rattle.std.proofs.lemmas.Map.Text.{is_eq-slice_cmp}
 use Rattle.jname_core.specs.Generations.{base_of, has_generation_form}
 use Rattle.group_core.specs.declared.entry.CatEntry.{CatEntry}
 use Rattle.group_core.specs.declared.entry.CatEntry.TheVariants.{Volume, Group}
-use Rattle.cat_core.specs.Bounds.{above_generations, below_generations}
+use Rattle.jname_core.specs.Generations.{above_generations, below_generations}
 use Rattle.cat_core.specs.Catalogs.{Contents, entry_among, entry_within, is_generation_of, name_cmp}
 use Rattle.cat_core.proofs.Bounds.{behind_base, in_range}
 use Rattle.jcl_meaning.specs.declared.names.HeldName.{HeldName}

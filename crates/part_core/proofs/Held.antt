@@ -10,7 +10,7 @@ use Rattle.std.proofs.lemmas.Bool.{and_parts, cond-false}
 use Rattle.jname_core.specs.declared.key.Key.{Key}
 use Rattle.jname_core.specs.declared.key.Key.TheVariants.{Named, Relative, Temporary, Unnamed}
 use Rattle.jname_core.specs.Generations.{base_of, has_generation_form}
-use Rattle.cat_core.specs.Bounds.{above_generations, below_generations}
+use Rattle.jname_core.specs.Generations.{above_generations, below_generations}
 use Rattle.cat_core.specs.Catalogs.{is_generation_of, name_cmp}
 use Rattle.cat_core.proofs.Bounds.{behind_base, in_range}
 use Rattle.vtoc_core.specs.declared.entry.SetEntry.{SetEntry}

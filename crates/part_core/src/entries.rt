@@ -3,11 +3,11 @@ ghost use Rattle.std.specs.Prelude.{◌≡◌, ◌++◌, ℕ, List, IfOk, IfSome
 ghost use Rattle.std.specs.FinMap as map;
 ghost use Rattle.jcl_meaning.specs.Parts.{seen_entry};
 ghost use Rattle.jcl_meaning.specs.Stores.{entry_in};
-ghost use Rattle.cat_core.specs.Bounds.{above_generations, below_generations};
+ghost use Rattle.jname_core.specs.Generations.{above_generations, below_generations};
 ghost use Rattle.cat_core.specs.Catalogs.{entry_among, is_generation_of};
 ghost use Rattle.part_core.specs.Copies.{AddsEntries, copies_of_entries, copies_of_entry, is_of_name, is_of_some};
 
-use cat_core::catalog::{Catalog, generation_bounds};
+use cat_core::catalog::Catalog;
 use group_core::entry::CatEntry;
 use jcl_meaning::names::HeldName;
 use jcl_meaning::store::SoloEntry;
@@ -68,7 +68,7 @@ fn generation_entries<'a>(catalog: &'a Catalog, base: &DsName) -> Range<'a, DsNa
     ensures there { (name : List ℕ) → IfSome (entry_among result name) (λ e. map.get catalog.now name ≡ Some e) }
     ensures all { (name : List ℕ) → is_generation_of base.now name ≡ true → entry_among result name ≡ map.get catalog.now name }
 {
-    match generation_bounds(base) {
+    match base.generation_bounds() {
         Some((below, above)) => entries_between(catalog, base, below, above),
         None => catalog.entries_from(*base),
     }

@@ -4,7 +4,7 @@ ghost use Rattle.std.specs.FinMap as map;
 ghost use Rattle.std.specs.Option.{option_copied};
 ghost use Rattle.jcl_meaning.specs.Names.{held_under};
 ghost use Rattle.jcl_meaning.specs.Parts.{sees_key};
-ghost use Rattle.cat_core.specs.Bounds.{above_generations, below_generations};
+ghost use Rattle.jname_core.specs.Generations.{above_generations, below_generations};
 ghost use Rattle.cat_core.specs.Catalogs.{is_generation_of};
 ghost use Rattle.vtoc_core.specs.Entries.{set_among};
 ghost use Rattle.vtoc_core.specs.declared.entry.SetKey.{SetKey};
@@ -12,7 +12,6 @@ ghost use Rattle.vtoc_core.specs.declared.entry.SetKey.TheVariants.{Named};
 ghost use Rattle.part_core.specs.Copies.{AddsSets, IsNamed, bare, bare_on, copies_of_named, copies_of_sets, copy_of_set, is_under, is_under_some};
 
 use crate::seen::{is_under, job_key};
-use cat_core::catalog::generation_bounds;
 use jcl_meaning::names::HeldName;
 use jcl_meaning::store::{DataSet, SoloSet};
 use jname_core::ds_name::{DsName, read_ds_name};
@@ -116,7 +115,7 @@ fn generation_sets<'a>(volume: &'a Volume, base: &DsName) -> Range<'a, SetKey, S
     ensures there { (key : SetKey) → IfSome (set_among result key) (λ e. map.get volume.now.sets key ≡ Some e) }
     ensures all { (name : List ℕ) → is_generation_of base.now name ≡ true → set_among result (Named name) ≡ map.get volume.now.sets (Named name) }
 {
-    match generation_bounds(base) {
+    match base.generation_bounds() {
         Some((below, above)) => sets_between(volume, base, below, above),
         None => volume.sets_from(SetKey::Named(*base)),
     }
