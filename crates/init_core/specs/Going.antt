@@ -6,17 +6,26 @@ use Rattle.enq_core.specs.Holds.{HoldsNone}
 use Rattle.cb_queue.specs.RecordQueues.{RecordQueue}
 use Rattle.world_meaning.specs.Choices.{choice_of_going}
 use Rattle.world_meaning.specs.Records.{Reopened}
+use Rattle.world_meaning.specs.Lenses.{seen}
 use Rattle.world_meaning.specs.Transitions as world
+use Rattle.world_meaning.specs.Turns.{has_cancel}
 use Rattle.world_meaning.specs.Worlds.{Config, Shared}
+use Rattle.shared_core.specs.Shown.{world_store_of}
+use Rattle.turn_core.specs.Standing.{JobEnds}
+use Rattle.turn_core.specs.declared.walk.Walk.{Walk}
+use Rattle.admit_core.specs.Admissions.{named_of}
+use Rattle.admit_core.specs.declared.admission.AdmittedJob.{AdmittedJob}
 use Rattle.machine_core.specs.declared.parts.Parts.{Parts}
 use Rattle.machine_core.specs.Shown.{shown}
+use Rattle.init_core.specs.declared.running.Profile.{Profile}
 use Rattle.init_core.specs.declared.running.Progress.{Progress}
 use Rattle.init_core.specs.declared.running.Progress.TheVariants.{GoesOn}
 use Rattle.init_core.specs.declared.running.Running.{Running}
 use Rattle.init_core.specs.declared.running.Stage.{Stage}
-use Rattle.init_core.specs.declared.running.Stage.TheVariants.{Named}
+use Rattle.init_core.specs.declared.running.Stage.TheVariants.{Admitted, Named}
 use Rattle.init_core.specs.Choosing.{IsChosenByVolumes}
-use Rattle.init_core.specs.Running.{IsGood, IsReady, lines_told, path_told, runs_after, shown_running}
+use Rattle.init_core.specs.Running.{IsGood, IsReady, config_of, lines_told, path_told, runs_after, shown_running}
+use Rattle.init_core.specs.Turning.{around_in}
 
 -- the job that goes on is at its place, and one that is over holds no name
 pub record IsOn (c : Config) (holds : List Hold) (job : ℕ) (r : Running) : Type 0 where
@@ -53,3 +62,16 @@ pub record Went {Q : Type 0} (queue_of : Q → RecordQueue) (c : Config) (old : 
   pub good : IsGood queue_of c new
   pub left : IsLeft c new.names r.job (runs_after came)
   pub rest : LeavesRest queue_of r.job old new
+
+-- A turn of an admitted job in its place: it went on, and the lines that it wrote begin there; or its END is due, and nothing has changed.
+abbrev pub ActsInPlace : {Q : Type 0} → (Q → RecordQueue) → Profile → Parts Q → ℕ → AdmittedJob → Walk → Parts Q → Walk → Option ℕ → Type 0
+ActsInPlace queue_of profile old job a before new after (Some from) =
+    Went queue_of (config_of profile (queue_of old.queue).layout) old (record { job = job; walk = before; stage = Admitted a }) new
+    (GoesOn (record { job = job; walk = after; stage = Admitted a }) from)
+ActsInPlace queue_of profile old job a before new after None = (new ≡ old) × (after ≡ before)
+    × JobEnds (around_in profile old.units job a (has_cancel old.cancels job) old.store) (named_of a).plan (seen job (world_store_of old.store)) before
+
+-- A turn of a job in its place: so it went on; or nothing has changed, and it is still to go on.
+abbrev pub WentInPlace : {Q : Type 0} → (Q → RecordQueue) → Config → Parts Q → Running → Parts Q → Running → Option ℕ → Type 0
+WentInPlace queue_of c old before new after (Some from) = Went queue_of c old before new (GoesOn after from)
+WentInPlace queue_of c old before new after None = (new ≡ old) × (after ≡ before)

@@ -1,6 +1,6 @@
 //! A job's turn.
 ghost use Rattle.std.specs.Prelude.{◌≡◌, IfErr, IfOk, OnErr};
-ghost use Rattle.init_core.specs.Going.{Went};
+ghost use Rattle.init_core.specs.Going.{Went, WentInPlace};
 ghost use Rattle.init_core.specs.Providing.{IsProvided};
 ghost use Rattle.init_core.specs.Running.{IsGood, IsReady, config_of};
 
@@ -8,10 +8,10 @@ use crate::admission::admit_job;
 use crate::names::want;
 use crate::read::read;
 use crate::running::{Profile, Progress, Running, Stage};
-use crate::turn::advance;
+use crate::turn::{act, advance};
 use cb_queue::store::RecordStore;
 use machine_core::parts::Parts;
-use std::alloc::Global;
+use std::alloc::{AllocError, Global};
 
 /// A turn of a job at an initiator: what it leaves of the parts, and the job, where it is not over, with the lines that it wrote. Where memory is wanting
 /// the job is given back as it was, and the parts are as they were.
@@ -41,5 +41,28 @@ pub fn go_on<Q: RecordStore>(
         },
         Stage::Named(named) => admit_job(alloc, parts, profile, job, walk, named),
         Stage::Admitted(admitted) => advance(alloc, parts, profile, job, walk, admitted),
+    }
+}
+
+/// A turn of a job in its place, where it is admitted and is not over by it: where the lines begin that it wrote. With none it is still to go on; then, and
+/// on an `Err`, nothing has changed.
+pub fn go_on_in_place<Q: RecordStore>(
+    alloc: Global,
+    parts: &mut Parts<Q>,
+    profile: &Profile<'_>,
+    running: &mut Running,
+) -> Result<Option<usize>, AllocError>
+    requires good { IsGood Q.queue (config_of profile.now (Q.queue parts.old.queue).layout) parts.old }
+    requires ready { IsReady (config_of profile.now (Q.queue parts.old.queue).layout) parts.old.names running.old }
+    requires provided { IsProvided Q.queue (config_of profile.now (Q.queue parts.old.queue).layout) parts.old running.old }
+    ensures ok { IfOk result (WentInPlace Q.queue (config_of profile.now (Q.queue parts.old.queue).layout) parts.old running.old parts.new running.new) }
+    ensures err { OnErr result ((parts.new ≡ parts.old) × (running.new ≡ running.old)) }
+{
+    let Running { job, walk, stage } = running;
+    match stage {
+        Stage::Admitted(admitted) => act(alloc, parts, profile, *job, walk, admitted),
+        Stage::Selected { .. } => Ok(None),
+        Stage::Wanting { .. } => Ok(None),
+        Stage::Named(_) => Ok(None),
     }
 }

@@ -8,7 +8,7 @@ ghost use Rattle.disp_core.specs.Grants.{made_of};
 ghost use Rattle.admit_core.specs.Admissions.{fixed_for, given_to, named_of};
 ghost use Rattle.turn_core.specs.Standing.{Stands};
 ghost use Rattle.turn_core.specs.Turning.{acts, made_in, operations_by};
-ghost use Rattle.init_core.specs.Going.{Went};
+ghost use Rattle.init_core.specs.Going.{ActsInPlace, Went};
 ghost use Rattle.init_core.specs.Providing.{IsProvided};
 ghost use Rattle.init_core.specs.Running.{IsAt, IsGood, config_of};
 ghost use Rattle.init_core.specs.Turning.{IsEnded, IsWritten, TellsTurn};
@@ -146,6 +146,49 @@ fn end<Q: RecordStore>(
     }
 }
 
+/// A turn of an admitted job in its place: where the lines begin that it wrote, or none where its END is due. Then, and on an `Err`, nothing has changed.
+pub(crate) fn act<Q: RecordStore>(
+    alloc: Global,
+    parts: &mut Parts<Q>,
+    profile: &Profile<'_>,
+    job: u16,
+    walk: &mut Walk,
+    admitted: &AdmittedJob,
+) -> Result<Option<usize>, AllocError>
+    requires some { job ≢ 0 }
+    requires at { IsAt (config_of profile.now (Q.queue parts.old.queue).layout) parts.old.names job walk.old (stage.Admitted admitted.now) }
+    requires good { IsGood Q.queue (config_of profile.now (Q.queue parts.old.queue).layout) parts.old }
+    requires provided { IsProvided Q.queue (config_of profile.now (Q.queue parts.old.queue).layout) parts.old
+        (record { job = job; walk = walk.old; stage = stage.Admitted admitted.now }) }
+    ensures ok { IfOk result (ActsInPlace Q.queue profile.now parts.old job admitted.now walk.old parts.new walk.new) }
+    ensures err { OnErr result ((parts.new ≡ parts.old) × (walk.new ≡ walk.old)) }
+{
+    waits_advance();
+    acts_advance();
+    few_lines();
+    granted_turns();
+    operations_are_apart(&parts.units);
+    let from = walk.course.lines.len();
+    let cancelled = parts.cancels.has(job);
+    match take_turn(
+        alloc,
+        profile,
+        &mut parts.store,
+        &parts.units,
+        admitted,
+        walk,
+        cancelled,
+    ) {
+        Ok(Turned::Waits) => Ok(Some(from)),
+        Ok(Turned::Acts(acted)) => {
+            enter_acted(&mut parts.units, &mut parts.cancels, job, &acted);
+            Ok(Some(from))
+        }
+        Ok(Turned::Ends) => Ok(None),
+        Err(_) => Err(AllocError),
+    }
+}
+
 /// A turn of an admitted job. Where memory is wanting the job is given back as it was, and nothing has changed.
 pub(crate) fn advance<Q: RecordStore>(
     alloc: Global,
@@ -165,35 +208,13 @@ pub(crate) fn advance<Q: RecordStore>(
     ensures err { IfErr result (λ r. r ≡ record { job = job; walk = walk; stage = stage.Admitted admitted }) }
     ensures same { OnErr result (parts.new ≡ parts.old) }
 {
-    waits_advance();
-    acts_advance();
     ends_advance();
-    few_lines();
-    granted_turns();
-    operations_are_apart(&parts.units);
-    let from = walk.course.lines.len();
-    let cancelled = parts.cancels.has(job);
-    match take_turn(
-        alloc,
-        profile,
-        &mut parts.store,
-        &parts.units,
-        &admitted,
-        &mut walk,
-        cancelled,
-    ) {
-        Ok(Turned::Waits) => Ok(Progress::GoesOn {
+    match act(alloc, parts, profile, job, &mut walk, &admitted) {
+        Ok(Some(from)) => Ok(Progress::GoesOn {
             job: running(job, walk, admitted),
             from,
         }),
-        Ok(Turned::Acts(acted)) => {
-            enter_acted(&mut parts.units, &mut parts.cancels, job, &acted);
-            Ok(Progress::GoesOn {
-                job: running(job, walk, admitted),
-                from,
-            })
-        }
-        Ok(Turned::Ends) => end(parts, job, walk, admitted),
+        Ok(None) => end(parts, job, walk, admitted),
         Err(_) => Err(running(job, walk, admitted)),
     }
 }

@@ -12,7 +12,7 @@ ghost use Rattle.sched_core.specs.Copies.{unless_risk};
 ghost use Rattle.sched_core.specs.Events.{ActsAt, Answers};
 ghost use Rattle.sched_core.specs.Explaining.{most_explained};
 ghost use Rattle.sched_core.specs.Fits.{IsFit, IsKept};
-ghost use Rattle.sched_core.specs.Going.{TurnsAt, TurnsJob};
+ghost use Rattle.sched_core.specs.Going.{HasRoomFor, TurnsAt, TurnsJob};
 ghost use Rattle.sched_core.specs.Machines.{RunsIn, config_in, world_in};
 ghost use Rattle.sched_core.specs.Systems.{IsSameMachine};
 ghost use Rattle.sched_core.specs.declared.fault.ApplyFault.TheVariants.{Refused};
@@ -23,7 +23,7 @@ use crate::seating::seat;
 use crate::state::{Initiator, State};
 use admit_core::budget::budget_of;
 use cb_queue::store::RecordStore;
-use init_core::go_on::go_on;
+use init_core::go_on::{go_on, go_on_in_place};
 use init_core::running::{Profile, Progress, Running, Stage, Told};
 use jcl_plan::entry::{Entry, JobLine};
 use machine_core::parts::Parts;
@@ -108,8 +108,7 @@ fn room_for(
     profile: &Profile<'_>,
     running: &Running,
 ) -> Result<Vec<Entry>, AllocError>
-    ensures items { IfOk result (λ entries. (entries.items ≡ []) × (vec_len entries ≡ 0)) }
-    ensures room { IfOk result (λ entries. 2 + length running.now.walk.course.own.dds + most_explained profile.now running.now ≤ vec_capacity entries) }
+    ensures { IfOk result (HasRoomFor profile.now running.now) }
 {
     let explained = most_explained(profile, running)?;
     let Some(lines) = running.walk.course.own.dds.len().checked_add(2) else {
@@ -121,16 +120,17 @@ fn room_for(
     Vec::with_capacity(alloc, count)
 }
 
-/// A turn of the job of an initiator. An `Err` changes nothing.
-fn turn_of<Q: RecordStore>(
+/// A turn of the job of an initiator by which it may leave: it is read, has its names, is admitted or is over. An `Err` changes nothing.
+fn turn_away<Q: RecordStore>(
     alloc: Global,
     parts: &mut Parts<Q>,
     profile: &Profile<'_>,
     x: &mut Initiator,
+    mut entries: Vec<Entry>,
 ) -> Result<Listed<Entry>, AllocError>
     requires good { IsGood Q.queue (config_of profile.now (Q.queue parts.old.queue).layout) parts.old }
     requires runs { (r : Running) × (x.old.running ≡ Some r) × IsReady (config_of profile.now (Q.queue parts.old.queue).layout) parts.old.names r
-        × IsProvided Q.queue (config_of profile.now (Q.queue parts.old.queue).layout) parts.old r }
+        × IsProvided Q.queue (config_of profile.now (Q.queue parts.old.queue).layout) parts.old r × HasRoomFor profile.now r entries }
     ensures ok { IfOk result (TurnsJob Q.queue (config_of profile.now (Q.queue parts.old.queue).layout) parts.old x.old parts.new x.new) }
     ensures err { OnErr result ((parts.new ≡ parts.old) × (x.new ≡ x.old)) }
 {
@@ -139,10 +139,6 @@ fn turn_of<Q: RecordStore>(
     };
     explanation_is_few();
     let job = running.job;
-    let Ok(mut entries) = room_for(alloc, profile, &running) else {
-        seat(x, Some(running));
-        return Err(AllocError);
-    };
     match go_on(alloc, parts, profile, running) {
         Ok(Progress::GoesOn { job: running, from }) => {
             tell(&mut entries, job, running.lines_from(from));
@@ -162,6 +158,32 @@ fn turn_of<Q: RecordStore>(
             seat(x, Some(running));
             Err(AllocError)
         }
+    }
+}
+
+/// A turn of the job of an initiator. An `Err` changes nothing.
+fn turn_of<Q: RecordStore>(
+    alloc: Global,
+    parts: &mut Parts<Q>,
+    profile: &Profile<'_>,
+    x: &mut Initiator,
+) -> Result<Listed<Entry>, AllocError>
+    requires good { IsGood Q.queue (config_of profile.now (Q.queue parts.old.queue).layout) parts.old }
+    requires runs { (r : Running) × (x.old.running ≡ Some r) × IsReady (config_of profile.now (Q.queue parts.old.queue).layout) parts.old.names r
+        × IsProvided Q.queue (config_of profile.now (Q.queue parts.old.queue).layout) parts.old r }
+    ensures ok { IfOk result (TurnsJob Q.queue (config_of profile.now (Q.queue parts.old.queue).layout) parts.old x.old parts.new x.new) }
+    ensures err { OnErr result ((parts.new ≡ parts.old) × (x.new ≡ x.old)) }
+{
+    let Some(running) = &mut x.running else {
+        unreachable!();
+    };
+    let mut entries = room_for(alloc, profile, running)?;
+    match go_on_in_place(alloc, parts, profile, running)? {
+        Some(from) => {
+            tell(&mut entries, running.job, running.lines_from(from));
+            Ok(Listed::new(entries))
+        }
+        None => turn_away(alloc, parts, profile, x, entries),
     }
 }
 

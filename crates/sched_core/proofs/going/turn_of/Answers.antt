@@ -1,10 +1,7 @@
-use Rattle.std.proofs.Common.{◌≡◌, ◌≤◌, All, Some, arith, length, subst, sym}
-use Rattle.init_core.specs.Going.{Went}
-use Rattle.init_core.specs.Running.{config_of, path_before}
-use Rattle.init_core.specs.declared.running.Progress.TheVariants.{Answered, Over}
+use Rattle.std.proofs.Common.{◌≡◌, All, Some, subst, sym}
+use Rattle.init_core.specs.Going.{WentInPlace}
+use Rattle.init_core.specs.Running.{config_of}
 use Rattle.sched_core.specs.Copies.{unless_risk}
-use Rattle.sched_core.specs.Explaining.{most_explained}
-use Rattle.sched_core.proofs.Explained.{few_paths}
 use Rattle.sched_core.proofs.Risks.{no_risk}
 use Rattle.sched_core.proofs.going.turn_of.Goals as goal
 
@@ -13,31 +10,6 @@ tell-requires-clause-no_risk g c =
     let queue_of = g.Q.RecordStore.queue in
     let config = config_of c.args.profile.now (queue_of c.args.parts.now.queue).layout in
     subst (All (λ l. unless_risk l ≡ Some l)) (sym c.lines_from.ensures)
-    (no_risk queue_of config c.args.parts.now c.in-Some.running c.go_on.new.parts c.in-Ok-GoesOn.running c.in-Ok-GoesOn.from
-    (subst (Went queue_of config c.args.parts.now c.in-Some.running c.go_on.new.parts) c.in-Ok-GoesOn.field-0-is c.in-Ok-GoesOn.ensures.ok))
-
-pub tell_answer-requires : goal.tell_answer-requires
-tell_answer-requires g c =
-    let queue_of = g.Q.RecordStore.queue in
-    let layout = (queue_of c.args.parts.now.queue).layout in
-    let went = subst (Went queue_of (config_of c.args.profile.now layout) c.args.parts.now c.in-Some.running c.go_on.new.parts) c.in-Ok-Answered.field-0-is
-    c.in-Ok-Answered.ensures.ok in
-    let few : length c.in-Ok-Answered.told.path ≤ most_explained c.args.profile.now c.in-Some.running =
-    few_paths c.explanation_is_few.ensures queue_of c.args.profile.now layout c.args.parts.now c.in-Some.running c.go_on.new.parts
-    (Answered c.in-Ok-Answered.running c.in-Ok-Answered.told) went in
-    let none = c.in-Ok.ensures.items.1 in
-    let room = c.in-Ok.ensures.room in
-    omega (arith, few, none, room)
-
-pub tell_end-requires : goal.tell_end-requires
-tell_end-requires g c =
-    let queue_of = g.Q.RecordStore.queue in
-    let layout = (queue_of c.args.parts.now.queue).layout in
-    let went = subst (Went queue_of (config_of c.args.profile.now layout) c.args.parts.now c.in-Some.running c.go_on.new.parts) c.in-Ok-Over.field-0-is
-    c.in-Ok-Over.ensures.ok in
-    let few : length (path_before c.in-Ok-Over.before) ≤ most_explained c.args.profile.now c.in-Some.running =
-    few_paths c.explanation_is_few.ensures queue_of c.args.profile.now layout c.args.parts.now c.in-Some.running c.go_on.new.parts
-    (Over c.in-Ok-Over.before c.in-Ok-Over.last) went in
-    let none = c.in-Ok.ensures.items.1 in
-    let room = c.in-Ok.ensures.room in
-    omega (arith, few, none, room)
+    (no_risk queue_of config c.args.parts.now c.in-Some.running c.go_on_in_place.new.parts c.go_on_in_place.new.running c.in-Some-2.from
+    (subst (WentInPlace queue_of config c.args.parts.now c.in-Some.running c.go_on_in_place.new.parts c.go_on_in_place.new.running) c.in-Some-2.is
+    c.in_ok-from.ensures.ok))
