@@ -8,3 +8,4 @@ pub mod Left
 pub mod Counts
 pub mod StepLists
 pub mod PlannedDds
+pub mod Asked

@@ -1,9 +1,9 @@
 //! The plan of a job. (This profile)
-ghost use Rattle.std.specs.Prelude.{◌≡◌, ◌+◌, ◌≤◌, [], length, map, nat_lt, IfOk, OnOk, count_by};
-ghost use Rattle.std.specs.List.{All};
+ghost use Rattle.std.specs.Prelude.{◌≡◌, ◌+◌, ◌≤◌, [], length, map, nat_lt, IfOk, IfSome, OnOk, count_by, true};
+ghost use Rattle.std.specs.List.{All, flat_map};
 ghost use Rattle.value_core.specs.Reads.{Gives};
 ghost use Rattle.jcl_plan.specs.declared.fault.Cause.TheVariants.{P};
-ghost use Rattle.jcl_meaning.specs.Names.{names_of};
+ghost use Rattle.jcl_meaning.specs.Names.{dd_names, names_of, wanted_by};
 ghost use Rattle.jcl_refs.specs.Plans.{job_with, kinds_in, most_names, plan_of, with_dds_left};
 ghost use Rattle.jcl_refs.specs.Planning.{counts_in, has_many_dd_names, job_by, looks_for_later, plan_with, planned_counts, step_by, steps_by, with_units};
 
@@ -15,9 +15,9 @@ use crate::units::UnitNames;
 use jcl_cards::coded::Coded;
 use jcl_cards::dd::DdCard;
 use jcl_cards::job::JobCard;
-use jcl_meaning::names::names_of;
+use jcl_meaning::names::{is_temporary, names_of};
 use jcl_plan::fault::{Cause, StatementFault};
-use jcl_plan::plan::{JobPlan, StepPlan};
+use jcl_plan::plan::{DdKind, DdPlan, JobPlan, StepPlan, VolumePlan};
 use jcl_procs::step::FlatStep;
 use plain::listed::Listed;
 use std::alloc::{AllocError, Global};
@@ -25,7 +25,7 @@ use std::mem::replace;
 use value_core::refusal::ReadError;
 
 /// The most steps of a job. (This profile)
-const MOST_STEPS: usize = 32;
+pub const MOST_STEPS: usize = 32;
 
 /// The most DDs of a step. (This profile)
 const MOST_DDS: usize = 64;
@@ -172,10 +172,53 @@ fn job_with(job: JobCard, steps: Listed<StepPlan>) -> JobPlan
     }
 }
 
-/// Whether a job holds too many names.
+/// How many names a DD asks for.
+fn count_names(dd: &DdPlan) -> usize
+    ensures { result ≡ length (dd_names dd.now.kind) }
+{
+    let DdKind::Set(set) = &dd.kind else {
+        return 0;
+    };
+    let own = if is_temporary(&set.key) { 0 } else { 1 };
+    let of_volume = match &set.volume {
+        VolumePlan::OfName(_) => 1,
+        _ => 0,
+    };
+    own + of_volume
+}
+
+/// How many of so many names are left behind those that DDs ask for. `None` where these ask for more.
+fn names_left(left: usize, dds: &[DdPlan]) -> Option<usize>
+    ensures { IfSome result (λ n. n + length (flat_map (λ dd. dd_names dd.kind) dds.now) ≡ left) }
+{
+    let mut left = left;
+    for dd in dds {
+        left = left.checked_sub(count_names(dd))?;
+    }
+    Some(left)
+}
+
+/// Whether the DDs of a job ask for no more names than it may hold, each counted as often as it is asked for.
+fn asks_for_few(plan: &JobPlan) -> bool
+    ensures { result ≡ true → length (wanted_by plan.now.steps) ≤ most_names }
+{
+    let mut left = MOST_NAMES;
+    for step in plan.steps.as_slice() {
+        match names_left(left, step.dds.as_slice()) {
+            Some(behind) => left = behind,
+            None => return false,
+        }
+    }
+    true
+}
+
+/// Whether a job holds too many names. They are made only where its DDs ask for so many.
 fn holds_many(alloc: Global, plan: &JobPlan) -> Result<bool, AllocError>
     ensures { IfOk result (λ many. many ≡ nat_lt most_names (length (names_of plan.now))) }
 {
+    if asks_for_few(plan) {
+        return Ok(false);
+    }
     let names = names_of(alloc, plan)?;
     Ok(names.len() > MOST_NAMES)
 }
