@@ -26,7 +26,7 @@ use Rattle.value_core.specs.Reads.{answer}
 use Rattle.deck_places.specs.Called.{Found, IsCalled, IsCalledFor, IsCalledPlace, call_with, called_by, called_in, calling_by, calling_of, found_behind, found_by, found_of, found_on, if_ok, if_some, proc_of, behind_proc}
 use Rattle.deck_places.specs.declared.called.CalledPlace.{CalledPlace}
 use Rattle.deck_places.specs.declared.called.Calling.{Calling}
-use Rattle.deck_places.proofs.Alike.{refused_elsewhere}
+use Rattle.jcl_procs.proofs.Alike.{refused_elsewhere}
 use Rattle.deck_places.proofs.Located.{from_ok, from_some}
 use Rattle.deck_places.proofs.Refused.{stays_refused}
 
@@ -86,7 +86,7 @@ module _ (library : List LibraryProcedure) (lines : List (List ℕ)) (statements
       let all = stays_refused call body.statements cause (n + 1) (length body.statements) (it.refused.first 0 (omega arith)) (omega arith) it.refused.refused in
       let whole : steps_of call body.statements ≡ Err cause =
       ap (steps_of call) (sym (take_all (length body.statements) body.statements (omega arith))) ∙ all in
-      let elsewhere = refused_elsewhere card.name (symbols ++ body.symbols) 1 number body.statements cause whole in
+      let elsewhere = refused_elsewhere card.name card.name (symbols ++ body.symbols) 1 number body.statements cause whole in
       rw named (ap (λ (r : Result (List FlatStep) Cause). and_then r (λ steps.
       and_then (conditions_overridden steps card) (λ changed. dds_overridden changed dds))) elsewhere)
 

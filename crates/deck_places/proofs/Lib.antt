@@ -1,4 +1,3 @@
-pub mod Alike
 pub mod Before
 pub mod Begun
 pub mod Below

@@ -21,7 +21,7 @@ use Rattle.operand_core.proofs.Told.{told_append}
 use Rattle.value_core.specs.Reads.{Read}
 use Rattle.deck_places.specs.Called.{IsRefusedTo}
 use Rattle.deck_places.specs.Short.{StandFor, is_exec_by, short_from, short_of, with_next}
-use Rattle.deck_places.proofs.Alike.{AreAlike, Follow, alike_steps, behind_dd, follow_by, follow_from, has_none, has_none_behind, placed, some_step, turned, with_dd, with_step}
+use Rattle.jcl_procs.proofs.Alike.{AreAlike, Follow, alike_steps, behind_dd, follow_by, follow_from, has_none, has_none_behind, placed, some_step, turned, with_dd, with_step}
 
 abbrev begin : Place
 begin = record { job_library = false; steps = [] }
@@ -117,7 +117,7 @@ module _ (call : Call) where
   one_more : (place next : Place) (short : List Statement) (s : Statement) → operation_of s.operation ≡ IsDd → behind_by IsDd call place s ≡ Ok next →
       InShort place short → length short ≡ 1 → InShort next (short ++ s ∷ [])
   one_more place next short s o e it one =
-      let at = same_next _ _ next (follow_by call.name call.symbols call.place call.place IsDd place it.other s it.alike) e in
+      let at = same_next _ _ next (follow_by call.name call.name call.symbols call.place call.place IsDd place it.other s it.alike) e in
       let own = dd_next it.other at.0 s at.1 in
       record {
         other = at.0;
@@ -203,9 +203,9 @@ module _ (call : Call) where
       absurd (let h : (let r : Result (List FlatStep) Cause = if true then Err (P NoStep) else Ok last.steps in r) ≡ Ok flat
       = subst (λ (b : Bool). (let r : Result (List FlatStep) Cause = if b then Err (P NoStep) else Ok last.steps in r) ≡ Ok flat) none so in cc)
   stand_by short statements flat last so reads (Within it) = λ rest cause. (
-    (λ h. reads rest ∙ follow_from call.name call.symbols call.place call.place rest cause it.other last (turned last it.other it.alike)
+    (λ h. reads rest ∙ follow_from call.name call.name call.symbols call.place call.place rest cause it.other last (turned last it.other it.alike)
         (sym (it.reads rest) ∙ h)),
-    (λ h. it.reads rest ∙ follow_from call.name call.symbols call.place call.place rest cause last it.other it.alike (sym (reads rest) ∙ h)),
+    (λ h. it.reads rest ∙ follow_from call.name call.name call.symbols call.place call.place rest cause last it.other it.alike (sym (reads rest) ∙ h)),
   )
 
   pub short_stands : (statements : List Statement) (flat : List FlatStep) → steps_of call statements ≡ Ok flat → StandFor call (short_of statements) statements

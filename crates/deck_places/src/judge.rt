@@ -19,11 +19,9 @@ use jcl_deck::deck::Deck;
 use jcl_deck::place::Place;
 use jcl_plan::fault::Cause;
 use jcl_plan::plan::JobPlan;
-use jcl_procs::expansion::expand;
-use jcl_procs::step::FlatStep;
-use jcl_refs::plan::plan_of;
+use jcl_procs::expansion::{Expansion, expand};
+use jcl_refs::plan::{MOST_STEPS, plan_of};
 use jcl_refs::units::UnitNames;
-use plain::listed::Listed;
 use proc_library::library::ProcLibrary;
 use std::alloc::{AllocError, Global};
 use value_core::refusal::ReadError;
@@ -80,12 +78,12 @@ fn judge_steps(
     sources: &Sources<'_>,
     statements: &[Statement],
     job: JobCard,
-    steps: Listed<FlatStep>,
+    expansion: Expansion,
 ) -> Result<Judged, AllocError>
-    requires { Has sources.now.library.now statements.now job steps }
+    requires { Has sources.now.library.now statements.now job expansion }
     ensures { IfOk result (AreJudged sources.now.units.now sources.now.library.now statements.now) }
 {
-    match plan_of(alloc, sources.units, job, steps) {
+    match plan_of(alloc, sources.units, job, expansion) {
         Ok(plan) => Ok(Judged::Taken(plan)),
         Err(ReadError::Refused(cause)) => {
             let number = plan_part(cause);
@@ -111,8 +109,9 @@ fn judge_deck(
         procedures,
         steps,
     } = deck;
-    match expand(alloc, sources.library, procedures.as_slice(), steps) {
-        Ok(steps) => judge_steps(alloc, sources, statements, job, steps),
+    let procedures = procedures.as_slice();
+    match expand(alloc, sources.library, procedures, steps, MOST_STEPS) {
+        Ok(expansion) => judge_steps(alloc, sources, statements, job, expansion),
         Err(ReadError::Refused(cause)) => {
             let k = sources.bringer(alloc, Part::Calls, statements)?;
             Ok(Judged::Refused(cause, At::Call(k)))

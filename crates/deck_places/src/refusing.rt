@@ -9,7 +9,7 @@ use jcl_deck::deck::Deck;
 use jcl_deck::read::read_deck;
 use jcl_plan::fault::{Cause, StatementFault};
 use jcl_procs::expansion::expand;
-use jcl_refs::plan::plan_of;
+use jcl_refs::plan::{MOST_STEPS, plan_of};
 use jcl_refs::units::UnitNames;
 use proc_library::library::ProcLibrary;
 use std::alloc::{AllocError, Global};
@@ -66,15 +66,16 @@ impl<'a> Sources<'a> {
             procedures,
             steps,
         } = deck;
-        let steps = match expand(alloc, self.library, procedures.as_slice(), steps) {
-            Ok(steps) => steps,
+        let procedures = procedures.as_slice();
+        let expansion = match expand(alloc, self.library, procedures, steps, MOST_STEPS) {
+            Ok(expansion) => expansion,
             Err(ReadError::Refused(_)) => return Ok(part == Part::Calls),
             Err(ReadError::Memory) => return Err(AllocError),
         };
         let Part::Plan(number) = part else {
             return Ok(false);
         };
-        match plan_of(alloc, self.units, job, steps) {
+        match plan_of(alloc, self.units, job, expansion) {
             Ok(_) => Ok(false),
             Err(ReadError::Refused(cause)) => Ok(plan_part(cause) == number),
             Err(ReadError::Memory) => Err(AllocError),

@@ -9,7 +9,7 @@ use jcl_deck::read::read_deck;
 use jcl_plan::fault::Cause;
 use jcl_plan::plan::JobPlan;
 use jcl_procs::expansion::expand;
-use jcl_refs::plan::plan_of;
+use jcl_refs::plan::{MOST_STEPS, plan_of};
 use jcl_refs::units::UnitNames;
 use plain::lent::Lent;
 use plain::listed::Listed;
@@ -42,8 +42,8 @@ fn job_in(
         procedures,
         steps,
     } = deck;
-    let steps = expand(alloc, library, procedures.as_slice(), steps)?;
-    plan_of(alloc, units, job, steps)
+    let expansion = expand(alloc, library, procedures.as_slice(), steps, MOST_STEPS)?;
+    plan_of(alloc, units, job, expansion)
 }
 
 /// The job that the lines of a deck denote with these names of units and these procedures, or their first refusal.

@@ -5,3 +5,4 @@ pub mod StepDds
 pub mod Expansions
 pub mod Bodies
 pub mod Examples
+pub mod Counting

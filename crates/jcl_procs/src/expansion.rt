@@ -1,13 +1,18 @@
 //! A deck's steps, call by call. (GC28-6704, "Cataloged and in-stream procedures")
-ghost use Rattle.std.specs.Prelude.{◌≡◌, ◌++◌, IfOk, OnOk, map, is_some, unwrap_or};
+ghost use Rattle.std.specs.Prelude.{◌≡◌, ◌++◌, [], All, IfOk, List, OnOk, map, is_some, unwrap_or};
+ghost use Rattle.std.specs.Bool.{OnTrue};
 ghost use Rattle.std.specs.List.{list_any};
 ghost use Rattle.std.specs.Option.{option_copied};
 ghost use Rattle.value_core.specs.Reads.{Gives};
 ghost use Rattle.list_values.specs.Conditions.{no_condition};
 ghost use Rattle.jcl_cards.specs.Merging.{by_itself};
+ghost use Rattle.jcl_deck.specs.declared.deck.Procedure as in_stream;
 ghost use Rattle.jcl_deck.specs.declared.operation.Operation.TheVariants.{IsProc};
+ghost use Rattle.proc_library.specs.declared.library.LibraryProcedure.{LibraryProcedure};
+ghost use Rattle.jcl_procs.specs.declared.step.FlatStep.{FlatStep};
 ghost use Rattle.jcl_procs.specs.Calls.{steps_of};
 ghost use Rattle.jcl_procs.specs.Bodies.{call_with, is_proc, statements_in, steps_of_lines, steps_with};
+ghost use Rattle.jcl_procs.specs.Counting.{IsLike, Passes, WasRead, counted, up_to};
 ghost use Rattle.jcl_procs.specs.Expansions.{and_then, body_by, body_named, body_of, called, flat_from, in_deck, plain_step, steps_by};
 
 use crate::calls::{Caller, steps_of};
@@ -33,6 +38,17 @@ use plain::text::Text;
 use proc_library::library::{LibraryProcedure, ProcLibrary};
 use std::alloc::{AllocError, Global};
 use value_core::refusal::ReadError;
+
+/// How many calls are noted so that others like them are not read again.
+const MOST_NOTED: usize = 64;
+
+/// The steps of a deck, up to a number of them.
+#[derive(Drop)]
+pub enum Expansion {
+    Steps(Listed<FlatStep>),
+    /// There are more. None is kept.
+    TooMany,
+}
 
 /// Where a call finds its procedure.
 #[derive(Drop)]
@@ -269,22 +285,99 @@ fn steps_by(
     alloc: Global,
     sources: &Sources<'_>,
     place: usize,
-    step: DeckStep,
+    exec: &ExecCard,
+    dds: Listed<DdCard>,
 ) -> Result<Listed<FlatStep>, ReadError>
-    ensures { Gives result (steps_by step.exec.runs sources.now.library.now sources.now.procedures.now place step) }
+    ensures { Gives result (steps_by exec.now.runs sources.now.library.now sources.now.procedures.now place (record { exec = exec.now; dds = dds })) }
 {
-    let DeckStep { exec, dds } = step;
     match &exec.runs {
-        Runs::Program(name) => plain_step(alloc, &exec, dds, *name),
+        Runs::Program(name) => plain_step(alloc, exec, dds, *name),
         Runs::Procedure { name, symbols } => called(
             alloc,
             sources,
             place,
-            &exec,
+            exec,
             dds,
             *name,
             symbols.as_slice(),
         ),
+    }
+}
+
+fn same_symbol(a: &Symbol, b: &Symbol) -> bool
+    ensures { OnTrue result (a.now ≡ b.now) }
+{
+    a.name.as_slice() == b.name.as_slice() && a.value.as_slice() == b.value.as_slice()
+}
+
+fn same_symbols(a: &[Symbol], b: &[Symbol]) -> bool
+    ensures { OnTrue result (a.now ≡ b.now) }
+{
+    if a.len() != b.len() {
+        return false;
+    }
+    for i in 0..a.len() {
+        if !same_symbol(&a[i], &b[i]) {
+            return false;
+        }
+    }
+    true
+}
+
+/// Whether a step runs a program, or calls what another one calls, with the same symbols.
+fn is_like(other: &Runs, runs: &Runs) -> bool
+    ensures { OnTrue result (IsLike other.now runs.now) }
+{
+    let Runs::Procedure { name, symbols } = runs else {
+        return true;
+    };
+    let Runs::Procedure {
+        name: own,
+        symbols: values,
+    } = other
+    else {
+        return false;
+    };
+    own.as_slice() == name.as_slice() && same_symbols(values.as_slice(), symbols.as_slice())
+}
+
+/// Whether it is like one that was read.
+fn was_read(read: &[Runs], runs: &Runs) -> bool
+    ensures { (library : List LibraryProcedure) (procedures : List in_stream.Procedure)
+        → All (WasRead library procedures) read.now → OnTrue result (WasRead library procedures runs.now) }
+{
+    for other in read {
+        if is_like(other, runs) {
+            return true;
+        }
+    }
+    false
+}
+
+/// Notes what was read, once, and as long as few calls are noted.
+fn note(read: &mut Vec<Runs>, exec: ExecCard) -> Result<(), AllocError>
+    ensures { (library : List LibraryProcedure) (procedures : List in_stream.Procedure)
+        → All (WasRead library procedures) read.old.items → WasRead library procedures exec.runs → All (WasRead library procedures) read.new.items }
+{
+    let ExecCard { runs, .. } = exec;
+    if read.len() < MOST_NOTED && !was_read(read.as_slice(), &runs) {
+        read.push(runs)?;
+    }
+    Ok(())
+}
+
+/// Whether a step need not be read: no more are kept, and it brings no refusal, since it is like one that was read and overrides nothing.
+fn passes(expansion: &Expansion, read: &[Runs], step: &DeckStep) -> bool
+    ensures { (library : List LibraryProcedure) (procedures : List in_stream.Procedure)
+        → All (WasRead library procedures) read.now → OnTrue result (Passes library procedures expansion.now step.now) }
+{
+    match expansion {
+        Expansion::Steps(_) => false,
+        Expansion::TooMany => {
+            step.exec.named_steps.as_slice().is_empty()
+                && step.dds.as_slice().is_empty()
+                && was_read(read, &step.exec.runs)
+        }
     }
 }
 
@@ -296,25 +389,51 @@ fn put_behind(flat: &mut Vec<FlatStep>, steps: Listed<FlatStep>) -> Result<(), A
     Ok(())
 }
 
-/// The steps of a deck in order, those of the procedures that it calls in their places, or the first refusal, call by call.
+/// The steps so far with those that come next.
+fn with_steps(
+    expansion: Expansion,
+    most: usize,
+    steps: Listed<FlatStep>,
+) -> Result<Expansion, AllocError>
+    ensures { (so_far : List FlatStep) → expansion ≡ up_to most so_far → IfOk result (λ now. now ≡ up_to most (so_far ++ steps)) }
+{
+    let Expansion::Steps(so_far) = expansion else {
+        return Ok(Expansion::TooMany);
+    };
+    if steps.len() > most.saturating_sub(so_far.len()) {
+        return Ok(Expansion::TooMany);
+    }
+    let mut flat = so_far.into_vec();
+    put_behind(&mut flat, steps)?;
+    Ok(Expansion::Steps(Listed::new(flat)))
+}
+
+/// The steps of a deck in order, those of the procedures that it calls in their places, up to so many, or the first refusal, call by call.
 pub fn expand(
     alloc: Global,
     library: &ProcLibrary,
     procedures: &[Procedure],
     steps: Listed<DeckStep>,
-) -> Result<Listed<FlatStep>, ReadError>
-    ensures { Gives result (flat_from library.now procedures.now 1 steps) }
+    most: usize,
+) -> Result<Expansion, ReadError>
+    ensures { Gives result (counted most (flat_from library.now procedures.now 1 steps)) }
 {
     let sources = Sources {
         library,
         procedures,
     };
-    let mut flat = Vec::new(alloc);
+    let mut expansion = Expansion::Steps(Listed::empty(alloc));
+    let mut read = Vec::new(alloc);
     let mut place = 0;
     for step in steps.into_vec() {
         place += 1;
-        let found = steps_by(alloc, &sources, place, step)?;
-        put_behind(&mut flat, found)?;
+        if passes(&expansion, read.as_slice(), &step) {
+            continue;
+        }
+        let DeckStep { exec, dds } = step;
+        let found = steps_by(alloc, &sources, place, &exec, dds)?;
+        expansion = with_steps(expansion, most, found)?;
+        note(&mut read, exec)?;
     }
-    Ok(Listed::new(flat))
+    Ok(expansion)
 }

@@ -9,3 +9,4 @@ pub mod Counts
 pub mod StepLists
 pub mod PlannedDds
 pub mod Asked
+pub mod Counted

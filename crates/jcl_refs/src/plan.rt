@@ -1,10 +1,12 @@
 //! The plan of a job. (This profile)
-ghost use Rattle.std.specs.Prelude.{◌≡◌, ◌+◌, ◌≤◌, [], length, map, nat_lt, IfOk, IfSome, OnOk, count_by, true};
+ghost use Rattle.std.specs.Prelude.{◌≡◌, ◌+◌, ◌≤◌, [], List, length, map, nat_lt, IfOk, IfSome, OnOk, count_by, true};
 ghost use Rattle.std.specs.List.{All, flat_map};
 ghost use Rattle.value_core.specs.Reads.{Gives};
 ghost use Rattle.jcl_plan.specs.declared.fault.Cause.TheVariants.{P};
 ghost use Rattle.jcl_meaning.specs.Names.{dd_names, names_of, wanted_by};
-ghost use Rattle.jcl_refs.specs.Plans.{job_with, kinds_in, most_names, plan_of, with_dds_left};
+ghost use Rattle.jcl_procs.specs.declared.step.FlatStep.{FlatStep};
+ghost use Rattle.jcl_procs.specs.Counting.{up_to};
+ghost use Rattle.jcl_refs.specs.Plans.{job_with, kinds_in, most_names, most_steps, plan_of, with_dds_left};
 ghost use Rattle.jcl_refs.specs.Planning.{counts_in, has_many_dd_names, job_by, looks_for_later, plan_with, planned_counts, step_by, steps_by, with_units};
 
 use crate::kinds::planned_dds;
@@ -18,6 +20,7 @@ use jcl_cards::job::JobCard;
 use jcl_meaning::names::{is_temporary, names_of};
 use jcl_plan::fault::{Cause, StatementFault};
 use jcl_plan::plan::{DdKind, DdPlan, JobPlan, StepPlan, VolumePlan};
+use jcl_procs::expansion::Expansion;
 use jcl_procs::step::FlatStep;
 use plain::listed::Listed;
 use std::alloc::{AllocError, Global};
@@ -277,7 +280,7 @@ fn plan_with(
 }
 
 /// The plan of a job whose steps are these, or the first refusal.
-pub fn plan_of(
+fn plan_of_steps(
     alloc: Global,
     units: &UnitNames,
     job: JobCard,
@@ -291,4 +294,19 @@ pub fn plan_of(
     let many = many_dd_names(alloc, steps.as_slice())?;
     let left = steps_left(alloc, steps)?;
     plan_with(alloc, units, job, left.as_slice(), many.as_slice())
+}
+
+/// The plan of a job whose steps these are, up to the most that it may have, or the first refusal.
+pub fn plan_of(
+    alloc: Global,
+    units: &UnitNames,
+    job: JobCard,
+    expansion: Expansion,
+) -> Result<JobPlan, ReadError>
+    ensures { (steps : List FlatStep) → expansion ≡ up_to most_steps steps → Gives result (plan_of units.now job steps) }
+{
+    match expansion {
+        Expansion::Steps(steps) => plan_of_steps(alloc, units, job, steps),
+        Expansion::TooMany => Err(refusal(StatementFault::TooManySteps)),
+    }
 }

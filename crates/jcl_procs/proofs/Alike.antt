@@ -1,5 +1,5 @@
 -- What a call is refused for behind some statements of a procedure depends on little of them: on whether there is a step so far, and which DDs are refused by
--- their place. It does not depend on the place of the call among others.
+-- their place. It does not depend on the name of the call, nor on its place among others.
 use Rattle.std.proofs.Common.{◌≡◌, ◌∷◌, ◌++◌, ◌∙◌, ℕ, ◌||◌, ◌&&◌, ◌==◌, Bool, true, false, not, List, [], Option, None, Some, Result, Ok, Err, ap, arith, length, map, refl, subst, sym}
 use Rattle.std.specs.Prelude.{is_some, if◌then◌else◌}
 use Rattle.card_core.specs.declared.statement.Statement.{Statement}
@@ -127,24 +127,27 @@ alike_dds a b dd alike = record {
   faults = λ s. placed_by a.job_library a.steps dd s ∙ ap (λ n. by_none n s) alike.none ∙ sym (placed_by b.job_library b.steps dd s);
 }
 
--- calls that differ in their places alone
-module _ (name : Option (List ℕ)) (symbols : List Symbol) (i j : ℕ) where
-  abbrev at : ℕ → Call
-  at n = record { name = name; place = n; symbols = symbols }
+-- calls that differ in their names and places alone
+module _ (name named : Option (List ℕ)) (symbols : List Symbol) (i j : ℕ) where
+  abbrev one : Call
+  one = record { name = name; place = i; symbols = symbols }
 
-  follow_dd : (a b : Place) (s : Statement) → AreAlike a b → Follow (takes_dd (at i) a s) (takes_dd (at j) b s)
+  abbrev other : Call
+  other = record { name = named; place = j; symbols = symbols }
+
+  follow_dd : (a b : Place) (s : Statement) → AreAlike a b → Follow (takes_dd one a s) (takes_dd other b s)
   follow_dd a b s alike =
       let faults : List Cause → DdCard → List Cause = λ by_place dd. when (has_data dd) (P CardsInProcedure)
       ++ by_place ++ when (is_some dd.qualifier) (P NoSuchProcedureStep) in
       let read : (DdCard → List Cause) → Read DdCard = λ by_place.
       read_with (substituted symbols true s.operand) (dd_name_faults s.name) (λ operand. dd_card s.name operand s.cards) by_place in
-      let one : Read DdCard = read (faults (placed a s)) in
-      let other : Read DdCard = read (faults (placed b s)) in
-      let same : one ≡ other = (λ k. read (faults (alike.faults s k))) in
-      subst (λ (r : Read DdCard). Follow (or_fault (told one.faults) (with_dd a one.value)) (or_fault (told r.faults) (with_dd b r.value))) same
-      (follow_fault (told one.faults) (with_dd a one.value) (with_dd b one.value) (alike_dds a b one.value alike))
+      let first : Read DdCard = read (faults (placed a s)) in
+      let second : Read DdCard = read (faults (placed b s)) in
+      let same : first ≡ second = (λ k. read (faults (alike.faults s k))) in
+      subst (λ (r : Read DdCard). Follow (or_fault (told first.faults) (with_dd a first.value)) (or_fault (told r.faults) (with_dd b r.value))) same
+      (follow_fault (told first.faults) (with_dd a first.value) (with_dd b first.value) (alike_dds a b first.value alike))
 
-  pub follow_by : (operation : Operation) (a b : Place) (s : Statement) → AreAlike a b → Follow (behind_by operation (at i) a s) (behind_by operation (at j) b s)
+  pub follow_by : (operation : Operation) (a b : Place) (s : Statement) → AreAlike a b → Follow (behind_by operation one a s) (behind_by operation other b s)
   follow_by IsExec a b s alike = follow_fault _ _ _ (alike_steps a b _ _ refl refl)
   follow_by IsDd a b s alike = follow_dd a b s alike
   follow_by IsProc a b s alike = follow_fault _ a b alike
@@ -160,23 +163,23 @@ module _ (name : Option (List ℕ)) (symbols : List Symbol) (i j : ℕ) where
   ends_by false a b cause e = absurd cc
 
   follow_turn : (x y : Result Place Cause) (statements : List Statement) (cause : Cause) → Follow x y →
-      ((a b : Place) → AreAlike a b → steps_from (at i) a statements ≡ Err cause → steps_from (at j) b statements ≡ Err cause) →
-      steps_behind x (λ next. steps_from (at i) next statements) ≡ Err cause → steps_behind y (λ next. steps_from (at j) next statements) ≡ Err cause
+      ((a b : Place) → AreAlike a b → steps_from one a statements ≡ Err cause → steps_from other b statements ≡ Err cause) →
+      steps_behind x (λ next. steps_from one next statements) ≡ Err cause → steps_behind y (λ next. steps_from other next statements) ≡ Err cause
   follow_turn (Ok a) (Ok b) statements cause alike more e = more a b alike e
   follow_turn (Err f) (Err g) statements cause same more e = ap (λ (c : Cause). let r : Result (List FlatStep) Cause = Err c in r) (sym same) ∙ e
   follow_turn (Ok a) (Err g) statements cause never more e = absurd never
   follow_turn (Err f) (Ok b) statements cause never more e = absurd never
 
-  pub follow_from : (statements : List Statement) (cause : Cause) (a b : Place) → AreAlike a b → steps_from (at i) a statements ≡ Err cause →
-      steps_from (at j) b statements ≡ Err cause
+  pub follow_from : (statements : List Statement) (cause : Cause) (a b : Place) → AreAlike a b → steps_from one a statements ≡ Err cause →
+      steps_from other b statements ≡ Err cause
   follow_from [] cause a b alike e =
       ap (λ (n : Bool). let r : Result (List FlatStep) Cause = if n then Err (P NoStep) else Ok b.steps in r) (sym alike.none)
       ∙ ends_by (length a.steps == 0) a.steps b.steps cause e
   follow_from (s ∷ statements) cause a b alike e =
-      follow_turn (behind_by (operation_of s.operation) (at i) a s) (behind_by (operation_of s.operation) (at j) b s) statements cause
+      follow_turn (behind_by (operation_of s.operation) one a s) (behind_by (operation_of s.operation) other b s) statements cause
       (follow_by (operation_of s.operation) a b s alike) (λ x y near h. follow_from statements cause x y near h) e
 
-  pub refused_elsewhere : (statements : List Statement) (cause : Cause) → steps_of (at i) statements ≡ Err cause → steps_of (at j) statements ≡ Err cause
+  pub refused_elsewhere : (statements : List Statement) (cause : Cause) → steps_of one statements ≡ Err cause → steps_of other statements ≡ Err cause
   refused_elsewhere statements cause e =
       follow_from statements cause (record { job_library = false; steps = [] }) (record { job_library = false; steps = [] })
       (record { none = refl; faults = λ s. refl }) e
