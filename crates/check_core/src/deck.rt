@@ -6,6 +6,7 @@ ghost use Rattle.check_core.specs.Insides.{IsInsideAt};
 ghost use Rattle.check_core.specs.Reports.{AreTold};
 ghost use Rattle.check_core.specs.Spots.{IsSpotOf};
 
+use crate::called::brought_in;
 use crate::guess::guess_of;
 use crate::inside::inside_at;
 use crate::known::is_known;
@@ -23,7 +24,8 @@ use std::alloc::{AllocError, Global};
 /// The most refusals of one deck that are mended.
 pub const MOST_REPORTS: usize = 100;
 
-/// The most cards that are read to find those behind the first: of a deck of 10,000 cards a hundred refused statements are told, or twenty refused calls.
+/// The most cards that are read to find those behind the first, with those that calls bring in: of a deck of 10,000 cards a hundred refused statements are
+/// told, or ten or twenty refused calls.
 pub const MOST_READ: usize = 1_000_000;
 
 /// What a deck is read with: the names of units, and the procedures of the session. The names of both stand beside them once more, from which one is
@@ -91,6 +93,27 @@ fn bringer_of(at: At) -> Option<usize> {
     }
 }
 
+/// How many cards are read to find what comes behind a refusal there, about: those of the deck, and those that calls bring in up to a refused call, or at all
+/// calls before a plan is looked at.
+fn cards_behind(
+    alloc: Global,
+    sources: &Sources<'_>,
+    mended: &Mended,
+    at: At,
+) -> Result<usize, AllocError> {
+    let cards = mended.lines.len();
+    let to = match at {
+        At::Card(_) | At::Statement(_) | At::End => return Ok(cards),
+        At::Planned(_, _) => cards,
+        At::Call(_) => match mended.span_at(alloc, at)? {
+            Some(span) => span.to,
+            None => cards,
+        },
+    };
+    let brought = brought_in(alloc, sources.library, mended, to)?;
+    Ok(cards.saturating_add(brought))
+}
+
 /// The first refusal of a deck in which this place was mended, unless it is too far to read: what is left to be read is as much less.
 fn next_refusal(
     alloc: Global,
@@ -101,7 +124,7 @@ fn next_refusal(
 ) -> Result<Option<(Cause, At)>, AllocError> {
     let lent = mended.lent(alloc)?;
     let lines = lent.as_slice();
-    let cards = lines.len().saturating_mul(readings_behind(at));
+    let cards = cards_behind(alloc, sources, mended, at)?.saturating_mul(readings_behind(at));
     if *left < cards {
         return Ok(None);
     }

@@ -1,6 +1,7 @@
 //! Decks looked at for all that is wrong with them, one refusal after another. (This profile)
 #![tactic(auto)]
 
+mod called;
 pub mod deck;
 mod guess;
 mod inside;
