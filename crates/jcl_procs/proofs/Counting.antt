@@ -1,24 +1,37 @@
 -- A call like one that was read brings no refusal where it overrides nothing, and what is collected so far is that of the deck's first steps.
-use Rattle.std.proofs.Common.{◌≡◌, ◌∷◌, ◌++◌, ◌∙◌, ◌<◌, ◌≤◌, ◌+◌, ◌-◌, ℕ, Bool, true, false, List, [], All, Option, None, Result, Ok, Err, nat_lt, if◌then◌else◌, append_assoc, append-nil, ap, arith, le-ltb, length, length-append, lt-ltb, ltb-false, ltb-true, refl, subst, sym, unwrap_or}
+use Rattle.std.proofs.Common.{◌≡◌, ◌∷◌, ◌++◌, ◌∙◌, ◌⊎◌, ◌<◌, ◌≤◌, ◌+◌, ◌==◌, inl, inr, ℕ, Bool, true, false, List, [], All, Option, None, Some, Result, Ok, Err, nat_lt, if◌then◌else◌, append_assoc, append-nil, ap, arith, is_none, is_some, le-ltb, length, length-append, lt-ltb, ltb-false, ltb-true, map, position, refl, slice_get, suc, subst, sym, unwrap_or}
+use Rattle.std.specs.List.{list_any}
+use Rattle.std.proofs.lemmas.List.{length-map}
 use Rattle.std.proofs.lemmas.List.Elements.{All-nil}
+use Rattle.card_core.specs.declared.statement.Statement.{Statement}
 use Rattle.jcl_plan.specs.declared.fault.Cause.{Cause}
+use Rattle.jcl_plan.specs.declared.fault.Cause.TheVariants.{P}
+use Rattle.jcl_plan.specs.declared.fault.StatementFault.TheVariants.{NoStep, NoSuchProcedureStep}
+use Rattle.list_values.specs.declared.condition.Condition.{Condition}
 use Rattle.list_values.specs.Conditions.{no_condition}
+use Rattle.operand_core.specs.Faults.{or_fault}
 use Rattle.jcl_symbols.specs.declared.symbol.Symbol.{Symbol}
 use Rattle.jcl_cards.specs.declared.dd.DdCard.{DdCard}
 use Rattle.jcl_cards.specs.declared.exec.ExecCard.{ExecCard}
 use Rattle.jcl_cards.specs.declared.exec.Runs.{Runs}
 use Rattle.jcl_cards.specs.declared.exec.Runs.TheVariants.{Program, Procedure}
+use Rattle.jcl_cards.specs.declared.exec.StepCondition.{StepCondition}
+use Rattle.jcl_cards.specs.Merging.{by_itself}
 use Rattle.jcl_deck.specs.declared.deck.DeckStep.{DeckStep}
 use Rattle.jcl_deck.specs.declared.deck.Procedure as in_stream
+use Rattle.jcl_deck.specs.Decks.{operation_of}
 use Rattle.jcl_procs.specs.declared.expansion.Expansion.{Expansion}
 use Rattle.jcl_procs.specs.declared.expansion.Expansion.TheVariants.{Steps, TooMany}
+use Rattle.jcl_procs.specs.declared.overriding.Place as overriding
 use Rattle.jcl_procs.specs.declared.step.FlatStep.{FlatStep}
 use Rattle.jcl_procs.specs.Bodies.{behind}
-use Rattle.jcl_procs.specs.Calls.{steps_of}
-use Rattle.jcl_procs.specs.Counting.{IsLike, Passes, WasRead, counted, up_to}
+use Rattle.jcl_procs.specs.Calls.{Call, Place, behind_by, steps_behind, steps_from, steps_of, steps_with}
+use Rattle.jcl_procs.specs.Counting.{IsLike, KeepsFirst, Passes, WasRead, counted, up_to}
 use Rattle.jcl_procs.specs.Expansions.{Body, and_then, body_named, flat_from, joined, plain_step, steps_by}
-use Rattle.jcl_procs.specs.Overrides.{conditions_overridden, dds_overridden, with_condition, with_step_conditions}
+use Rattle.jcl_procs.specs.Overrides.{conditions_overridden, dds_at, dds_overridden, inserts, is_of_name, is_step, names_steps, overrides_by_position, overrides_from, overrides_member, overrides_named, overrides_next, overrides_one, overrides_there, place_behind, puts_merged, step_at, with_condition, with_step_condition, with_step_conditions, with_this}
+use Rattle.jcl_procs.specs.Overrides.{steps_behind as steps_onward}
 use Rattle.jcl_procs.proofs.Alike.{refused_elsewhere}
+use Rattle.jcl_procs.proofs.Reached.{length_put}
 use Rattle.proc_library.specs.declared.library.LibraryProcedure.{LibraryProcedure}
 
 -- a procedure that brings steps at one call brings steps at any with the same symbols
@@ -115,6 +128,140 @@ pub counted_err : (most : ℕ) (flat : Result (List FlatStep) Cause) (fault : Ca
 counted_err most (Ok steps) fault is = absurd cc
 counted_err most (Err own) fault is = let same : own ≡ fault = cc in ap (λ (f : Cause). let r : Result (List FlatStep) Cause = Err f in r) same
 
+abbrev plain_of : ExecCard → List DdCard → List ℕ → FlatStep
+plain_of exec dds name = record {
+  name = exec.name;
+  procedure_step = None;
+  call = None;
+  program = name;
+  condition = unwrap_or exec.condition no_condition;
+  dds = map by_itself dds;
+}
+
+-- a step of a deck brings one step at least
+some_by : (place : Place) (steps : List FlatStep) → steps_with place ≡ Ok steps → 1 ≤ length steps
+some_by place steps is = by place.steps is
+  where
+    ended : Bool → List FlatStep → Result (List FlatStep) Cause
+    ended none own = if none then Err (P NoStep) else Ok own
+
+    is_same : (own : List FlatStep) → (let r : Result (List FlatStep) Cause = Ok own in r) ≡ Ok steps → length own ≡ length steps
+    is_same own h = let same : own ≡ steps = cc in ap length same
+
+    by : (own : List FlatStep) → ended (length own == 0) own ≡ Ok steps → 1 ≤ length steps
+    by [] h = absurd cc
+    by (x ∷ own) h =
+        let some : (length (x ∷ own) == 0) ≡ false = grind arith in
+        let size = is_same (x ∷ own) (sym (ap (λ b. ended b (x ∷ own)) some) ∙ h) in omega (arith, size)
+
+some_from : (call : Call) (statements : List Statement) (place : Place) (steps : List FlatStep) → steps_from call place statements ≡ Ok steps → 1 ≤ length steps
+some_from call [] place steps is = some_by place steps is
+some_from call (s ∷ statements) place steps is =
+    by (λ next h. some_from call statements next steps h) (behind_by (operation_of s.operation) call place s) is
+  where
+    by : ((next : Place) → steps_from call next statements ≡ Ok steps → 1 ≤ length steps) → (r : Result Place Cause) →
+        steps_behind r (λ next. steps_from call next statements) ≡ Ok steps → 1 ≤ length steps
+    by more (Ok next) h = more next h
+    by more (Err fault) h = absurd cc
+
+-- overriding conditions and DDs makes no step and takes none away
+with_one : (steps : List FlatStep) (c : StepCondition) → length (with_step_condition steps c) ≡ length steps
+with_one [] c = refl
+with_one (step ∷ steps) c = by (is_step c.step step) (with_one steps c)
+  where
+    by : (b : Bool) → length (with_step_condition steps c) ≡ length steps →
+        length (if b then record step { condition = c.condition } ∷ steps else step ∷ with_step_condition steps c) ≡ length (step ∷ steps)
+    by true h = refl
+    by false h = ap (λ n. suc n) h
+
+with_several : (conditions : List StepCondition) (steps : List FlatStep) → length (with_step_conditions steps conditions) ≡ length steps
+with_several [] steps = refl
+with_several (c ∷ conditions) steps = with_several conditions (with_step_condition steps c) ∙ with_one steps c
+
+with_all : (c : Option Condition) (steps : List FlatStep) → length (with_condition c steps) ≡ length steps
+with_all None steps = refl
+with_all (Some c) steps = length-map steps (with_this c)
+
+KeepsSteps : overriding.Place → Result overriding.Place Cause → Type 0
+KeepsSteps place r = (next : overriding.Place) → r ≡ Ok next → length next.steps ≡ length place.steps
+
+keeps_ok : (place next : overriding.Place) → length next.steps ≡ length place.steps → KeepsSteps place (Ok next)
+unfolding KeepsSteps
+keeps_ok place next same behind is = let it : next ≡ behind = cc in ap (λ (p : overriding.Place). length p.steps) (sym it) ∙ same
+
+keeps_fault : (fault : Option Cause) (place next : overriding.Place) → length next.steps ≡ length place.steps → KeepsSteps place (or_fault fault next)
+unfolding KeepsSteps
+keeps_fault None place next same = keeps_ok place next same
+keeps_fault (Some fault) place next same = λ behind is. absurd cc
+
+merged_keeps : (place : overriding.Place) (at n : ℕ) (there dd : DdCard) → KeepsSteps place (puts_merged place at n there dd)
+merged_keeps place at n there dd = keeps_fault _ place _ (length_put place.steps at _)
+
+there_keeps : (place : overriding.Place) (at : ℕ) (dd : DdCard) (n : ℕ) (o : Option DdCard) → KeepsSteps place (overrides_there place at dd n o)
+there_keeps place at dd n None = keeps_ok place _ (length_put place.steps at _)
+there_keeps place at dd n (Some there) = merged_keeps place at n there dd
+
+position_keeps : (place : overriding.Place) (at : ℕ) (dd : DdCard) (o : Option ℕ) → KeepsSteps place (overrides_by_position place at dd o)
+position_keeps place at dd None = keeps_ok place _ (length_put place.steps at _)
+position_keeps place at dd (Some n) = there_keeps place at dd n (slice_get (dds_at place.steps at) n)
+
+next_keeps : (place : overriding.Place) (dd : DdCard) (o : Option DdCard) → KeepsSteps place (overrides_next place dd o)
+next_keeps place dd None = keeps_ok place _ (length_put place.steps place.at _)
+next_keeps place dd (Some there) = by (is_none there.name)
+  where
+    by : (b : Bool) → KeepsSteps place (if b then puts_merged place place.at place.member there dd else Ok (inserts place dd))
+    by true = merged_keeps place place.at place.member there dd
+    by false = keeps_ok place _ (length_put place.steps place.at _)
+
+behind_keeps : (place : overriding.Place) (dd : DdCard) (r : Result ℕ Cause) → KeepsSteps place (place_behind r (λ at. overrides_named place at dd))
+unfolding KeepsSteps
+behind_keeps place dd (Ok at) = position_keeps place at dd (position (is_of_name dd.name) (dds_at place.steps at))
+behind_keeps place dd (Err fault) = λ next is. absurd cc
+
+one_keeps : (place : overriding.Place) (dd : DdCard) → KeepsSteps place (overrides_one place dd)
+one_keeps place dd = by (is_none dd.name)
+  where
+    by : (b : Bool) → KeepsSteps place (if b then overrides_member place dd else place_behind (step_at place.steps place.at dd.qualifier) (λ at. overrides_named place at dd))
+    by true = next_keeps place dd (slice_get (dds_at place.steps place.at) place.member)
+    by false = behind_keeps place dd (step_at place.steps place.at dd.qualifier)
+
+from_keeps : (dds : List DdCard) (place : overriding.Place) (steps : List FlatStep) → overrides_from place dds ≡ Ok steps → length steps ≡ length place.steps
+unfolding KeepsSteps
+from_keeps [] place steps is = let same : place.steps ≡ steps = cc in ap length (sym same)
+from_keeps (dd ∷ dds) place steps is = by (λ next h. from_keeps dds next steps h) (overrides_one place dd) refl is
+  where
+    by : ((next : overriding.Place) → overrides_from next dds ≡ Ok steps → length steps ≡ length next.steps) → (r : Result overriding.Place Cause) →
+        overrides_one place dd ≡ r → steps_onward r (λ next. overrides_from next dds) ≡ Ok steps → length steps ≡ length place.steps
+    by more (Ok next) so h = more next h ∙ one_keeps place dd next so
+    by more (Err fault) so h = absurd cc
+
+some_overridden : (exec : ExecCard) (dds : List DdCard) (steps found : List FlatStep) → overridden exec dds steps ≡ Ok found → 1 ≤ length steps → 1 ≤ length found
+some_overridden exec dds steps found is some = by (names_steps steps exec.named_steps) is
+  where
+    by : (b : Bool) → and_then (let r : Result (List FlatStep) Cause = if b then Ok (with_step_conditions (with_condition exec.condition steps) exec.step_conditions)
+        else Err (P NoSuchProcedureStep) in r) (λ changed. dds_overridden changed dds) ≡ Ok found → 1 ≤ length found
+    by true h =
+        let size = from_keeps dds (record {
+          steps = with_step_conditions (with_condition exec.condition steps) exec.step_conditions;
+          at = 0;
+          member = 0;
+        }) found h ∙ with_several exec.step_conditions (with_condition exec.condition steps) ∙ with_all exec.condition steps in
+        omega (arith, size, some)
+    by false h = absurd cc
+
+some_called : (exec : ExecCard) (dds : List DdCard) (call : Call) (statements : List Statement) (found : List FlatStep) (r : Result (List FlatStep) Cause) →
+    steps_of call statements ≡ r → and_then r (overridden exec dds) ≡ Ok found → 1 ≤ length found
+some_called exec dds call statements found (Ok steps) so h =
+    some_overridden exec dds steps found h (some_from call statements (record { job_library = false; steps = [] }) steps so)
+some_called exec dds call statements found (Err fault) so h = absurd cc
+
+some_brought : (exec : ExecCard) (dds : List DdCard) (name : Option (List ℕ)) (place : ℕ) (symbols : List Symbol) (body : Result Body Cause) (found : List FlatStep) →
+    and_then body (λ b. and_then (steps_of (record { name = name; place = place; symbols = symbols ++ b.symbols }) b.statements) (overridden exec dds)) ≡ Ok found →
+    1 ≤ length found
+some_brought exec dds name place symbols (Err fault) found is = absurd cc
+some_brought exec dds name place symbols (Ok b) found is =
+    some_called exec dds (record { name = name; place = place; symbols = symbols ++ b.symbols }) b.statements found _ refl is
+
 module _ (library : List LibraryProcedure) (procedures : List in_stream.Procedure) where
   brings_by : (exec : ExecCard) (dds : List DdCard) (place : ℕ) (runs : Runs) → WasRead library procedures runs → exec.named_steps ≡ [] → dds ≡ [] →
       (more : List FlatStep) × (steps_by runs library procedures place (record { exec = exec; dds = dds }) ≡ Ok more)
@@ -139,6 +286,17 @@ module _ (library : List LibraryProcedure) (procedures : List in_stream.Procedur
   read_by exec dds place (Procedure name symbols) found is =
       let so = brought_by exec dds (body_named library procedures name) _ found is in (exec.name, place, so.0, so.1)
 
+  some_found : (exec : ExecCard) (dds : List DdCard) (place : ℕ) (runs : Runs) (found : List FlatStep) →
+      steps_by runs library procedures place (record { exec = exec; dds = dds }) ≡ Ok found → 1 ≤ length found
+  some_found exec dds place (Program name) found is = by (list_any (λ (dd : DdCard). is_some dd.qualifier) dds) is
+    where
+      by : (b : Bool) → (let r : Result (List FlatStep) Cause = if b then Err (P NoSuchProcedureStep) else Ok (plain_of exec dds name ∷ []) in r) ≡ Ok found →
+          1 ≤ length found
+      by true h = absurd cc
+      by false h = let same : plain_of exec dds name ∷ [] ≡ found = cc in (let size = ap length same in omega (arith, size))
+  some_found exec dds place (Procedure name symbols) found is =
+      some_brought exec dds exec.name place symbols (body_named library procedures name) found is
+
   pub was_like : (other runs : Runs) → IsLike other runs → WasRead library procedures other → WasRead library procedures runs
   was_like other (Program name) like read = tt
   was_like (Program own) (Procedure name symbols) like read = absurd like
@@ -146,23 +304,31 @@ module _ (library : List LibraryProcedure) (procedures : List in_stream.Procedur
       subst (λ n. WasRead library procedures (Procedure n symbols)) like.0
       (subst (λ (s : List Symbol). WasRead library procedures (Procedure own s)) like.1 read)
 
+  -- what is kept of them, or with those that are left they are too many
+  abbrev pub Keeps : ℕ → Expansion → List FlatStep → List DeckStep → Type 0
+  Keeps most expansion whole rest = (expansion ≡ up_to most whole) ⊎ ((expansion ≡ TooMany) × (most < length whole + length rest))
+
   -- what is known when some steps of a deck were looked at: the steps that they have
   pub record Holds (most : ℕ) (all : List DeckStep) (place : ℕ) (rest : List DeckStep) (expansion : Expansion) (noted : List Runs) : Type 0 where
     pub whole : List FlatStep
     pub so : flat_from library procedures 1 all ≡ behind whole (flat_from library procedures (place + 1) rest)
-    pub kept : expansion ≡ up_to most whole
+    pub kept : Keeps most expansion whole rest
     pub read : All (WasRead library procedures) noted
 
   behind_none : (r : Result (List FlatStep) Cause) → r ≡ behind [] r
   behind_none (Ok steps) = refl
   behind_none (Err fault) = refl
 
-  pub begins : (most : ℕ) (all : List DeckStep) (expansion : Expansion) (noted : List Runs) → expansion ≡ Steps [] → noted ≡ [] →
+  first_kept : (most : ℕ) (all : List DeckStep) (expansion : Expansion) → KeepsFirst most all expansion → Keeps most expansion [] all
+  first_kept most all expansion (inl many) = inr (many.0, (let over = many.1 in omega (arith, over)))
+  first_kept most all expansion (inr none) = inl (none ∙ sym (is_few most [] (omega arith)))
+
+  pub begins : (most : ℕ) (all : List DeckStep) (expansion : Expansion) (noted : List Runs) → KeepsFirst most all expansion → noted ≡ [] →
       Holds most all 0 all expansion noted
-  begins most all expansion noted none empty = record {
+  begins most all expansion noted first empty = record {
     whole = [];
     so = behind_none (flat_from library procedures 1 all);
-    kept = none ∙ sym (is_few most [] (omega arith));
+    kept = first_kept most all expansion first;
     read = subst (All (WasRead library procedures)) (sym empty) (All-nil (WasRead library procedures));
   }
 
@@ -181,21 +347,36 @@ module _ (library : List LibraryProcedure) (procedures : List in_stream.Procedur
     so_behind : (more : List FlatStep) → its ≡ Ok more → flat_from library procedures 1 all ≡ behind (it.whole ++ more) next
     so_behind more is = it.so ∙ ap (λ (r : Result (List FlatStep) Cause). behind it.whole (joined r (λ _. next))) is ∙ behind_both it.whole more next
 
-    pub takes : (found : List FlatStep) (now : Expansion) (still : List Runs) → its ≡ Ok found → now ≡ up_to most (it.whole ++ found) →
+    further : (more : List FlatStep) → 1 ≤ length more → most < length it.whole + length (step ∷ rest) → most < length (it.whole ++ more) + length rest
+    further more some over = omega (arith, length-append it.whole more, some, over)
+
+    kept_taken : (found : List FlatStep) (now : Expansion) → 1 ≤ length found →
+        ((so_far : List FlatStep) → expansion ≡ up_to most so_far → now ≡ up_to most (so_far ++ found)) → (expansion ≡ TooMany → now ≡ TooMany) →
+        Keeps most expansion it.whole (step ∷ rest) → Keeps most now (it.whole ++ found) rest
+    kept_taken found now some few many (inl kept) = inl (few it.whole kept)
+    kept_taken found now some few many (inr over) = inr (many over.0, further found some over.1)
+
+    pub takes : (found : List FlatStep) (now : Expansion) (still : List Runs) → its ≡ Ok found →
+        ((so_far : List FlatStep) → expansion ≡ up_to most so_far → now ≡ up_to most (so_far ++ found)) → (expansion ≡ TooMany → now ≡ TooMany) →
         (WasRead library procedures step.exec.runs → All (WasRead library procedures) still) → Holds most all (place + 1) rest now still
-    takes found now still is kept read = record {
+    takes found now still is few many read = record {
       whole = it.whole ++ found;
       so = so_behind found is;
-      kept = kept;
+      kept = kept_taken found now (some_found step.exec step.dds (place + 1) step.exec.runs found is) few many it.kept;
       read = read (read_by step.exec step.dds (place + 1) step.exec.runs found is);
     }
+
+    kept_passed : (more : List FlatStep) → 1 ≤ length more → expansion ≡ TooMany → Keeps most expansion it.whole (step ∷ rest) →
+        Keeps most expansion (it.whole ++ more) rest
+    kept_passed more some many (inl kept) = inl (many ∙ with_many most expansion it.whole more many kept)
+    kept_passed more some many (inr over) = inr (over.0, further more some over.1)
 
     pub goes_by : Passes library procedures expansion step → Holds most all (place + 1) rest expansion noted
     goes_by passes =
         let more = brings_by step.exec step.dds (place + 1) step.exec.runs passes.read passes.names passes.dds in record {
           whole = it.whole ++ more.0;
           so = so_behind more.0 more.1;
-          kept = passes.many ∙ with_many most expansion it.whole more.0 passes.many it.kept;
+          kept = kept_passed more.0 (some_found step.exec step.dds (place + 1) step.exec.runs more.0 more.1) passes.many it.kept;
           read = it.read;
         }
 
@@ -203,9 +384,17 @@ module _ (library : List LibraryProcedure) (procedures : List in_stream.Procedur
     refused fault is =
         ap (counted most) (it.so ∙ ap (λ (r : Result (List FlatStep) Cause). behind it.whole (joined r (λ _. next))) is)
 
+  kept_last : (most : ℕ) (expansion : Expansion) (whole : List FlatStep) (rest : List DeckStep) → Keeps most expansion whole rest → rest ≡ [] →
+      up_to most whole ≡ expansion
+  kept_last most expansion whole rest (inl kept) none = sym kept
+  kept_last most expansion whole rest (inr over) none =
+      let size = ap length none in
+      let more = over.1 in
+      is_many most whole (omega (arith, more, size)) ∙ sym over.0
+
   pub ends : (most : ℕ) (all : List DeckStep) (place : ℕ) (rest : List DeckStep) (expansion : Expansion) (noted : List Runs) →
       Holds most all place rest expansion noted → rest ≡ [] → counted most (flat_from library procedures 1 all) ≡ Ok expansion
   ends most all place rest expansion noted it none =
       ap (counted most) (it.so ∙ ap (λ l. behind it.whole (flat_from library procedures (place + 1) l)) none)
       ∙ ap (λ (l : List FlatStep). let r : Result Expansion Cause = Ok (up_to most l) in r) (append-nil it.whole)
-      ∙ ap (λ (e : Expansion). let r : Result Expansion Cause = Ok e in r) (sym it.kept)
+      ∙ ap (λ (e : Expansion). let r : Result Expansion Cause = Ok e in r) (kept_last most expansion it.whole rest it.kept none)

@@ -1,5 +1,5 @@
 -- The steps of a deck as they are collected, up to a number of them, and the calls that need not be read again. (This profile)
-use Rattle.std.specs.Prelude.{◌≡◌, ℕ, nat_lt, List, [], ◌++◌, length, Option, Result, Ok, if◌then◌else◌}
+use Rattle.std.specs.Prelude.{◌≡◌, ◌⊎◌, ◌<◌, ℕ, nat_lt, List, [], ◌++◌, length, Option, Result, Ok, if◌then◌else◌}
 use Rattle.jcl_plan.specs.declared.fault.Cause.{Cause}
 use Rattle.jcl_symbols.specs.declared.symbol.Symbol.{Symbol}
 use Rattle.jcl_cards.specs.declared.exec.Runs.{Runs}
@@ -44,3 +44,7 @@ pub record Passes (library : List LibraryProcedure) (procedures : List in_stream
   pub read : WasRead library procedures step.exec.runs
   pub names : step.exec.named_steps ≡ []
   pub dds : step.dds ≡ []
+
+-- no step is kept where the deck's own are too many already
+abbrev pub KeepsFirst : ℕ → List DeckStep → Expansion → Type 0
+KeepsFirst most steps expansion = ((expansion ≡ TooMany) × (most < length steps)) ⊎ (expansion ≡ Steps [])

@@ -12,7 +12,7 @@ ghost use Rattle.proc_library.specs.declared.library.LibraryProcedure.{LibraryPr
 ghost use Rattle.jcl_procs.specs.declared.step.FlatStep.{FlatStep};
 ghost use Rattle.jcl_procs.specs.Calls.{steps_of};
 ghost use Rattle.jcl_procs.specs.Bodies.{call_with, is_proc, statements_in, steps_of_lines, steps_with};
-ghost use Rattle.jcl_procs.specs.Counting.{IsLike, Passes, WasRead, counted, up_to};
+ghost use Rattle.jcl_procs.specs.Counting.{IsLike, KeepsFirst, Passes, WasRead, counted, up_to};
 ghost use Rattle.jcl_procs.specs.Expansions.{and_then, body_by, body_named, body_of, called, flat_from, in_deck, plain_step, steps_by};
 
 use crate::calls::{Caller, steps_of};
@@ -395,7 +395,8 @@ fn with_steps(
     most: usize,
     steps: Listed<FlatStep>,
 ) -> Result<Expansion, AllocError>
-    ensures { (so_far : List FlatStep) → expansion ≡ up_to most so_far → IfOk result (λ now. now ≡ up_to most (so_far ++ steps)) }
+    ensures few { (so_far : List FlatStep) → expansion ≡ up_to most so_far → IfOk result (λ now. now ≡ up_to most (so_far ++ steps)) }
+    ensures many { expansion ≡ Expansion.TooMany → IfOk result (λ now. now ≡ Expansion.TooMany) }
 {
     let Expansion::Steps(so_far) = expansion else {
         return Ok(Expansion::TooMany);
@@ -406,6 +407,17 @@ fn with_steps(
     let mut flat = so_far.into_vec();
     put_behind(&mut flat, steps)?;
     Ok(Expansion::Steps(Listed::new(flat)))
+}
+
+/// What is kept before the first step is read. Each step of a deck brings one at least.
+fn kept_first(alloc: Global, most: usize, steps: &[DeckStep]) -> Expansion
+    ensures { KeepsFirst most steps.now result }
+{
+    if steps.len() > most {
+        Expansion::TooMany
+    } else {
+        Expansion::Steps(Listed::empty(alloc))
+    }
 }
 
 /// The steps of a deck in order, those of the procedures that it calls in their places, up to so many, or the first refusal, call by call.
@@ -422,7 +434,7 @@ pub fn expand(
         library,
         procedures,
     };
-    let mut expansion = Expansion::Steps(Listed::empty(alloc));
+    let mut expansion = kept_first(alloc, most, steps.as_slice());
     let mut read = Vec::new(alloc);
     let mut place = 0;
     for step in steps.into_vec() {
