@@ -26,6 +26,14 @@ without_blanks text = behind is_blank text
 abbrev pub quoted_after : Bool → ℕ → Bool
 quoted_after quoted c = if c == 39 then not quoted else quoted
 
+-- neither a blank nor an apostrophe
+abbrev pub is_unquoted : ℕ → Bool
+is_unquoted c = not (is_blank c) && not (c == 39)
+
+abbrev pub begins_quoted : List ℕ → Bool
+begins_quoted [] = false
+begins_quoted (c ∷ cs) = c == 39
+
 abbrev pub begun_with : ℕ → Option (List ℕ) → Option (List ℕ)
 begun_with c None = None
 begun_with c (Some text) = Some (c ∷ text)

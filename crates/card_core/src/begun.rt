@@ -13,7 +13,7 @@ use crate::operand::operand_behind;
 use crate::read::ReadError;
 use crate::statement::{DataCard, Statement};
 use plain::listed::Listed;
-use plain::text::Text;
+use plain::small::SmallText;
 use std::alloc::{AllocError, Global};
 
 /// A statement that begins on a card.
@@ -42,7 +42,7 @@ fn with_data(
     alloc: Global,
     called: bool,
     fields: &Fields<'_>,
-    operand: Text,
+    operand: SmallText<22>,
     used: usize,
     behind: &[DataCard],
 ) -> Result<Begun, ReadError>
@@ -60,8 +60,8 @@ fn with_data(
         called: called || operation == b"EXEC".as_slice(),
         used: used + used_by_data(opens, behind),
         statement: Statement {
-            name: Text::copy_of(alloc, fields.name)?,
-            operation: Text::copy_of(alloc, operation)?,
+            name: SmallText::copy_of(alloc, fields.name)?,
+            operation: SmallText::copy_of(alloc, operation)?,
             operand,
             cards: found,
         },
@@ -116,9 +116,9 @@ pub fn loose(
     }
     Ok(Begun {
         statement: Statement {
-            name: Text::copy_of(alloc, b"SYSIN")?,
-            operation: Text::copy_of(alloc, b"DD")?,
-            operand: Text::copy_of(alloc, b"*")?,
+            name: SmallText::copy_of(alloc, b"SYSIN")?,
+            operation: SmallText::copy_of(alloc, b"DD")?,
+            operand: SmallText::copy_of(alloc, b"*")?,
             cards: Some(loose_cards(alloc, card, cards)?),
         },
         called,

@@ -2,7 +2,7 @@
 ghost use Rattle.std.specs.Prelude.{◌≡◌, ◌≤◌, length, false};
 ghost use Rattle.std.specs.Option.{option_copied};
 ghost use Rattle.card_core.specs.Cards.{is_blank, columns};
-ghost use Rattle.card_core.specs.Fields.{front, behind, is_not_blank, without_blanks, operand_text, quoted_after, ends_with_comma, resumes_outside, name_of, operation_of, behind_operation};
+ghost use Rattle.card_core.specs.Fields.{begins_quoted, front, behind, is_not_blank, is_unquoted, without_blanks, operand_text, quoted_after, ends_with_comma, resumes_outside, name_of, operation_of, behind_operation};
 
 use crate::card::{columns, is_blank};
 use crate::statement::DataCard;
@@ -64,8 +64,8 @@ pub fn fields_of(card: &DataCard) -> Fields<'_>
     }
 }
 
-/// The operand's text on one card: to a blank outside apostrophes, or to the end. With `None` apostrophes are open at the end.
-pub fn operand_text(text: &[u8]) -> Option<&[u8]>
+/// The operand's text on one card, character by character.
+fn text_by_characters(text: &[u8]) -> Option<&[u8]>
     ensures { option_copied result ≡ operand_text false text.now }
 {
     let mut quoted = false;
@@ -77,6 +77,37 @@ pub fn operand_text(text: &[u8]) -> Option<&[u8]>
         quoted = quoted_after(quoted, *c);
     }
     if quoted { None } else { Some(text) }
+}
+
+/// How many characters the text has before its first blank or apostrophe.
+fn unquoted_len(text: &[u8]) -> usize
+    ensures count { result ≡ length (front is_unquoted text.now) }
+    ensures bound { result ≤ length text.now }
+{
+    text.iter()
+        .take_while(|c| !is_blank(**c) && **c != APOSTROPHE)
+        .count()
+}
+
+fn begins_quoted(text: &[u8]) -> bool
+    ensures { result ≡ begins_quoted text.now }
+{
+    match text {
+        [first, ..] => *first == APOSTROPHE,
+        [] => false,
+    }
+}
+
+/// The operand's text on one card: to a blank outside apostrophes, or to the end. With `None` apostrophes are open at the end. Most have none.
+pub fn operand_text(text: &[u8]) -> Option<&[u8]>
+    ensures { option_copied result ≡ operand_text false text.now }
+{
+    let (operand, behind) = text.split_at(unquoted_len(text));
+    if begins_quoted(behind) {
+        text_by_characters(text)
+    } else {
+        Some(operand)
+    }
 }
 
 fn quoted_after(quoted: bool, c: u8) -> bool

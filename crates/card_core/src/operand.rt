@@ -8,13 +8,13 @@ use crate::fault::CardFault;
 use crate::field::{Fields, continuation_of, ends_with_comma, operand_text, resumes_outside};
 use crate::read::ReadError;
 use crate::statement::DataCard;
-use plain::text::Text;
+use plain::small::SmallText;
 use std::alloc::Global;
 
 /// An operand to its end.
 #[derive(Drop)]
 pub struct Operand {
-    pub text: Text,
+    pub text: SmallText<22>,
     /// How many cards behind its first it takes.
     pub cards: usize,
     /// The card on which it ends.
@@ -40,7 +40,7 @@ fn continued(before: Vec<u8>, cards: &[DataCard]) -> Result<Operand, ReadError>
         text.extend_from_slice(piece)?;
         if !ends_with_comma(piece) {
             return Ok(Operand {
-                text: Text::new(text),
+                text: SmallText::new(text),
                 cards: at + 1,
                 last: *card,
             });
@@ -60,18 +60,18 @@ fn operand_of(
     ensures value { Gives (λ o. o) result (operand_of card.now cards.now) }
     ensures bound { IfOk result (λ o. o.cards ≤ length cards.now) }
 {
-    let mut text = Vec::new(alloc);
+    let mut text: &[u8] = &[];
     if fields.operation != b"PEND".as_slice() {
         let Some(piece) = operand_text(fields.behind) else {
             return Err(ReadError::Fault(CardFault::OpenApostrophe));
         };
-        text.extend_from_slice(piece)?;
         if ends_with_comma(piece) {
-            return continued(text, cards);
+            return continued(Vec::from_slice(alloc, piece)?, cards);
         }
+        text = piece;
     }
     Ok(Operand {
-        text: Text::new(text),
+        text: SmallText::copy_of(alloc, text)?,
         cards: 0,
         last: *card,
     })

@@ -5,7 +5,7 @@ ghost use Rattle.deck_places.specs.Cuts.{cut, inside_behind};
 use card_core::statement::{DataCard, Statement};
 use jcl_deck::operation::{Operation, operation_of};
 use plain::listed::Listed;
-use plain::text::Text;
+use plain::small::SmallText;
 use std::alloc::{AllocError, Global};
 
 fn copy_of_cards(
@@ -25,9 +25,9 @@ pub fn copy_of(alloc: Global, statement: &Statement) -> Result<Statement, AllocE
     ensures { IfOk result (λ copy. copy ≡ statement.now) }
 {
     Ok(Statement {
-        name: Text::copy_of(alloc, statement.name.as_slice())?,
-        operation: Text::copy_of(alloc, statement.operation.as_slice())?,
-        operand: Text::copy_of(alloc, statement.operand.as_slice())?,
+        name: SmallText::copy_of(alloc, statement.name.as_slice())?,
+        operation: SmallText::copy_of(alloc, statement.operation.as_slice())?,
+        operand: SmallText::copy_of(alloc, statement.operand.as_slice())?,
         cards: copy_of_cards(alloc, &statement.cards)?,
     })
 }

@@ -11,6 +11,7 @@ use jcl_deck::place::Place;
 use jcl_plan::fault::Cause;
 use operand_core::places::Places;
 use plain::lent::Lent;
+use plain::small::SmallText;
 use plain::text::Text;
 use std::alloc::{AllocError, Global};
 use value_core::refusal::ReadError;
@@ -71,7 +72,8 @@ fn statement_without(
     ensures { IfOk result (λ changed. changed ≡ statement_without n statement.now) }
 {
     let mut changed = copy_of(alloc, statement)?;
-    changed.operand = without(alloc, parts, n)?;
+    let operand = without(alloc, parts, n)?;
+    changed.operand = SmallText::new(operand.into_bytes());
     Ok(changed)
 }
 

@@ -5,4 +5,5 @@ pub mod draft;
 pub mod lent;
 pub mod listed;
 pub mod short;
+pub mod small;
 pub mod text;
