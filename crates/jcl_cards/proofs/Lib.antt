@@ -3,6 +3,7 @@ pub mod Answered
 pub mod Symbols
 pub mod Later
 pub mod JobWords
+pub mod Elsewhere
 pub mod ExecNames
 pub mod Conditions
 pub mod DdWords

@@ -1,4 +1,5 @@
 pub mod Keywords
+pub mod Initials
 pub mod JobCards
 pub mod ExecCards
 pub mod ProcedureCards

@@ -14,13 +14,14 @@ ghost use Rattle.jcl_cards.specs.Keywords.{twice_faults};
 use crate::blocks_in::{Blocks, blocks_in};
 use crate::coded::Coded;
 use crate::dd_value::{
-    OfDdName, OfDisposition, OfLabel, OfSetName, OfSpace, OfSysout, OfUnit, OfVolume, coding,
+    OfDdName, OfDisposition, OfLabel, OfSetName, OfSpace, OfSysout, OfUnit, OfVolume, coding_by,
 };
 use crate::given::{excludes_in, is_read_word, is_word};
+use crate::initials::Initials;
 use crate::rules::{
     KeywordRule, Spelling, each_fault, is_same, long_operand, spelled_by, twice_fault,
 };
-use crate::value_in::coded_in;
+use crate::value_in::coded_by;
 use card_core::statement::DataCard;
 use jcl_plan::fault::{Cause, StatementFault};
 use jcl_plan::plan::Space;
@@ -282,17 +283,39 @@ fn dd_of(
     let keywords = operand.keywords.as_slice();
     let positional = operand.positional.as_slice();
     let first = first_of(positional);
+    let initials = Initials::of(keywords);
     let names = names_of(name);
     let formed = earlier(names.fault, operand.fault);
     let mut fault = earlier(formed, positional_fault(first));
-    let set_name = beside(coded_in::<OfSetName>(keywords, b"DSNAME"), &mut fault);
-    let disposition = beside(coded_in::<OfDisposition>(keywords, b"DISP"), &mut fault);
-    let unit = beside(coded_in::<OfUnit>(keywords, b"UNIT"), &mut fault);
-    let volume = beside(coded_in::<OfVolume>(keywords, b"VOLUME"), &mut fault);
-    let space = beside(coded_in::<OfSpace>(keywords, b"SPACE"), &mut fault);
-    let sysout = beside(coded_in::<OfSysout>(keywords, b"SYSOUT"), &mut fault);
-    let dd_name = beside(coded_in::<OfDdName>(keywords, b"DDNAME"), &mut fault);
-    let label = beside(coded_in::<OfLabel>(keywords, b"LABEL"), &mut fault);
+    let set_name = beside(
+        coded_by::<OfSetName>(&initials, keywords, b"DSNAME"),
+        &mut fault,
+    );
+    let disposition = beside(
+        coded_by::<OfDisposition>(&initials, keywords, b"DISP"),
+        &mut fault,
+    );
+    let unit = beside(coded_by::<OfUnit>(&initials, keywords, b"UNIT"), &mut fault);
+    let volume = beside(
+        coded_by::<OfVolume>(&initials, keywords, b"VOLUME"),
+        &mut fault,
+    );
+    let space = beside(
+        coded_by::<OfSpace>(&initials, keywords, b"SPACE"),
+        &mut fault,
+    );
+    let sysout = beside(
+        coded_by::<OfSysout>(&initials, keywords, b"SYSOUT"),
+        &mut fault,
+    );
+    let dd_name = beside(
+        coded_by::<OfDdName>(&initials, keywords, b"DDNAME"),
+        &mut fault,
+    );
+    let label = beside(
+        coded_by::<OfLabel>(&initials, keywords, b"LABEL"),
+        &mut fault,
+    );
     let control_blocks = beside(blocks, &mut fault);
     let last = earlier(fault, keywords_fault(positional, keywords));
     match last {
@@ -310,9 +333,9 @@ fn dd_of(
             dd_name,
             label,
             control_blocks,
-            character_set: coding(keywords, b"UCS"),
-            forms_control: coding(keywords, b"FCB"),
-            output_limit: coding(keywords, b"OUTLIM"),
+            character_set: coding_by(&initials, keywords, b"UCS"),
+            forms_control: coding_by(&initials, keywords, b"FCB"),
+            output_limit: coding_by(&initials, keywords, b"OUTLIM"),
         }),
     }
 }

@@ -5,10 +5,12 @@ ghost use Rattle.operand_core.specs.Subparameters.{first_place, subparameters_of
 ghost use Rattle.operand_core.specs.Values.{class_of};
 ghost use Rattle.jcl_cards.specs.DdCards.{any_text, is_sysout};
 ghost use Rattle.jcl_cards.specs.Dds.{coding};
+ghost use Rattle.jcl_cards.specs.Initials.{HasAll};
 ghost use Rattle.jcl_cards.specs.Keywords.{coded_text};
 
 use crate::coded::Coded;
-use crate::rules::{Spelling, is_same, spelled_by};
+use crate::initials::Initials;
+use crate::rules::{Spelling, is_key};
 use crate::value_in::ValueReader;
 use jcl_plan::fault::{Cause, StatementFault};
 use jcl_plan::plan::Space;
@@ -175,9 +177,20 @@ pub(crate) fn coding(keywords: &[Keyword<'_>], key: &[u8]) -> Coded<()>
     ensures { result ≡ coding key.now keywords.now }
 {
     for keyword in keywords {
-        if is_same(spelled_by(Spelling::Two, keyword.key()), key) {
+        if is_key(Spelling::Two, keyword.key(), key) {
             return coding_of(keyword.value());
         }
     }
     Coded::NotGiven
+}
+
+/// The same, where with these characters all their keys begin.
+pub(crate) fn coding_by(initials: &Initials, keywords: &[Keyword<'_>], key: &[u8]) -> Coded<()>
+    requires { HasAll initials.now keywords.now }
+    ensures { result ≡ coding key.now keywords.now }
+{
+    if !initials.has(key) {
+        return Coded::NotGiven;
+    }
+    coding(keywords, key)
 }

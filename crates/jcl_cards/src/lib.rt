@@ -10,6 +10,7 @@ pub mod exec;
 mod exec_conditions;
 mod exec_keyword;
 mod given;
+mod initials;
 pub mod job;
 pub mod merging;
 pub mod procedure;

@@ -53,11 +53,23 @@ pub(crate) fn spelled_by<'a>(spelling: Spelling, key: &'a [u8]) -> &'a [u8]
     }
 }
 
+/// Whether a key is this one, however it is spelled: most differ in the first character.
+pub(crate) fn is_key(spelling: Spelling, key: &[u8], wanted: &[u8]) -> bool
+    ensures { result ≡ bytes_eq (spelled_by spelling key.now) wanted.now }
+{
+    match (key.first(), wanted.first()) {
+        (Some(first), Some(other)) if *first != *other => false,
+        _ => is_same(spelled_by(spelling, key), wanted),
+    }
+}
+
 /// Whether a keyword has this key, however it is spelled.
 pub(crate) fn has_spelled(spelling: Spelling, keywords: &[Keyword<'_>], key: &[u8]) -> bool
     ensures { result ≡ has_spelled spelling key.now keywords.now }
 {
-    keywords.iter().any(|keyword| is_same(spelled_by(spelling, keyword.key()), key))
+    keywords
+        .iter()
+        .any(|keyword| is_key(spelling, keyword.key(), key))
 }
 
 /// Whether a keyword stands twice.

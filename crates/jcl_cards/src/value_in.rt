@@ -4,11 +4,13 @@ ghost use Rattle.std.specs.Option.{option_copied};
 ghost use Rattle.value_core.specs.Reads.{IsRead};
 ghost use Rattle.jcl_cards.specs.Keywords.{coded_in, coded_text, read_or, value_in};
 ghost use Rattle.jcl_cards.specs.DdCards.{is_key};
+ghost use Rattle.jcl_cards.specs.Initials.{HasAll};
 ghost use Rattle.jcl_cards.specs.JobCards.{is_key as is_key_of_job};
 ghost use Rattle.jcl_cards.specs.Reading.{IsReadBefore, and_later};
 
 use crate::coded::Coded;
-use crate::rules::{Spelling, is_same, spelled_by};
+use crate::initials::Initials;
+use crate::rules::{Spelling, is_key};
 use jcl_plan::fault::Cause;
 use operand_core::fault::lower;
 use operand_core::operand::Keyword;
@@ -73,7 +75,7 @@ fn put_before<R: ValueReader>(
 )
     ensures { IsReadBefore (coded_in (is_key key.now) R.reads) keyword.now later.old later.new }
 {
-    if is_same(spelled_by(Spelling::Two, keyword.key()), key) {
+    if is_key(Spelling::Two, keyword.key(), key) {
         let behind = replace(later, Ok(Coded::NotGiven));
         *later = and_later(coded_text::<R>(keyword.value()), behind);
     }
@@ -93,6 +95,21 @@ pub(crate) fn coded_in<R: ValueReader>(
         put_before::<R>(&keywords[at], key, &mut found);
     }
     found
+}
+
+/// The same, where with these characters all their keys begin.
+pub(crate) fn coded_by<R: ValueReader>(
+    initials: &Initials,
+    keywords: &[Keyword<'_>],
+    key: &[u8],
+) -> Result<Coded<R::Value>, Cause>
+    requires { HasAll initials.now keywords.now }
+    ensures { IsRead result (coded_in (is_key key.now) R.reads keywords.now) }
+{
+    if !initials.has(key) {
+        return Ok(Coded::NotGiven);
+    }
+    coded_in::<R>(keywords, key)
 }
 
 /// The value of a keyword of a JOB, or what stands where it is not read.

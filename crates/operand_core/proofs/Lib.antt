@@ -1,4 +1,5 @@
 pub mod CharacterByCharacter
+pub mod Collected
 pub mod Faultless
 pub mod Keys
 pub mod SameOperand

@@ -1,13 +1,11 @@
 //! An operand by its parts.
-ghost use Rattle.std.specs.Prelude.{◌≡◌, ◌≤◌, length, map, IfOk};
-ghost use Rattle.std.specs.List.{flat_map, list_any};
+ghost use Rattle.std.specs.Prelude.{◌≡◌, ◌||◌, IfOk, OnOk, nat_lt};
 ghost use Rattle.std.specs.Option.{option_copied};
-ghost use Rattle.operand_core.specs.Faults.{told};
-ghost use Rattle.operand_core.specs.Operands.{first_of, is_positional, is_crowded, keywords_of, operand_of, part_faults, positional_parts, read_of};
-ghost use Rattle.operand_core.specs.Reading.{IsOperand};
+ghost use Rattle.operand_core.specs.Operands.{first_of, keyword_of, operand_of, parts_of, read_of};
+ghost use Rattle.operand_core.specs.Reading.{IsOperand, all_parts, no_parts, parts_in, put_behind, with_part};
 
 use crate::fault::{earlier, when};
-use crate::parts::{Part, parts_of};
+use crate::parts::{Part, first_part};
 use jcl_plan::fault::{Cause, StatementFault};
 use std::alloc::{AllocError, Global};
 use std::marker::Model;
@@ -78,37 +76,6 @@ pub struct Operand<'a> {
     pub fault: Option<Cause>,
 }
 
-fn parts_fault(parts: &[Part<'_>]) -> Option<Cause>
-    ensures { result ≡ told (flat_map part_faults parts.now) }
-{
-    let mut fault = None;
-    for part in parts {
-        fault = earlier(fault, part.fault());
-    }
-    fault
-}
-
-/// How many parts stand before the first keyword.
-fn positional_count(parts: &[Part<'_>]) -> usize
-    ensures count { result ≡ length (positional_parts parts.now) }
-    ensures bound { result ≤ length parts.now }
-{
-    parts.iter().take_while(|part| part.is_positional()).count()
-}
-
-fn has_positional(parts: &[Part<'_>]) -> bool
-    ensures { result ≡ list_any is_positional parts.now }
-{
-    parts.iter().any(|part| part.is_positional())
-}
-
-fn is_crowded(most: usize, parts: &[Part<'_>]) -> bool
-    ensures { result ≡ is_crowded most parts.now }
-{
-    let (front, behind) = parts.split_at(positional_count(parts));
-    front.len() > most || has_positional(behind)
-}
-
 /// The text, where the part that it stands in is read.
 fn read_of<'a>(part: &Part<'_>, text: &'a [u8]) -> Option<&'a [u8]>
     ensures { option_copied result ≡ read_of part.now text.now }
@@ -119,51 +86,98 @@ fn read_of<'a>(part: &Part<'_>, text: &'a [u8]) -> Option<&'a [u8]>
     }
 }
 
-fn positional_of<'a>(alloc: Global, parts: &[Part<'a>]) -> Result<Vec<Positional<'a>>, AllocError>
-    ensures { IfOk result (λ v. v.items ≡ map (λ part. read_of part part) (positional_parts parts.now)) }
-{
-    let (front, _) = parts.split_at(positional_count(parts));
-    let mut positional = Vec::new(alloc);
-    for part in front {
-        positional.push(Positional {
-            text: read_of(part, part.text()),
-        })?;
-    }
-    Ok(positional)
+/// The parts of an operand so far.
+#[derive(Drop)]
+struct Collected<'a> {
+    positional: Vec<Positional<'a>>,
+    keywords: Vec<Keyword<'a>>,
+    /// One without a keyword stands behind one with a keyword.
+    crowded: bool,
+    fault: Option<Cause>,
 }
 
-fn keywords_of<'a>(alloc: Global, parts: &[Part<'a>]) -> Result<Vec<Keyword<'a>>, AllocError>
-    ensures { IfOk result (λ v. v.items ≡ keywords_of parts.now) }
-{
-    let mut keywords = Vec::new(alloc);
-    for part in parts {
+impl<'a> Collected<'a> {
+    fn nothing(alloc: Global) -> Collected<'a>
+        ensures { parts_in result ≡ no_parts }
+    {
+        Collected {
+            positional: Vec::new(alloc),
+            keywords: Vec::new(alloc),
+            crowded: false,
+            fault: None,
+        }
+    }
+
+    /// Puts a part without its fault behind the others.
+    fn put(&mut self, part: &Part<'a>) -> Result<(), AllocError>
+        ensures { OnOk result (parts_in self.new ≡ put_behind part.now (keyword_of part.now) (parts_in self.old)) }
+    {
         if let Some((key, value)) = part.keyword() {
-            keywords.push(Keyword {
+            self.keywords.push(Keyword {
                 key,
                 value: read_of(part, value),
             })?;
+        } else if self.keywords.is_empty() {
+            self.positional.push(Positional {
+                text: read_of(part, part.text()),
+            })?;
+        } else {
+            self.crowded = true;
         }
+        Ok(())
     }
-    Ok(keywords)
+
+    fn add(&mut self, part: &Part<'a>) -> Result<(), AllocError>
+        ensures { OnOk result (parts_in self.new ≡ with_part part.now (parts_in self.old)) }
+    {
+        self.put(part)?;
+        self.fault = earlier(self.fault, part.fault());
+        Ok(())
+    }
+}
+
+/// The parts of an operand, of which an empty one has none.
+fn collect<'a>(alloc: Global, operand: &'a [u8]) -> Result<Collected<'a>, AllocError>
+    ensures { IfOk result (λ c. parts_in c ≡ all_parts (parts_of operand.now)) }
+{
+    let mut found = Collected::nothing(alloc);
+    if operand.is_empty() {
+        return Ok(found);
+    }
+    let mut rest = operand;
+    while let Some((part, behind)) = first_part(rest) {
+        found.add(&Part::new(part))?;
+        rest = behind;
+    }
+    found.add(&Part::new(rest))?;
+    Ok(found)
+}
+
+/// Whether there are more positional ones than the statement takes, or one behind a keyword.
+fn is_crowded(most: usize, count: usize, behind_keyword: bool) -> bool
+    ensures { result ≡ (nat_lt most count || behind_keyword) }
+{
+    count > most || behind_keyword
 }
 
 /// The operand of a statement that takes so many positional ones at most.
-#[tactic(auto, using(crate::proofs::Told::told_append))]
 pub fn operand_of<'a>(alloc: Global, most: usize, text: &'a [u8]) -> Result<Operand<'a>, AllocError>
     ensures { IfOk result (λ operand. IsOperand operand (operand_of most text.now)) }
 {
-    let parts = parts_of(alloc, text)?;
-    let parts = parts.as_slice();
+    let Collected {
+        positional,
+        keywords,
+        crowded,
+        fault,
+    } = collect(alloc, text)?;
+    let many = when(
+        is_crowded(most, positional.as_slice().len(), crowded),
+        Cause::P(StatementFault::TooManyPositional),
+    );
     Ok(Operand {
-        positional: positional_of(alloc, parts)?,
-        keywords: keywords_of(alloc, parts)?,
-        fault: earlier(
-            parts_fault(parts),
-            when(
-                is_crowded(most, parts),
-                Cause::P(StatementFault::TooManyPositional),
-            ),
-        ),
+        positional,
+        keywords,
+        fault: earlier(fault, many),
     })
 }
 

@@ -3,13 +3,12 @@ ghost use Rattle.std.specs.Prelude.{◌≡◌, ◌∷◌, [], take_while, ◌<�
 ghost use Rattle.std.specs.List.{position};
 ghost use Rattle.std.specs.Option.{option_copied};
 ghost use Rattle.operand_core.specs.Faults.{told};
-ghost use Rattle.operand_core.specs.Operands.{places_of, part_faults, parts_of, keyword_of, is_key_character, is_positional};
+ghost use Rattle.operand_core.specs.Operands.{places_of, part_faults, keyword_of, is_key_character};
 
 use crate::fault::when;
 use crate::scan::{depth_after, ends_part, is_balanced, is_calm, is_closed, quoted_after};
 use jcl_plan::fault::{Cause, StatementFault};
 use jname_core::name8::is_name_character;
-use std::alloc::{AllocError, Global};
 use std::marker::Model;
 
 /// A part of an operand that a clause sees as its bytes.
@@ -42,7 +41,7 @@ impl<'a> Model for Part<'a> {
 
 impl<'a> Part<'a> {
     /// The part of these characters, whose keyword and fault are looked for once.
-    fn new(text: &'a [u8]) -> Part<'a>
+    pub(crate) fn new(text: &'a [u8]) -> Part<'a>
         ensures { result ≡ text.entry.now }
     {
         let fault = part_fault(text);
@@ -63,7 +62,7 @@ impl<'a> Part<'a> {
     }
 
     /// Its characters.
-    pub fn text(&self) -> &'a [u8]
+    pub(crate) fn text(&self) -> &'a [u8]
         ensures { result.now ≡ self.now }
     {
         self.text
@@ -76,15 +75,8 @@ impl<'a> Part<'a> {
         self.fault
     }
 
-    /// Whether it begins with no keyword.
-    pub fn is_positional(&self) -> bool
-        ensures { result ≡ is_positional self.now }
-    {
-        self.keyword().is_none()
-    }
-
     /// Its keyword and what stands behind its `=`.
-    pub fn keyword(&self) -> Option<(&'a [u8], &'a [u8])>
+    pub(crate) fn keyword(&self) -> Option<(&'a [u8], &'a [u8])>
         ensures { MatchOption result (keyword_of self.now ≡ None) (λ r. keyword_of self.now ≡ Some (r.0.now, r.1.now)) }
     {
         match (self.key, self.value) {
@@ -149,30 +141,6 @@ fn part_by_characters(text: &[u8]) -> Option<(&[u8], &[u8])>
         quoted = quoted_after(quoted, *c);
     }
     None
-}
-
-/// The places between commas, of which an empty text has one.
-pub(crate) fn places_of<'a>(alloc: Global, text: &'a [u8]) -> Result<Vec<Part<'a>>, AllocError>
-    ensures { IfOk result (λ v. v.items ≡ places_of text.now) }
-{
-    let mut parts = Vec::new(alloc);
-    let mut rest = text;
-    while let Some((part, behind)) = first_part(rest) {
-        parts.push(Part::new(part))?;
-        rest = behind;
-    }
-    parts.push(Part::new(rest))?;
-    Ok(parts)
-}
-
-/// The parts of an operand, of which an empty one has none.
-pub(crate) fn parts_of<'a>(alloc: Global, operand: &'a [u8]) -> Result<Vec<Part<'a>>, AllocError>
-    ensures { IfOk result (λ v. v.items ≡ parts_of operand.now) }
-{
-    if operand.is_empty() {
-        return Ok(Vec::new(alloc));
-    }
-    places_of(alloc, operand)
 }
 
 fn is_key_character(c: u8) -> bool

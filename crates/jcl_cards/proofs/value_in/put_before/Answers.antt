@@ -7,8 +7,8 @@ use Rattle.jcl_cards.specs.Reading.{and_later as and_later_of}
 use Rattle.jcl_cards.proofs.Later.{and_later_is}
 use Rattle.jcl_cards.proofs.value_in.put_before.Goals as goal
 
-pub returns-then-is_same : goal.returns-then-is_same
-returns-then-is_same g c = λ behind is.
+pub returns-then-is_key : goal.returns-then-is_key
+returns-then-is_key g c = λ behind is.
     let reads = g.R.ValueReader.reads in
     let key = c.args.key.now in
     let keyword = c.args.keyword.now in
