@@ -1,5 +1,5 @@
 -- The kind of a DD, as it is found from the DDs that are planned.
-use Rattle.std.specs.Prelude.{ℕ, ◌≤◌, Bool, true, false, List, [], ◌∷◌, ◌++◌, length, map, All, Option, Some, None, is_some, Result, Ok, Err}
+use Rattle.std.specs.Prelude.{◌≡◌, ℕ, ◌≤◌, Bool, true, false, List, [], ◌∷◌, ◌++◌, length, map, All, Option, Some, None, is_some, Result, Ok, Err}
 use Rattle.std.specs.List.{flat_map}
 use Rattle.jname_core.specs.declared.key.Key.{Key}
 use Rattle.jcl_plan.specs.declared.fault.Cause.{Cause}
@@ -10,7 +10,9 @@ use Rattle.jcl_plan.specs.declared.plan.VolumePlan.{VolumePlan}
 use Rattle.jcl_plan.specs.declared.plan.VolumePlan.TheVariants as volume
 use Rattle.operand_core.specs.Faults.{earlier, told}
 use Rattle.value_core.specs.Reads.{answer}
+use Rattle.jcl_cards.specs.declared.coded.Coded.TheVariants.{NotGiven}
 use Rattle.jcl_cards.specs.declared.dd.DdCard.{DdCard}
+use Rattle.jcl_cards.specs.declared.dd.Word.TheVariants as positional_word
 use Rattle.jcl_procs.specs.declared.step.FlatStep.{FlatStep}
 use Rattle.jcl_procs.specs.Expansions.{and_then}
 use Rattle.jcl_refs.specs.declared.kinds.Source.{Source}
@@ -76,6 +78,13 @@ key_by true (Err fault) = None
 abbrev pub fault_named : Result (Option Key) Cause → Option Cause
 fault_named (Ok key) = None
 fault_named (Err fault) = Some fault
+
+-- it says DUMMY, and nothing that names a set or leads to another DD
+pub record IsDummyAlone (dd : DdCard) : Type 0 where
+  pub word : dd.word ≡ Some positional_word.Dummy
+  pub set_name : dd.set_name ≡ NotGiven
+  pub volume : dd.volume ≡ NotGiven
+  pub control_blocks : dd.control_blocks ≡ NotGiven
 
 -- the fault that is told of a DD, by what DSNAME names and the key of its set
 abbrev pub fault_with : Spot → DdCard → Result (Option Key) Cause → Option Key → Option Cause

@@ -1,13 +1,15 @@
 //! The kinds of a step's DDs: sets, DUMMYs, SYSOUT and cards. (GC28-6704, DD statement and "Backward references")
 ghost use Rattle.std.specs.Prelude.{◌≡◌, ◌-◌, ◌≤◌, [], All, IfOk, IfSome, IsSome, MatchOption, length, map, slice_get};
+ghost use Rattle.std.specs.Bool.{OnTrue};
 ghost use Rattle.std.specs.List.{flat_map};
 ghost use Rattle.std.specs.Option.{option_copied};
 ghost use Rattle.operand_core.specs.Faults.{told};
 ghost use Rattle.value_core.specs.Reads.{Gives, answer};
+ghost use Rattle.jcl_cards.specs.declared.coded.Coded.TheVariants.{NotGiven};
 ghost use Rattle.jcl_procs.specs.Expansions.{and_then};
-ghost use Rattle.jcl_refs.specs.Kinds.{FewPlanned, fault_named, fault_with, is_set, key_by, kind_by, kinds_here, named_by, plan_of, setless, source_of, spot_of, volume_by_source};
+ghost use Rattle.jcl_refs.specs.Kinds.{FewPlanned, IsDummyAlone, fault_named, fault_with, is_set, key_by, kinds_here, named_by, plan_of, setless, source_of, spot_of, volume_by_source};
 ghost use Rattle.jcl_refs.specs.LaterDds.{references_of};
-ghost use Rattle.jcl_refs.specs.Plans.{dds_with, disposition_of, faults_of, is_uncataloged, is_uncataloged_after_abend, kind_at, kind_of, kinds_from, kinds_in};
+ghost use Rattle.jcl_refs.specs.Plans.{dds_with, disposition_of, faults_of, is_uncataloged, is_uncataloged_after_abend, kind_at, kinds_from, kinds_in};
 ghost use Rattle.jcl_refs.specs.Plans.{led, naming, own_kind, set_with, space_of, uncataloged_faults, volume_faults, volume_plan};
 
 use crate::targets::{Target, target_of};
@@ -338,44 +340,45 @@ fn dd_fault(
     )
 }
 
-/// What a DD is that has no fault.
-fn kind_by(
-    alloc: Global,
-    spot: &Spot<'_>,
-    dd: &DdCard,
-    key: Option<Key>,
-) -> Result<DdKind, AllocError>
-    requires { FewPlanned spot.now }
-    ensures { IfOk result (λ kind. kind ≡ kind_by (spot_of spot.now) dd.now (own_kind dd.now) key) }
+fn is_not_given<T>(coded: &Coded<T>) -> bool
+    ensures { OnTrue result (coded.now ≡ NotGiven) }
 {
-    match key {
-        Some(key) => Ok(DdKind::Set(set_with(spot, dd, key))),
-        None => setless(alloc, dd),
+    match coded {
+        Coded::NotGiven => true,
+        Coded::Nullified | Coded::Value(_) => false,
     }
 }
 
-/// What a DD is at its place, or the lowest of its faults.
-fn kind_of(alloc: Global, spot: &Spot<'_>, dd: &DdCard) -> Result<DdKind, ReadError>
+/// Whether a DD says DUMMY, and nothing that names a set or leads to another DD.
+fn is_dummy_alone(dd: &DdCard) -> bool
+    ensures { OnTrue result (IsDummyAlone dd.now) }
+{
+    matches!(&dd.word, Some(Positional::Dummy))
+        && is_not_given(&dd.set_name)
+        && is_not_given(&dd.volume)
+        && is_not_given(&dd.control_blocks)
+}
+
+/// A DD as it is planned at its place, or the lowest of its faults.
+fn plan_of(alloc: Global, spot: &Spot<'_>, dd: &DdCard) -> Result<DdPlan, ReadError>
     requires { FewPlanned spot.now }
-    ensures { Gives result (answer (kind_of (spot_of spot.now) dd.now)) }
+    ensures { Gives result (plan_of (spot_of spot.now) dd.now) }
 {
     let named = naming(spot, &dd.set_name);
     let key = key_of(dd, named);
     if let Some(fault) = dd_fault(spot, dd, named, key) {
         return Err(ReadError::Refused(fault));
     }
-    Ok(kind_by(alloc, spot, dd, key)?)
-}
-
-fn plan_of(alloc: Global, spot: &Spot<'_>, dd: &DdCard) -> Result<DdPlan, ReadError>
-    requires { FewPlanned spot.now }
-    ensures { Gives result (plan_of (spot_of spot.now) dd.now) }
-{
-    let kind = kind_of(alloc, spot, dd)?;
-    Ok(DdPlan {
-        name: dd.name,
-        kind,
-    })
+    match key {
+        Some(key) => Ok(DdPlan {
+            name: dd.name,
+            kind: DdKind::Set(set_with(spot, dd, key)),
+        }),
+        None => Ok(DdPlan {
+            name: dd.name,
+            kind: setless(alloc, dd)?,
+        }),
+    }
 }
 
 /// The DDs of the k-th step as they are planned, one after another, or the first refusal, of a DD its lowest. Steps and DDs count from 1.
@@ -395,6 +398,13 @@ pub(crate) fn planned_dds(
 {
     let mut planned = Listed::empty(alloc);
     for dd in dds {
+        if is_dummy_alone(dd) {
+            planned.push(DdPlan {
+                name: dd.name,
+                kind: DdKind::Dummy,
+            })?;
+            continue;
+        }
         let spot = Spot {
             steps,
             done,

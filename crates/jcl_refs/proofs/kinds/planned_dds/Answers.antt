@@ -10,7 +10,7 @@ pub returns-in_err-plan : goal.returns-in_err-plan
 returns-in_err-plan c =
     refused_at c.args.steps.now c.args.call c.args.k (map kinds_in c.args.done.now) c.loop-dd.planned c.as_slice.result.now c.len.result c.args.dds.now
     c.loop-dd.dd-index c.dd-item.result c.as_slice.ensures c.len.ensures c.dd-item.is c.loop-dd-test.true c.loop-dd.invariant.left
-    c.plan_of.ensures c.in_err-plan.was (err_from_is_err_and c.from_residual.result c.from_residual.ensures.1)
+    c.plan_of.ensures c.in_err-plan.was (err_from_is_err_and c.from_residual-in_err-plan.result c.from_residual-in_err-plan.ensures.1)
 
 pub returns : goal.returns
 returns c =
