@@ -1,5 +1,5 @@
 -- How a table of records, a table of owners and a stack of free numbers are a queue.
-use Rattle.std.specs.Prelude.{◌≡◌, ℕ, ◌^◌, ◌<◌, ◌==◌, List, [], ◌∷◌, length, map, reverse, take, Option, None, Some, if◌then◌else◌}
+use Rattle.std.specs.Prelude.{◌≡◌, ℕ, ◌^◌, ◌<◌, ◌≤◌, ◌==◌, All, List, [], ◌∷◌, drop, length, map, reverse, take, Option, None, Some, if◌then◌else◌}
 use Rattle.std.specs.List.{count_by}
 use Rattle.cb_meaning.specs.declared.layout.Layout.{Layout}
 use Rattle.queue_core.specs.declared.queue.Queued.{Queued}
@@ -40,3 +40,10 @@ pub record AreStored (l : Layout) (owners : List ℕ) (records : List (List ℕ)
 
 abbrev pub IsStored : Inside → Type 0
 IsStored a = AreStored a.layout a.owners.items a.records.items a.free.items a.free_count a.waiting
+
+-- and no record behind this number was ever taken
+abbrev pub IsFreeBehind : ℕ → List ℕ → Type 0
+IsFreeBehind reach owners = All (λ owner. owner ≡ 0) (drop reach owners)
+
+abbrev pub IsReached : Inside → Type 0
+IsReached a = IsStored a × (a.reach ≤ a.layout.most_records) × IsFreeBehind a.reach a.owners.items

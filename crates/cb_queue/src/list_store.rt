@@ -34,6 +34,8 @@ pub struct ListStore {
     /// Of these the first `free_count` are the numbers of the free records, the one that is taken next last.
     free: Vec<u32>,
     free_count: u32,
+    /// No record behind this number was ever taken.
+    reach: u32,
     waiting: JobQueue,
 }
 
@@ -42,11 +44,11 @@ impl Model for ListStore {
 
     ghost Value = { RecordQueue };
 
-    ghost use Rattle.cb_queue.specs.Stored.{IsStored, seen};
+    ghost use Rattle.cb_queue.specs.Stored.{IsReached, seen};
 
     ghost view = { seen };
 
-    ghost invariant = { IsStored };
+    ghost invariant = { IsReached };
 }
 
 /// The numbers of as many records, 1 last.
@@ -117,6 +119,7 @@ impl ListStore {
             owners: vec![in alloc; 0; count]?,
             free: all_numbers(alloc, layout.most_records)?,
             free_count: layout.most_records,
+            reach: 0,
             waiting: JobQueue::new(alloc),
         })
     }
@@ -189,6 +192,7 @@ impl RecordStore for ListStore {
         let n = self.free[self.free_count as usize];
         self.records[n as usize - 1] = zero_record(owner);
         self.owners[n as usize - 1] = owner;
+        self.reach = self.reach.max(n);
         Some(n)
     }
 
@@ -199,7 +203,7 @@ impl RecordStore for ListStore {
     }
 
     fn give_back_all(&mut self, owner: u16) {
-        let mut n = self.layout.most_records;
+        let mut n = self.reach;
         while n > 0 {
             let low = n.saturating_sub(BLOCK);
             if self.has_none(low, n, owner) {

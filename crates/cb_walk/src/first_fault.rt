@@ -1,5 +1,5 @@
 //! The first fault of a job's records.
-ghost use Rattle.std.specs.Prelude.{◌≡◌, ◌+◌, [], IfOk, length};
+ghost use Rattle.std.specs.Prelude.{◌≡◌, ◌+◌, [], IfOk, length, replicate, false};
 ghost use Rattle.cb_meaning.specs.Walks.{first_fault};
 ghost use Rattle.cb_queue.specs.RecordQueues.{shown};
 ghost use Rattle.cb_walk.specs.Jobs.{Tells};
@@ -10,6 +10,22 @@ use crate::job::jct_fault;
 use crate::walk_steps::walk_steps;
 use cb_queue::store::RecordStore;
 use std::alloc::{AllocError, Global};
+
+/// How many marks are made at once.
+const PIECE: usize = 512;
+
+/// As many marks, none of which is set, made by pieces, as a byte alone costs an instruction.
+fn no_marks(alloc: Global, count: usize) -> Result<Vec<bool>, AllocError>
+    ensures { IfOk result (λ v. v.items ≡ replicate count false) }
+{
+    let piece = [false; PIECE];
+    let mut marks = Vec::with_capacity(alloc, count)?;
+    while marks.len() < count {
+        let some = (count - marks.len()).min(PIECE);
+        marks.extend_from_slice(&piece[..some])?;
+    }
+    Ok(marks)
+}
 
 /// Walks over the records of a job, of which none is marked.
 fn walk_job<S: RecordStore>(
@@ -55,6 +71,6 @@ pub fn first_fault<S: RecordStore>(
     ensures { IfOk result (λ fault. fault ≡ first_fault (S.queue store.now).layout units (shown (S.queue store.now)) job n) }
 {
     let count = store.layout().most_records as usize + 1;
-    let mut marks = vec![in alloc; false; count]?;
+    let mut marks = no_marks(alloc, count)?;
     walk_job(alloc, store, marks.as_mut_slice(), units, job, n)
 }

@@ -9,4 +9,4 @@ returns-in-Some c = λ none.
     let found = c.in-Some.ensures.lookup.0 in
     let size = ap length c.deref.ensures.value in
     subst (λ q. HasNoneBetween q c.args.owner c.args.low c.args.high) c.self.view_is
-    (none_between c.self.inside c.self.invariant c.args.owner c.args.low c.args.high c.in-Some.owners.now found.0 (omega (arith, found.1, size)) (found.2 ∙ ap (λ xs. slice_range xs c.args.low c.args.high) c.deref.ensures.value) found.3 (none_in c.contains.result _ _ c.contains.ensures.cases none))
+    (none_between c.self.inside c.self.invariant.0 c.args.owner c.args.low c.args.high c.in-Some.owners.now found.0 (omega (arith, found.1, size)) (found.2 ∙ ap (λ xs. slice_range xs c.args.low c.args.high) c.deref.ensures.value) found.3 (none_in c.contains.result _ _ c.contains.ensures.cases none))

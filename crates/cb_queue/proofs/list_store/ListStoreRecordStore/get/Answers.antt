@@ -11,4 +11,4 @@ returns c =
     let owned : owner_at c.args.self.now c.args.n ≢ 0 = λ none. c.if-owner-eq0.false (c.owner.ensures.value ∙ none) in
     let used : is_some (record_at (seen c.self.inside) c.args.n) ≡ true = rw c.self.view_is (used_of (record_at c.args.self.now c.args.n) owned) in
     subst (λ q. IsLent q.layout (record_at q c.args.n) (Some c.index.result.now)) c.self.view_is
-    (lent_there c.self.inside c.self.invariant c.args.n used c.index.result.now c.index.ensures)
+    (lent_there c.self.inside c.self.invariant.0 c.args.n used c.index.result.now c.index.ensures)

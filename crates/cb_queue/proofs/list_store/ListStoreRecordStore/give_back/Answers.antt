@@ -1,39 +1,43 @@
-use Rattle.std.proofs.Common.{◌≡◌, ◌∙◌, ap, arith, true}
+use Rattle.std.proofs.Common.{◌≡◌, ◌-◌, ◌∙◌, ap, arith, true}
 use Rattle.std.specs.Prelude.{is_some}
 use Rattle.cb_queue.specs.RecordQueues.{given_back, record_at}
 use Rattle.cb_queue.specs.Stored.{seen}
+use Rattle.cb_queue.proofs.Reach.{free_given}
 use Rattle.cb_queue.proofs.Uses.{given_seen, given_stored, reach, room_there}
 use Rattle.cb_queue.proofs.list_store.ListStoreRecordStore.give_back.Goals as goal
 
 pub index_mut-requires : goal.index_mut-requires
 index_mut-requires c =
     let used : is_some (record_at (seen c.self.inside) c.args.n) ≡ true = rw c.self.view_is c.requires in
-    let below = reach c.self.inside c.self.invariant c.args.n used in
-    let room = c.self.invariant.owners_room in
+    let below = reach c.self.inside c.self.invariant.0 c.args.n used in
+    let room = c.self.invariant.0.owners_room in
     let whole = c.self.inside.owners.ok.0 in
     omega (arith, below, room, whole)
 
 pub index_mut-requires-2 : goal.index_mut-requires-2
 index_mut-requires-2 c =
     let used : is_some (record_at (seen c.self.inside) c.args.n) ≡ true = rw c.self.view_is c.requires in
-    let below = room_there c.self.inside c.self.invariant c.args.n used in
+    let below = room_there c.self.inside c.self.invariant.0 c.args.n used in
     let whole = c.self.inside.free.ok.0 in
     omega (arith, below, whole)
 
 pub overflow_add-self : goal.overflow_add-self
 overflow_add-self c =
     let used : is_some (record_at (seen c.self.inside) c.args.n) ≡ true = rw c.self.view_is c.requires in
-    let below = room_there c.self.inside c.self.invariant c.args.n used in
-    let room = c.self.invariant.stack_room in
-    let few = c.self.invariant.few in
+    let below = room_there c.self.inside c.self.invariant.0 c.args.n used in
+    let room = c.self.invariant.0.stack_room in
+    let few = c.self.invariant.0.few in
     omega (arith, below, room, few)
 
 pub invariant_of-self : goal.invariant_of-self
 invariant_of-self c =
-    let used : is_some (record_at (seen c.self.inside) c.args.n) ≡ true = rw c.self.view_is c.requires in
-    given_stored c.self.inside c.self.invariant c.args.n used
+    let used : is_some (record_at (seen c.self.inside) c.args.n) ≡ true = rw c.self.view_is c.requires in (
+      given_stored c.self.inside c.self.invariant.0 c.args.n used,
+      c.self.invariant.1,
+      free_given c.self.inside.reach (c.args.n - 1) c.self.inside.owners.items c.self.invariant.2,
+    )
 
 pub returns : goal.returns
 returns c =
     let used : is_some (record_at (seen c.self.inside) c.args.n) ≡ true = rw c.self.view_is c.requires in
-    given_seen c.self.inside c.self.invariant c.args.n used ∙ ap (λ q. given_back q c.args.n) c.self.view_is
+    given_seen c.self.inside c.self.invariant.0 c.args.n used ∙ ap (λ q. given_back q c.args.n) c.self.view_is

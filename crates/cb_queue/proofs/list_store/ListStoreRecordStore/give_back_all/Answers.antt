@@ -1,8 +1,22 @@
 use Rattle.std.proofs.Common.{◌≡◌, suc, ◌-◌, ◌<◌, ◌≤◌, ◌∙◌, ap, arith, length, subst, sym}
-use Rattle.cb_queue.specs.RecordQueues.{HasNoneBetween, given_back, owner_at}
-use Rattle.cb_queue.proofs.Given.{block_kept, step_given, step_kept}
+use Rattle.cb_queue.specs.RecordQueues.{HasNoneBetween, RecordQueue, given_back, owner_at}
+use Rattle.cb_queue.proofs.Given.{block_kept, given_above, step_given, step_kept}
+use Rattle.cb_queue.proofs.Reach.{given_behind}
 use Rattle.cb_queue.proofs.list_store.ListStoreRecordStore.give_back_all.Goals as goal
 use Rattle.cb_queue.proofs.list_store.ListStoreRecordStore.give_back_all.Goals.{then-owner, else-owner}
+
+pub loop-n-init : goal.loop-n-init
+loop-n-init c =
+    let a = c.self.inside in
+    let order = c.self.invariant.1 in
+    let size = c.self.invariant.0.sound.size in
+    let shown = ap (λ (q : RecordQueue). length q.records) c.self.view_is in
+    record {
+      within = omega (arith, order, size, shown);
+      is =
+          sym c.self.view_is ∙ given_behind a c.self.invariant c.args.owner c.requires
+          ∙ ap (λ (q : RecordQueue). given_above q c.args.owner a.reach) c.self.view_is;
+    }
 
 pub loop-n-preserved : goal.loop-n-preserved
 loop-n-preserved c =

@@ -11,25 +11,28 @@ use Rattle.cb_queue.proofs.list_store.ListStoreRecordStore.put.Goals as goal
 pub index_mut-requires : goal.index_mut-requires
 index_mut-requires c =
     let used : is_some (record_at (seen c.self.inside) c.args.n) ≡ true = rw c.self.view_is c.requires.used in
-    let below = reach c.self.inside c.self.invariant c.args.n used in
-    let room = c.self.invariant.records_room in
+    let below = reach c.self.inside c.self.invariant.0 c.args.n used in
+    let room = c.self.invariant.0.records_room in
     let whole = c.self.inside.records.ok.0 in
     omega (arith, below, room, whole)
 
 pub invariant_of-self : goal.invariant_of-self
 invariant_of-self c =
     let used : is_some (record_at (seen c.self.inside) c.args.n) ≡ true = rw c.self.view_is c.requires.used in
-    let owner : number_at c.args.rec.now (field 2 2) ≡ owner_at (seen c.self.inside) c.args.n = rw c.self.view_is c.requires.owner in
-    put_stored c.self.inside c.self.invariant c.args.n used c.unlinked.result
-    (subst (IsInUse c.self.inside.layout) (sym c.unlinked.ensures.value)
-    (in_use_put c.self.inside.layout c.self.invariant.sound.own_link c.args.rec.now c.unlinked.ensures.whole
-    (λ none. owner_there c.self.inside c.self.invariant c.args.n used (sym owner ∙ none))
-    (All-same (λ b. b < 256) (unlinked c.self.inside.layout c.args.rec.now) c.unlinked.result (sym c.unlinked.ensures.value) c.unlinked.ensures.bytes)))
-    (ap (λ r. number_at r (field 2 2)) c.unlinked.ensures.value
-    ∙ owner_put c.self.inside.layout c.self.invariant.sound.own_link c.args.rec.now c.unlinked.ensures.whole ∙ owner)
+    let owner : number_at c.args.rec.now (field 2 2) ≡ owner_at (seen c.self.inside) c.args.n = rw c.self.view_is c.requires.owner in (
+      put_stored c.self.inside c.self.invariant.0 c.args.n used c.unlinked.result
+          (subst (IsInUse c.self.inside.layout) (sym c.unlinked.ensures.value)
+          (in_use_put c.self.inside.layout c.self.invariant.0.sound.own_link c.args.rec.now c.unlinked.ensures.whole
+          (λ none. owner_there c.self.inside c.self.invariant.0 c.args.n used (sym owner ∙ none))
+          (All-same (λ b. b < 256) (unlinked c.self.inside.layout c.args.rec.now) c.unlinked.result (sym c.unlinked.ensures.value) c.unlinked.ensures.bytes)))
+          (ap (λ r. number_at r (field 2 2)) c.unlinked.ensures.value
+          ∙ owner_put c.self.inside.layout c.self.invariant.0.sound.own_link c.args.rec.now c.unlinked.ensures.whole ∙ owner),
+      c.self.invariant.1,
+      c.self.invariant.2,
+    )
 
 pub returns : goal.returns
 returns c =
     let used : is_some (record_at (seen c.self.inside) c.args.n) ≡ true = rw c.self.view_is c.requires.used in
-    put_seen c.self.inside c.self.invariant c.args.n used c.unlinked.result ∙ ap (λ r. with_record_at (seen c.self.inside) c.args.n (Some r)) c.unlinked.ensures.value
+    put_seen c.self.inside c.self.invariant.0 c.args.n used c.unlinked.result ∙ ap (λ r. with_record_at (seen c.self.inside) c.args.n (Some r)) c.unlinked.ensures.value
     ∙ ap (λ q. with_record_at q c.args.n (Some (unlinked q.layout c.args.rec.now))) c.self.view_is

@@ -3,32 +3,33 @@ use Rattle.std.specs.Prelude.{slice_set}
 use Rattle.std.proofs.lemmas.List.Elements.{All-same}
 use Rattle.cb_queue.specs.RecordQueues.{next_free, taken, zero_record}
 use Rattle.cb_queue.specs.Stored.{AreStored, seen_in}
+use Rattle.cb_queue.proofs.Reach.{free_taken}
 use Rattle.cb_queue.proofs.Uses.{answer_there, number, taken_seen, taken_stored}
 use Rattle.cb_queue.proofs.list_store.ListStoreRecordStore.take_free.Goals as goal
 
 pub overflow_sub-n : goal.overflow_sub-n
 overflow_sub-n c =
     let more : c.self.inside.free_count - 1 + 1 ≡ c.self.inside.free_count = omega (arith, c.if-self-eq0.false) in
-    (number c.self.inside c.self.invariant c.index-n.result.now (c.self.inside.free_count - 1) c.args.owner more c.index-n.ensures c.requires).0
+    (number c.self.inside c.self.invariant.0 c.index-n.result.now (c.self.inside.free_count - 1) c.args.owner more c.index-n.ensures c.requires).0
 
 pub index_mut-requires : goal.index_mut-requires
 index_mut-requires c =
     let more : c.self.inside.free_count - 1 + 1 ≡ c.self.inside.free_count = omega (arith, c.if-self-eq0.false) in
-    let n = number c.self.inside c.self.invariant c.index-n.result.now (c.self.inside.free_count - 1) c.args.owner more c.index-n.ensures c.requires in
-    let room = c.self.invariant.records_room in
+    let n = number c.self.inside c.self.invariant.0 c.index-n.result.now (c.self.inside.free_count - 1) c.args.owner more c.index-n.ensures c.requires in
+    let room = c.self.invariant.0.records_room in
     let whole = c.self.inside.records.ok.0 in
     omega (arith, n.0, n.1, room, whole)
 
 pub overflow_sub-n-2 : goal.overflow_sub-n-2
 overflow_sub-n-2 c =
     let more : c.self.inside.free_count - 1 + 1 ≡ c.self.inside.free_count = omega (arith, c.if-self-eq0.false) in
-    (number c.self.inside c.self.invariant c.index-n.result.now (c.self.inside.free_count - 1) c.args.owner more c.index-n.ensures c.requires).0
+    (number c.self.inside c.self.invariant.0 c.index-n.result.now (c.self.inside.free_count - 1) c.args.owner more c.index-n.ensures c.requires).0
 
 pub index_mut-requires-2 : goal.index_mut-requires-2
 index_mut-requires-2 c =
     let more : c.self.inside.free_count - 1 + 1 ≡ c.self.inside.free_count = omega (arith, c.if-self-eq0.false) in
-    let n = number c.self.inside c.self.invariant c.index-n.result.now (c.self.inside.free_count - 1) c.args.owner more c.index-n.ensures c.requires in
-    let room = c.self.invariant.owners_room in
+    let n = number c.self.inside c.self.invariant.0 c.index-n.result.now (c.self.inside.free_count - 1) c.args.owner more c.index-n.ensures c.requires in
+    let room = c.self.invariant.0.owners_room in
     let whole = c.self.inside.owners.ok.0 in
     omega (arith, n.0, n.1, room, whole)
 
@@ -37,14 +38,19 @@ invariant_of-self c =
     let a = c.self.inside in
     let n = c.index-n.result.now in
     let more : a.free_count - 1 + 1 ≡ a.free_count = omega (arith, c.if-self-eq0.false) in
-    subst (λ r. AreStored a.layout (slice_set a.owners.items (n - 1) c.args.owner) (slice_set a.records.items (n - 1) r) a.free.items (a.free_count - 1) a.waiting)
-    (sym c.zero_record.ensures.value) (taken_stored a c.self.invariant n (a.free_count - 1) c.args.owner more c.index-n.ensures c.requires
-    (All-same (λ b. b < 256) (zero_record c.args.owner) c.zero_record.result (sym c.zero_record.ensures.value) c.zero_record.ensures.bytes))
+    let at = number a c.self.invariant.0 n (a.free_count - 1) c.args.owner more c.index-n.ensures c.requires in
+    let most = c.max-self-inside.ensures in (
+      subst (λ r. AreStored a.layout (slice_set a.owners.items (n - 1) c.args.owner) (slice_set a.records.items (n - 1) r) a.free.items (a.free_count - 1) a.waiting)
+          (sym c.zero_record.ensures.value) (taken_stored a c.self.invariant.0 n (a.free_count - 1) c.args.owner more c.index-n.ensures c.requires
+          (All-same (λ b. b < 256) (zero_record c.args.owner) c.zero_record.result (sym c.zero_record.ensures.value) c.zero_record.ensures.bytes)),
+      (let order = c.self.invariant.1 in omega (arith, order, at.1, most)),
+      free_taken a.reach c.max-self-inside.result (n - 1) c.args.owner a.owners.items (omega (arith, most)) (omega (arith, most, at.0)) c.self.invariant.2,
+    )
 
 pub returns-clause-answer : goal.returns-clause-answer
 returns-clause-answer c =
     let more : c.self.inside.free_count - 1 + 1 ≡ c.self.inside.free_count = omega (arith, c.if-self-eq0.false) in
-    answer_there c.self.inside c.self.invariant c.index-n.result.now (c.self.inside.free_count - 1) c.args.owner more c.index-n.ensures c.requires
+    answer_there c.self.inside c.self.invariant.0 c.index-n.result.now (c.self.inside.free_count - 1) c.args.owner more c.index-n.ensures c.requires
     ∙ ap next_free c.self.view_is
 
 pub returns-clause-taken : goal.returns-clause-taken
@@ -53,4 +59,4 @@ returns-clause-taken c =
     let n = c.index-n.result.now in
     let more : a.free_count - 1 + 1 ≡ a.free_count = omega (arith, c.if-self-eq0.false) in
     ap (λ r. seen_in a.layout (slice_set a.owners.items (n - 1) c.args.owner) (slice_set a.records.items (n - 1) r) a.free.items (a.free_count - 1) a.waiting) c.zero_record.ensures.value
-    ∙ taken_seen a c.self.invariant n (a.free_count - 1) c.args.owner more c.index-n.ensures c.requires ∙ ap (λ q. taken q c.args.owner) c.self.view_is
+    ∙ taken_seen a c.self.invariant.0 n (a.free_count - 1) c.args.owner more c.index-n.ensures c.requires ∙ ap (λ q. taken q c.args.owner) c.self.view_is
