@@ -4,7 +4,8 @@ ghost use Rattle.jcl_plan.specs.declared.entry.JobLine.TheVariants as line;
 ghost use Rattle.admit_core.specs.Admissions.{behind, given_to, is_assured, line_of, named_of};
 
 use enq_core::table::Held;
-use jcl_meaning::state::{KeyMeaning, Place};
+use jcl_meaning::meanings::Meanings;
+use jcl_meaning::state::Place;
 use jcl_plan::day::Day;
 use jcl_plan::entry::JobLine;
 use jcl_plan::plan::JobPlan;
@@ -22,7 +23,7 @@ pub struct NamedJob {
 #[derive(Drop)]
 pub struct Provision {
     pub places: Listed<Place>,
-    pub meanings: Listed<KeyMeaning>,
+    pub meanings: Meanings,
     pub date: Day,
 }
 

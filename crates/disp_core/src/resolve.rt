@@ -5,12 +5,12 @@ ghost use Rattle.jcl_meaning.specs.Resolutions.{meanings_in, meanings_of};
 ghost use Rattle.jcl_meaning.specs.Stores.{resolution_of};
 
 use group_core::group::GroupFault;
+use jcl_meaning::meanings::Meanings;
 use jcl_meaning::state::{KeyMeaning, Resolution};
 use jcl_plan::fault::Fault;
 use jcl_plan::plan::{DdKind, DdPlan, JobPlan};
 use jname_core::ds_name::{DsName, MOST_OF_A_BASE};
 use jname_core::key::{Key, Sign};
-use plain::listed::Listed;
 use std::alloc::{AllocError, Global};
 use store_core::job_store::JobStore;
 
@@ -51,7 +51,7 @@ fn resolution_of<S: JobStore>(store: &S, job: u16, key: &Key) -> Resolution
 
 /// Adds what the keys of a step's DDs mean.
 fn add_meanings<S: JobStore>(
-    meanings: &mut Listed<KeyMeaning>,
+    meanings: &mut Meanings,
     store: &S,
     job: u16,
     step: usize,
@@ -80,10 +80,10 @@ pub fn meanings_of<S: JobStore>(
     plan: &JobPlan,
     store: &S,
     job: u16,
-) -> Result<Listed<KeyMeaning>, AllocError>
+) -> Result<Meanings, AllocError>
     ensures { IfOk result (λ meanings. meanings ≡ meanings_of (S.seen job store.now) plan.now) }
 {
-    let mut meanings = Listed::empty(alloc);
+    let mut meanings = Meanings::empty(alloc);
     for (i, step) in plan.steps.as_slice().iter().enumerate() {
         add_meanings(&mut meanings, store, job, i + 1, step.dds.as_slice())?;
     }

@@ -30,7 +30,6 @@ use jname_core::serial::Serial;
 use plain::listed::Listed;
 use std::alloc::{AllocError, Global};
 use store_core::job_store::{JobStore, RoomFault};
-use store_core::meanings::meaning_at;
 use store_core::take::{
     at_or_lost, day_of, dd_volume, decide, first_passed, is_known, looked_at, taken, target_of,
 };
@@ -442,7 +441,7 @@ fn take_set<S: JobStore>(
     ensures { Makes S.JobStore at.now.job (TookSet (S.grants_new at.now.job store.old) given.now at.now p.now)
         result store.old course.old store.new course.new }
 {
-    match meaning_at(given.meanings, at.step, at.dd) {
+    match given.meanings.at(at.step, at.dd) {
         Resolution::Fails(fault) => take_refused(alloc, store, course, at, fault),
         Resolution::Means(key) => take_key(alloc, store, given, course, at, p, &key),
     }

@@ -42,7 +42,7 @@ fn given<'a>(profile: &Profile<'a>, admitted: &'a AdmittedJob) -> Given<'a>
         job_tests: admitted.plan().tests.as_slice(),
         volumes: profile.volumes,
         places: provision.places.as_slice(),
-        meanings: provision.meanings.as_slice(),
+        meanings: &provision.meanings,
         date: provision.date,
     }
 }

@@ -19,3 +19,4 @@ pub mod TakeActs
 pub mod Takes
 pub mod Views
 pub mod WellFormed
+pub mod InOrder

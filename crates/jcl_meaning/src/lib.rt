@@ -5,6 +5,7 @@
 pub mod budget;
 pub mod ending;
 pub mod history;
+pub mod meanings;
 pub mod names;
 pub mod program;
 pub mod solo;

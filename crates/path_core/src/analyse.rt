@@ -11,8 +11,8 @@ ghost use Rattle.path_search.specs.Verdicts.{IsVerdict};
 
 use crate::start::StartView;
 use disp_core::course::Given;
+use jcl_meaning::meanings::Meanings;
 use jcl_meaning::names::{HeldName, names_of};
-use jcl_meaning::state::KeyMeaning;
 use jcl_plan::plan::JobPlan;
 use packed_core::asking::asking_steps;
 use packed_core::domain::PackedDomain;
@@ -32,7 +32,7 @@ fn analyse_holding<'a, J: Job + Drop>(
     plan: &'a JobPlan,
     start: &'a StartView,
     names: &'a [HeldName],
-    meanings: &'a [KeyMeaning],
+    meanings: &'a Meanings,
     seals: &'a [Seal],
 ) -> Result<Verdict, AllocError>
     requires planned { plan.now ≡ J.plan }
@@ -79,7 +79,7 @@ pub fn analyse_named(
     plan: &JobPlan,
     start: &StartView,
     names: &[HeldName],
-    meanings: &[KeyMeaning],
+    meanings: &Meanings,
 ) -> Result<Verdict, AllocError>
     requires plan { IsWellFormedPlan plan.now }
     requires groups { HasSoundGroups (store_of start.now.store) }
@@ -99,5 +99,5 @@ pub fn analyse(alloc: Global, plan: &JobPlan, start: &StartView) -> Result<Verdi
 {
     let meanings = meanings_of(alloc, plan, &start.store)?;
     let names = names_of(alloc, plan)?;
-    analyse_named(alloc, plan, start, names.as_slice(), meanings.as_slice())
+    analyse_named(alloc, plan, start, names.as_slice(), &meanings)
 }

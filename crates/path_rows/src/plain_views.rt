@@ -9,8 +9,8 @@ ghost use Rattle.path_core.specs.Starts.{fixed_from};
 ghost use Rattle.path_search.specs.Verdicts.{IsVerdict};
 
 use disp_core::course::Given;
+use jcl_meaning::meanings::Meanings;
 use jcl_meaning::names::{HeldName, names_of};
-use jcl_meaning::state::KeyMeaning;
 use jcl_plan::plan::JobPlan;
 use part_laws::start_fits;
 use path_core::start::StartView;
@@ -26,7 +26,7 @@ fn analyse_holding(
     plan: &JobPlan,
     start: &StartView,
     names: &[HeldName],
-    meanings: &[KeyMeaning],
+    meanings: &Meanings,
 ) -> Result<Verdict, AllocError>
     requires plan { IsWellFormedPlan plan.now }
     requires groups { HasSoundGroups (store_of start.now.store) }
@@ -69,5 +69,5 @@ pub(crate) fn analyse_plainly(
 {
     let meanings = meanings_of(alloc, plan, &start.store)?;
     let names = names_of(alloc, plan)?;
-    analyse_holding(alloc, plan, start, names.as_slice(), meanings.as_slice())
+    analyse_holding(alloc, plan, start, names.as_slice(), &meanings)
 }

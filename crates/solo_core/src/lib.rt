@@ -48,7 +48,7 @@ fn run<'a>(
             job_tests: plan.tests.as_slice(),
             volumes: store.volumes.as_slice(),
             places,
-            meanings: meanings.as_slice(),
+            meanings: &meanings,
             date,
         },
         outcomes,

@@ -1,19 +1,18 @@
 //! What the keys of a job's DDs mean, from admission on. (Generation data sets)
 ghost use Rattle.std.specs.Prelude.{◌≡◌, ◌++◌, IfOk, OnOk};
-ghost use Rattle.jcl_meaning.specs.Resolutions.{meaning_at, meanings_in, meanings_of};
+ghost use Rattle.jcl_meaning.specs.Resolutions.{meanings_in, meanings_of};
 ghost use Rattle.jcl_meaning.specs.Stores.{store_of};
 
 use crate::store::resolution_of;
-use jcl_meaning::state::{KeyMeaning, Resolution};
+use jcl_meaning::meanings::Meanings;
+use jcl_meaning::state::KeyMeaning;
 use jcl_meaning::store::SoloStore;
-use jcl_plan::fault::Fault;
 use jcl_plan::plan::{DdKind, DdPlan, JobPlan};
-use plain::listed::Listed;
 use std::alloc::{AllocError, Global};
 
 /// Adds what the keys of a step's DDs mean.
 fn add_meanings(
-    meanings: &mut Listed<KeyMeaning>,
+    meanings: &mut Meanings,
     store: &SoloStore,
     step: usize,
     dds: &[DdPlan],
@@ -36,28 +35,12 @@ fn add_meanings(
 }
 
 /// What the keys of a job's DDs mean in a store.
-pub fn meanings_of(
-    alloc: Global,
-    plan: &JobPlan,
-    store: &SoloStore,
-) -> Result<Listed<KeyMeaning>, AllocError>
+pub fn meanings_of(alloc: Global, plan: &JobPlan, store: &SoloStore) -> Result<Meanings, AllocError>
     ensures { IfOk result (λ meanings. meanings ≡ meanings_of (store_of store.now) plan.now) }
 {
-    let mut meanings = Listed::empty(alloc);
+    let mut meanings = Meanings::empty(alloc);
     for (i, step) in plan.steps.as_slice().iter().enumerate() {
         add_meanings(&mut meanings, store, i + 1, step.dds.as_slice())?;
     }
     Ok(meanings)
-}
-
-/// What the key of a DD means; of two the first counts.
-pub fn meaning_at(meanings: &[KeyMeaning], step: usize, dd: usize) -> Resolution
-    ensures { result ≡ meaning_at meanings.now step dd }
-{
-    for m in meanings {
-        if m.step == step && m.dd == dd {
-            return m.means;
-        }
-    }
-    Resolution::Fails(Fault::F5)
 }

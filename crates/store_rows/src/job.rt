@@ -7,10 +7,10 @@ use crate::shown::{tell_free, tell_lines, tell_names, tell_seen};
 use crate::terms::Period;
 use disp_core::course::Given;
 use jcl_meaning::budget::budget_of;
+use jcl_meaning::meanings::Meanings;
 use jcl_meaning::names::names_of;
 use jcl_meaning::program::{SoloProgram, endings};
 use jcl_meaning::solo::SoloRun;
-use jcl_meaning::state::KeyMeaning;
 use jcl_plan::outcome::Outcome;
 use jcl_plan::plan::{DdKind, Expiry, JobPlan, StepPlan};
 use plain::listed::Listed;
@@ -90,7 +90,7 @@ fn outcomes_of(
 struct Job<'a> {
     case: &'a Case<'a>,
     plan: &'a JobPlan,
-    meanings: Listed<KeyMeaning>,
+    meanings: Meanings,
     outcomes: Listed<Outcome>,
     known: Known,
 }
@@ -114,7 +114,7 @@ impl Job<'_> {
                 job_tests: self.plan.tests.as_slice(),
                 volumes: self.case.found.store.volumes.as_slice(),
                 places: terms.places.as_slice(),
-                meanings: self.meanings.as_slice(),
+                meanings: &self.meanings,
                 date: terms.date,
             },
             answers: Answers {

@@ -9,7 +9,8 @@ ghost use Rattle.verdict_core.specs.Judging.{IsJudged};
 
 use crate::verdict::{Finding, verdict_in};
 use disp_core::resolve::meanings_of;
-use jcl_meaning::state::{KeyMeaning, Place};
+use jcl_meaning::meanings::Meanings;
+use jcl_meaning::state::Place;
 use jcl_plan::day::Day;
 use jcl_plan::plan::JobPlan;
 use jname_core::serial::Serial;
@@ -22,7 +23,7 @@ use std::alloc::{AllocError, Global};
 #[derive(Drop)]
 pub struct Judged {
     pub places: Listed<Place>,
-    pub meanings: Listed<KeyMeaning>,
+    pub meanings: Meanings,
     pub finding: Finding,
 }
 
@@ -51,7 +52,7 @@ pub fn judge(
         job,
         plan,
         places.as_slice(),
-        meanings.as_slice(),
+        &meanings,
         date,
         most_views,
         explains,

@@ -15,8 +15,9 @@ ghost use Rattle.shared_core.specs.Shown.{world_store_of};
 ghost use Rattle.verdict_core.specs.Judging.{IsFound, path_of};
 ghost use Rattle.world_meaning.specs.Lenses.{seen};
 
+use jcl_meaning::meanings::Meanings;
 use jcl_meaning::names::{HeldName, names_of};
-use jcl_meaning::state::{KeyMeaning, Place};
+use jcl_meaning::state::Place;
 use jcl_plan::day::Day;
 use jcl_plan::entry::JobLine;
 use jcl_plan::plan::JobPlan;
@@ -67,7 +68,7 @@ fn find(
     plan: &JobPlan,
     start: &StartView,
     names: &[HeldName],
-    meanings: &[KeyMeaning],
+    meanings: &Meanings,
     explains: bool,
 ) -> Result<Finding, AllocError>
     requires plan { IsWellFormedPlan plan.now }
@@ -100,7 +101,7 @@ pub fn verdict_in(
     job: u16,
     plan: &JobPlan,
     places: &[Place],
-    meanings: &[KeyMeaning],
+    meanings: &Meanings,
     date: Day,
     most_views: usize,
     explains: bool,

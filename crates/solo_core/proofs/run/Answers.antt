@@ -16,10 +16,10 @@ returns c =
       job_tests = c.as_slice.ensures.value i;
       volumes = c.as_slice-2.ensures i;
       places = c.args.places.now;
-      meanings = (c.as_slice-3.ensures ∙ c.in_ok-meanings.ensures) i;
+      meanings = c.in_ok-meanings.ensures i;
       date = c.args.date;
     })
     (λ i. state_at (store_of (c.in_ok-copy_of.ensures i)) (c.nothing_own.ensures i)
     (record { outcomes = c.args.outcomes.now; cancels = c.args.cancels.now; grants = c.args.grants.now; primary = true }))
-    c.in_ok-run_agenda.ensures (c.in_ok-faults.ensures ∙ ap faults_of c.as_slice-4.ensures)
-    (c.is_empty-clean.ensures ∙ ap (λ (l : List MetFault). length l == 0) c.as_slice-5.ensures)
+    c.in_ok-run_agenda.ensures (c.in_ok-faults.ensures ∙ ap faults_of c.as_slice-3.ensures)
+    (c.is_empty-clean.ensures ∙ ap (λ (l : List MetFault). length l == 0) c.as_slice-4.ensures)

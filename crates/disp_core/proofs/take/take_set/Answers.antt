@@ -20,7 +20,7 @@ returns-in-Fails g c =
       ok = subst
           (λ m. IfOk c.take_refused.result (λ told.
           MeetsIfGranted (granted m) (λ s. at_site takes_set c.args.given.now at p s m) seen before after c.take_refused.new.course told))
-          (sym c.in-Fails.is ∙ c.meaning_at.ensures)
+          (sym c.in-Fails.is ∙ c.at.ensures)
           (if_ok_then
           (λ (told : Taken). MeetsAndMakes (refused at.step at.dd c.in-Fails.fault) seen before after c.take_refused.new.course told)
           (λ (told : Taken).
