@@ -7,7 +7,7 @@ use Rattle.std.proofs.lemmas.List.{append-nil, drop_all, map_more, take_all}
 use Rattle.std.proofs.lemmas.List.Elements.{Contains-append_left, Contains-append_right}
 use Rattle.input_core.specs.declared.event.Event.{Event}
 use Rattle.jcl_plan.specs.declared.entry.Entry.{Entry}
-use Rattle.sched_core.specs.Systems.{IsSameFixed, Machine, Steps, world_of}
+use Rattle.sched_core.specs.Systems.{IsNext, Machine, Steps, world_of}
 use Rattle.session_core.proofs.Applied.{Drives-append}
 use Rattle.session_text.specs.declared.statement.Statement.{Statement}
 use Rattle.play_core.specs.Given.{event_of}
@@ -33,11 +33,11 @@ Tells-none m answers = record {
   told = λ earlier told. subst (λ e. AreTold e answers) (sym (append-nil earlier)) told;
 }
 
-pub Tells-one : (m n : Machine) (e : Event) (lines : List Entry) (before after : List Answered) → Steps m e lines (world_of n) → IsSameFixed m n →
+pub Tells-one : (m n : Machine) (e : Event) (lines : List Entry) (before after : List Answered) → Steps m e lines (world_of n) → IsNext m n →
     ((entries : List (List Entry)) → Contains entries lines → AreTold entries before → AreTold entries after) → Tells m before (e ∷ []) n after
-Tells-one m n e lines before after step fixed tells = record {
+Tells-one m n e lines before after step next tells = record {
   entries = lines ∷ [];
-  drives = (n, step, fixed, refl);
+  drives = (n, step, next, refl);
   told = λ earlier told. tells (earlier ++ lines ∷ []) (Contains-append_right earlier (lines ∷ []) lines (0, omega arith, refl))
       (AreTold-more earlier (lines ∷ []) before told);
 }

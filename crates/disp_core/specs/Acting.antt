@@ -1,5 +1,5 @@
 -- An action of a job over any store, as one fact: what it did, what want of memory leaves, and what becomes of all else in the store.
-use Rattle.std.specs.Prelude.{◌≡◌, ◌-◌, ℕ, Bool, List, [], ◌∷◌, ◌++◌, length, slice_get, Option, Result, IfOk, OnErr}
+use Rattle.std.specs.Prelude.{◌≡◌, ◌-◌, ℕ, Bool, List, [], ◌∷◌, ◌++◌, length, slice_get, Option, Result, IfOk, OnErr, OnOk}
 use Rattle.jcl_plan.specs.declared.fault.Fault.{Fault}
 use Rattle.jcl_plan.specs.declared.entry.JobLine.TheVariants as line
 use Rattle.jcl_plan.specs.declared.outcome.Outcome.{Outcome}
@@ -56,19 +56,20 @@ MeetsAndMakes action old before new after told = Carried action old before new a
 abbrev pub MeetsIfGranted : Bool → (State → Done) → Store → Course → Store → Course → Taken → Type 0
 MeetsIfGranted primary action old before new after told = CarriedWith primary action old before new after told.meets (made_of told.made)
 
--- An action over a store: it was carried out, or memory was wanting and nothing has changed. All else that is known of the store stays.
+-- An action over a store: it was carried out, or memory was wanting and nothing has changed. Of all else that is known of the store it makes no set,
+-- but a set may give tracks up, or grow.
 pub record Acts {S T E : Type 0} (store : Ghosts S) (job : ℕ) (does : Store → Course → Store → Course → T → Type 0)
     (result : Result T E) (old : S) (before : Course) (new : S) (after : Course) : Type 0 where
   pub ok : IfOk result (λ told. does (store.seen job old) before (store.seen job new) after told)
   pub err : OnErr result ((new ≡ old) × (after ≡ before))
-  pub rest : store.rest job new ≡ store.rest job old
+  pub rest : OnOk result (store.takes job [] (store.rest job old) (store.rest job new))
 
--- The same for an action that may make a set. Of all else a set that was made uses up what is kept for it.
+-- The same for an action that may make a set.
 pub record Makes {S E : Type 0} (store : Ghosts S) (job : ℕ) (does : Store → Course → Store → Course → Taken → Type 0)
     (result : Result Taken E) (old : S) (before : Course) (new : S) (after : Course) : Type 0 where
   pub ok : IfOk result (λ told. does (store.seen job old) before (store.seen job new) after told)
   pub err : OnErr result ((new ≡ old) × (after ≡ before))
-  pub rest : IfOk result (λ told. store.rest job new ≡ store.spent job (made_of told.made) (store.rest job old))
+  pub rest : IfOk result (λ told. store.takes job (made_of told.made) (store.rest job old) (store.rest job new))
 
 -- An action that touches no store.
 pub record ActsAside {E : Type 0} (does : Course → Course → Type 0) (result : Result Unit E) (before after : Course) : Type 0 where

@@ -174,7 +174,7 @@ fn roll_off<S: JobStore>(
 )
     requires { (length base.now ≤ 35) × (0 < number) × (number ≤ 9999) }
     ensures seen { S.seen job store.new ≡ rolled_off scratches date (S.seen job store.old) (key.Named (generation_name base.now number)) serial }
-    ensures rest { S.rest job store.new ≡ S.rest job store.old }
+    ensures rest { S.gives_up (S.rest job store.old) (S.rest job store.new) }
 {
     let Some(name) = base.generation(number) else {
         return;
@@ -197,7 +197,7 @@ fn after_rolling<S: JobStore>(
     requires base { length base.now ≤ 35 }
     requires range { RollsInRange rolled }
     ensures seen { (g : GroupState) → g.scratch ≡ scratches → S.seen job store.new ≡ after_rolling (Ok rolled) g base.now date (S.seen job store.old) }
-    ensures rest { S.rest job store.new ≡ S.rest job store.old }
+    ensures rest { S.gives_up (S.rest job store.old) (S.rest job store.new) }
 {
     match rolled {
         Rolled::Removed { number, serial } => {
@@ -223,7 +223,7 @@ fn enter_number<S: JobStore>(
     requires range { (0 < number) × (number ≤ 9999) }
     requires group { TakesNumber (group_of (S.seen job store.old) base.now) number serial }
     ensures seen { EntersNumber base.now number serial scratches date (S.seen job store.old) (S.seen job store.new) }
-    ensures rest { S.rest job store.new ≡ S.rest job store.old }
+    ensures rest { S.gives_up (S.rest job store.old) (S.rest job store.new) }
 {
     let rolled = store.enter_number(job, base, number, serial);
     after_rolling(store, job, base, rolled, scratches, date);
@@ -232,7 +232,7 @@ fn enter_number<S: JobStore>(
 /// Enters a generation in its group.
 fn enter_generation<S: JobStore>(store: &mut S, job: u16, key: &Key, serial: Serial, date: Day)
     ensures seen { S.seen job store.new ≡ generation_entered (S.seen job store.old) key.now serial date }
-    ensures rest { S.rest job store.new ≡ S.rest job store.old }
+    ensures rest { S.gives_up (S.rest job store.old) (S.rest job store.new) }
 {
     let Key::Named(name) = key else {
         return;
@@ -277,7 +277,7 @@ pub fn change<S: JobStore>(
 ) -> Result<(), AllocError>
     ensures ok { OnOk result (S.seen job store.new ≡ changed change (S.seen job store.old) key.now serial date) }
     ensures err { OnErr result (store.new ≡ store.old) }
-    ensures rest { S.rest job store.new ≡ S.rest job store.old }
+    ensures rest { S.gives_up (S.rest job store.old) (S.rest job store.new) }
 {
     match change {
         Change::Nothing => Ok(()),

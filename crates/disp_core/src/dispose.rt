@@ -57,7 +57,7 @@ fn say_and_change<S: JobStore>(
     ensures seen { OnOk result (S.seen job store.new ≡ changed what (S.seen job store.old) t.now.key t.now.serial date) }
     ensures said { OnOk result (course.new ≡ record course.old { lines = course.old.lines ++ line ∷ [] }) }
     ensures err { OnErr result ((store.new ≡ store.old) × (course.new ≡ course.old)) }
-    ensures rest { S.rest job store.new ≡ S.rest job store.old }
+    ensures rest { S.gives_up (S.rest job store.old) (S.rest job store.new) }
 {
     course.say(line)?;
     match change(store, job, what, &t.key, t.serial, date) {
@@ -72,7 +72,7 @@ fn say_and_change<S: JobStore>(
 /// Cuts a set whose SPACE has RLSE.
 fn release<S: JobStore>(store: &mut S, job: u16, space: &Option<Space>, t: &TakenSet)
     ensures seen { S.seen job store.new ≡ tracks_released (releases space.now) t.now.key t.now.serial (S.seen job store.old) }
-    ensures rest { S.rest job store.new ≡ S.rest job store.old }
+    ensures rest { S.gives_up (S.rest job store.old) (S.rest job store.new) }
 {
     if releases(space) {
         store.trim(job, &t.key, t.serial);

@@ -80,7 +80,7 @@ fn say_refusal(
 /// Gives back what a DD had taken, if it took a set.
 fn give_back<S: JobStore>(store: &mut S, job: u16, taken: &Option<TakenSet>)
     ensures seen { S.seen job store.new ≡ set_given_back taken.now (S.seen job store.old) }
-    ensures rest { S.rest job store.new ≡ S.rest job store.old }
+    ensures rest { S.gives_up (S.rest job store.old) (S.rest job store.new) }
 {
     match taken {
         None => {}
@@ -95,7 +95,7 @@ fn give_back<S: JobStore>(store: &mut S, job: u16, taken: &Option<TakenSet>)
 /// Gives back what these DDs had taken.
 fn give_all_back<S: JobStore>(store: &mut S, job: u16, dds: &[DdState])
     ensures seen { S.seen job store.new ≡ all_given_back dds.now (S.seen job store.old) }
-    ensures rest { S.rest job store.new ≡ S.rest job store.old }
+    ensures rest { S.gives_up (S.rest job store.old) (S.rest job store.new) }
 {
     for x in dds {
         give_back(store, job, &x.taken);

@@ -249,7 +249,7 @@ fn make_for<S: JobStore>(
 ) -> Result<(), RoomFault>
     requires { chosen.now.how ≡ How.Made → (S.seen at.now.job store.old).set chosen.now.key chosen.now.serial ≡ None }
     ensures seen { OnOk result (S.seen at.now.job store.new ≡ store_taken (fixed_by given.now) p.now chosen.now (S.seen at.now.job store.old)) }
-    ensures rest { OnOk result (S.rest at.now.job store.new ≡ S.spent at.now.job (made_at at.now chosen.now) (S.rest at.now.job store.old)) }
+    ensures rest { OnOk result (S.takes at.now.job (made_at at.now chosen.now) (S.rest at.now.job store.old) (S.rest at.now.job store.new)) }
     ensures granted { OnOk result (chosen.now.how ≡ How.Made → granted_at (S.grants_new at.now.job store.old) at.now p.now chosen.now ≡ true) }
     ensures refused { result ≡ Err RoomFault.NotGranted → (chosen.now.how ≡ How.Made) × (granted_at (S.grants_new at.now.job store.old) at.now p.now chosen.now ≡ false) }
     ensures err { OnErr result (store.new ≡ store.old) }
@@ -283,7 +283,7 @@ fn accept<S: JobStore>(
     requires { chosen.now.how ≡ How.Made → (S.seen at.now.job store.old).set chosen.now.key chosen.now.serial ≡ None }
     ensures seen { OnOk result (S.seen at.now.job store.new ≡ store_taken (fixed_by given.now) p.now chosen.now (S.seen at.now.job store.old)) }
     ensures course { OnOk result (course.new ≡ course_taken at.now chosen.now course.old) }
-    ensures rest { OnOk result (S.rest at.now.job store.new ≡ S.spent at.now.job (made_at at.now chosen.now) (S.rest at.now.job store.old)) }
+    ensures rest { OnOk result (S.takes at.now.job (made_at at.now chosen.now) (S.rest at.now.job store.old) (S.rest at.now.job store.new)) }
     ensures granted { OnOk result (chosen.now.how ≡ How.Made → granted_at (S.grants_new at.now.job store.old) at.now p.now chosen.now ≡ true) }
     ensures refused { result ≡ Err RoomFault.NotGranted → (chosen.now.how ≡ How.Made) × (granted_at (S.grants_new at.now.job store.old) at.now p.now chosen.now ≡ false) }
     ensures err { OnErr result ((store.new ≡ store.old) × (course.new ≡ course.old)) }

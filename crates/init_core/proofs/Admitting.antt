@@ -1,5 +1,5 @@
 -- A job's answer is the machine's case.
-use Rattle.std.proofs.Common.{◌≡◌, ◌≢◌, ◌&&◌, ℕ, suc, ◌≤◌, Bool, true, false, List, [], ◌∷◌, ◌++◌, All, Option, Some, None, arith, length, refl, sym, ap, ◌∙◌, subst}
+use Rattle.std.proofs.Common.{◌≡◌, ◌≢◌, ◌&&◌, ℕ, suc, ◌≤◌, Bool, true, false, List, [], ◌∷◌, ◌++◌, All, Option, Some, None, arith, length, refl, sym, ap, ◌∙◌, subst, inl, inr}
 use Rattle.std.specs.List.{Contains}
 use Rattle.std.proofs.lemmas.List.Elements.{All-nil}
 use Rattle.enq_core.specs.Holds.{HoldsNone}
@@ -14,7 +14,7 @@ use Rattle.jcl_plan.specs.declared.plan.JobPlan.{JobPlan}
 use Rattle.jcl_meaning.specs.Solo.{fixed_in, fixed_with, nothing_own}
 use Rattle.jcl_meaning.specs.States.{Fixed}
 use Rattle.jcl_meaning.specs.Stores.{Store}
-use Rattle.path_meaning.specs.Verdicts.{IsEarliest, IsFirstWithMore, IsFree}
+use Rattle.path_meaning.specs.Verdicts.{AreRising, IsEarliest, IsFirstWithMore, IsFree}
 use Rattle.cb_queue.specs.RecordQueues.{RecordQueue}
 use Rattle.world_meaning.specs.Admissions as answer
 use Rattle.world_meaning.specs.Admissions.{Admits, Answered as WorldAnswered, MayFail, admitted, explained, fixed_at, tracks_asked}
@@ -31,7 +31,6 @@ use Rattle.shared_core.specs.declared.store.SharedStore.{SharedStore}
 use Rattle.turn_core.specs.Standing.{Stands, count_at}
 use Rattle.turn_core.specs.declared.todo.Todo.TheVariants as todo
 use Rattle.turn_core.specs.declared.walk.Walk.{Walk}
-use Rattle.place_core.specs.Keepings.{KeepsAll}
 use Rattle.job_core.proofs.Wanted.{releasing_leaves, releasing_leaves_none}
 use Rattle.admit_core.specs.Admissions.{behind, fixed_for, line_of, named_of}
 use Rattle.admit_core.specs.Admitted.{IsAdmission, IsAnswered, IsProvision}
@@ -51,6 +50,8 @@ use Rattle.admit_core.proofs.Telling.{told_of}
 use Rattle.machine_core.specs.declared.parts.Parts.{Parts}
 use Rattle.machine_core.specs.Released.{GivesBack, IsReleased}
 use Rattle.machine_core.specs.Shown.{shown}
+use Rattle.place_core.specs.Keepings.{KeepsAll}
+use Rattle.shared_core.proofs.Following.{stays_follow}
 use Rattle.init_core.specs.Answering.{is_turned_away, terms_of}
 use Rattle.init_core.specs.declared.running.Profile.{Profile}
 use Rattle.init_core.specs.declared.running.Progress.{Progress}
@@ -60,6 +61,7 @@ use Rattle.init_core.specs.declared.running.Stage.{Stage}
 use Rattle.init_core.specs.declared.running.Stage.TheVariants as stage
 use Rattle.init_core.specs.declared.running.Told.{Told}
 use Rattle.init_core.specs.Choosing.{IsAdmittedByVolumes, lines_answered, with_refusal}
+use Rattle.init_core.specs.Extents.{ExtentsFollow}
 use Rattle.init_core.specs.Going.{Went}
 use Rattle.init_core.specs.Naming.{begun}
 use Rattle.init_core.specs.Running.{IsAt, IsGood, IsTakenOn, config_of, shown_running}
@@ -193,7 +195,8 @@ module _ {Q : Type 0} (queue_of : Q → RecordQueue) (profile : Profile) (p : Pa
     abbrev then : AdmittedJob → Running
     then x = record { job = job; walk = begun (with_lines walk lines); stage = stage.Admitted x }
 
-    module _ (first : IsFirst plan c) (s : Shared) (reopened : Reopened c.layout s (shown queue_of new)) (good : IsGood queue_of c new) where
+    module _ (first : IsFirst plan c) (s : Shared) (reopened : Reopened c.layout s (shown queue_of new)) (good : IsGood queue_of c new)
+        (extents : ExtentsFollow p.store store) where
       abbrev Begins : Bool → AdmittedJob → Type 0
       Begins b x = admitted (shown_running c its) (told.line ∷ []) plan here b ≡ Some (shown_running c (then x))
 
@@ -213,6 +216,7 @@ module _ {Q : Type 0} (queue_of : Q → RecordQueue) (profile : Profile) (p : Pa
             once = tt;
             good = good;
             left = record { same = refl; ready = record { some = some; at = there } };
+            extents = extents;
             rest = record { waiting = refl; others = λ other apart none. none };
           }
 
@@ -269,7 +273,8 @@ module _ {Q : Type 0} (queue_of : Q → RecordQueue) (profile : Profile) (p : Pa
     is_assured made tracks actions free e k conserves first =
         let f : IsFree here plan (seen job (world_store_of p.store)) c.most_views made =
         subst (λ x. IsFree x plan (seen job (world_store_of p.store)) c.most_views made) fixed_here free in
-        assured_at_work first after (kept_shown_so made k) (kept_good made k) tracks actions
+        assured_at_work first after (kept_shown_so made k) (kept_good made k)
+        (inr (record { job = job; plan = plan; made = made; rising = subst (λ vs. AreRising vs made) (sym g.volumes) f.made.rising; keeps = k })) tracks actions
         (answer.assured made (kept_shown store.volumes) (λ serial. free_on store.volumes serial) f.safe f.made k.kept k.others (ap (λ l. l ∷ []) e) refl
         (kept_conserved made k conserves) refl)
         (ap (λ l. l ∷ []) e ∙ ap (lines_answered c.refuses) (sym e))
@@ -280,6 +285,9 @@ module _ {Q : Type 0} (queue_of : Q → RecordQueue) (profile : Profile) (p : Pa
 
     same_shown : store ≡ p.store → Reopened c.layout (shown queue_of p) (shown queue_of new)
     same_shown same = subst (λ (s : SharedStore). Reopened c.layout (shown queue_of p) (shown queue_of (record p { store = s }))) (sym same) (unopened c.layout (shown queue_of p))
+
+    same_extents : store ≡ p.store → ExtentsFollow p.store store
+    same_extents same = subst (ExtentsFollow p.store) (sym same) (inl (stays_follow p.store))
 
     -- it waits
     waits : (serial : List ℕ) → Contains c.volumes serial → told.line ≡ line.WaitSpace serial → store ≡ p.store → GoesOn (Waits named)
@@ -299,6 +307,7 @@ module _ {Q : Type 0} (queue_of : Q → RecordQueue) (profile : Profile) (p : Pa
           once = tt;
           good = same_good same;
           left = record { same = refl; ready = record { some = some; at = own } };
+          extents = same_extents same;
           rest = record { waiting = refl; others = λ other apart none. none };
         }
 
@@ -314,7 +323,7 @@ module _ {Q : Type 0} (queue_of : Q → RecordQueue) (profile : Profile) (p : Pa
 
     checked : (kind : JobLine) → Warns kind → store ≡ p.store → c.refuses ≡ false → IsFirst plan c → GoesOn (Admitted (admitted_as.Risky (record { named = named; given = given })))
     checked kind w same e first =
-        risky_at_work first (shown queue_of p) (same_shown same) (same_good same)
+        risky_at_work first (shown queue_of p) (same_shown same) (same_good same) (same_extents same)
         (w.2 (told.line ∷ []) (shown queue_of p) (admitted (shown_running c its) (told.line ∷ []) plan here false) (answer.risky e refl refl refl))
         (by_command_line c.refuses false told.line kind w.1 w.0 e)
 
@@ -338,6 +347,7 @@ module _ {Q : Type 0} (queue_of : Q → RecordQueue) (profile : Profile) (p : Pa
             once = tt;
             good = good_again queue_of c job p end back g;
             left = subst (λ hs. HoldsNone hs job) (sym back.names) (releasing_leaves_none p.names job);
+            extents = inl back.store.follow;
             rest = record {
               waiting = back.records.waiting;
               others = λ other apart none. subst (λ hs. HoldsNone hs other) (sym back.names) (releasing_leaves p.names job other none);

@@ -1,5 +1,5 @@
 -- A turn of an admitted job is the machine's case.
-use Rattle.std.proofs.Common.{◌≡◌, ◌≢◌, ℕ, suc, ◌≤◌, Bool, true, false, cond, arith, List, [], ◌∷◌, ◌++◌, All, drop, map, Option, Some, None, length, refl, sym, ap, ◌∙◌, subst}
+use Rattle.std.proofs.Common.{◌≡◌, ◌≢◌, ℕ, suc, ◌≤◌, Bool, true, false, cond, arith, List, [], ◌∷◌, ◌++◌, All, drop, map, Option, Some, None, length, refl, sym, ap, ◌∙◌, subst, inl}
 use Rattle.std.specs.Prelude.{IfOk, IfSome, OnErr, OnOk, Result, Ok, Err}
 use Rattle.std.specs.List.{Contains}
 use Rattle.std.proofs.lemmas.List.Elements.{All-append, All-cons, All-head, All-nil, All-tail}
@@ -25,6 +25,7 @@ use Rattle.world_meaning.proofs.JobLens.{put_same}
 use Rattle.shared_core.specs.Shown.{mounted_in, world_store_of}
 use Rattle.shared_core.specs.Tracks.{free_on}
 use Rattle.shared_core.specs.declared.store.SharedStore.{SharedStore}
+use Rattle.shared_core.proofs.Following.{stays_follow}
 use Rattle.turn_core.specs.MachineTurns.{ActsAdvance, EndsAdvance, WaitsAdvance, shared_ended, shared_told}
 use Rattle.turn_core.specs.Standing.{JobActs, JobEnds, TellsJob, count_at, undone}
 use Rattle.turn_core.specs.Performing.{StoreAnswers, primary_by}
@@ -164,6 +165,7 @@ module _ {Q : Type 0} (queue_of : Q → RecordQueue) (profile : Profile) (p : Pa
           once = tt;
           good = g;
           left = record { same = refl; ready = record { some = some; at = at } };
+          extents = inl (stays_follow p.store);
           rest = record { waiting = refl; others = λ other apart none. none };
         }))
 
@@ -218,6 +220,7 @@ module _ {Q : Type 0} (queue_of : Q → RecordQueue) (profile : Profile) (p : Pa
               few = g.few;
             };
             left = record { same = refl; ready = record { some = some; at = there } };
+            extents = inl is.extents;
             rest = record { waiting = refl; others = λ other apart none. none };
           }
 
@@ -256,6 +259,7 @@ module _ {Q : Type 0} (queue_of : Q → RecordQueue) (profile : Profile) (p : Pa
             once = tt;
             good = good_again queue_of c job mid new e.back back_good;
             left = subst (λ hs. HoldsNone hs job) (sym e.back.names) (releasing_leaves_none p.names job);
+            extents = inl e.back.store.follow;
             rest = record {
               waiting = e.back.records.waiting;
               others = λ other apart none. subst (λ hs. HoldsNone hs other) (sym e.back.names) (releasing_leaves p.names job other none);

@@ -1,5 +1,5 @@
 -- A selected job's turn is the machine's case.
-use Rattle.std.proofs.Common.{◌≡◌, ℕ, List, ◌∷◌, [], All, Option, Some, None, length, refl, sym, ◌∙◌, subst}
+use Rattle.std.proofs.Common.{◌≡◌, ℕ, List, ◌∷◌, [], All, Option, Some, None, length, refl, sym, ◌∙◌, subst, inl}
 use Rattle.std.specs.List.{Contains}
 use Rattle.enq_core.specs.declared.table.Want.{Want}
 use Rattle.enq_core.specs.Holds.{HoldsNone}
@@ -60,6 +60,7 @@ module _ {Q : Type 0} (queue_of : Q → RecordQueue) (profile : Profile) (old ne
     once = tt;
     good = good_again queue_of c job old new b g;
     left = subst (λ hs. HoldsNone hs job) (sym b.names) (releasing_leaves_none old.names job);
+    extents = inl b.store.follow;
     rest = record {
       waiting = b.records.waiting;
       others = λ other apart none. subst (λ hs. HoldsNone hs other) (sym b.names) (releasing_leaves old.names job other none);
@@ -80,5 +81,6 @@ module _ {Q : Type 0} (queue_of : Q → RecordQueue) (profile : Profile) (old ne
     once = tt;
     good = w.good;
     left = w.left;
+    extents = w.extents;
     rest = w.rest;
   }

@@ -1,5 +1,5 @@
 -- A job's names held, or none of them, is the machine's case.
-use Rattle.std.proofs.Common.{◌≡◌, ◌≢◌, ℕ, suc, ◌≤◌, Bool, true, false, not, cond, List, [], ◌∷◌, ◌++◌, All, Option, Some, None, arith, drop, length, refl, sym, ap, ◌∙◌, subst}
+use Rattle.std.proofs.Common.{◌≡◌, ◌≢◌, ℕ, suc, ◌≤◌, Bool, true, false, not, cond, List, [], ◌∷◌, ◌++◌, All, Option, Some, None, arith, drop, length, refl, sym, ap, ◌∙◌, subst, inl}
 use Rattle.std.specs.Prelude.{◌==◌}
 use Rattle.std.proofs.lemmas.Bool.{eq-eqb}
 use Rattle.std.proofs.lemmas.List.{drop_at}
@@ -19,6 +19,7 @@ use Rattle.job_core.proofs.Wanted.{holding_leaves}
 use Rattle.machine_core.specs.declared.parts.Parts.{Parts}
 use Rattle.machine_core.specs.Shown.{shown}
 use Rattle.machine_core.proofs.Unnamed.{none_given_free}
+use Rattle.shared_core.proofs.Following.{stays_follow}
 use Rattle.init_core.specs.declared.running.Progress.TheVariants.{GoesOn}
 use Rattle.init_core.specs.declared.running.Running.{Running}
 use Rattle.init_core.specs.declared.running.Stage.TheVariants as stage
@@ -109,6 +110,7 @@ module _ {Q : Type 0} (queue_of : Q → RecordQueue) (c : Config) (p : Parts Q) 
     once = tt;
     good = still_good queue_of c p names g;
     left = record { same = refl; ready = record { some = some; at = w.for_job } };
+    extents = inl (stays_follow p.store);
     rest = record {
       waiting = refl;
       others = λ other apart none. subst (λ hs. HoldsNone hs other) (sym w.holds) (holding_leaves p.names job other wants apart none);
@@ -128,6 +130,7 @@ module _ {Q : Type 0} (queue_of : Q → RecordQueue) (c : Config) (p : Parts Q) 
     once = tt;
     good = still_good queue_of c p names g;
     left = record { same = refl; ready = record { some = some; at = (subst (λ hs. HoldsNone hs job) (sym w.same) none, are) } };
+    extents = inl (stays_follow p.store);
     rest = record {
       waiting = refl;
       others = λ other apart none. subst (λ hs. HoldsNone hs other) (sym w.same) none;

@@ -24,6 +24,7 @@ use Rattle.init_core.specs.declared.running.Running.{Running}
 use Rattle.init_core.specs.declared.running.Stage.{Stage}
 use Rattle.init_core.specs.declared.running.Stage.TheVariants.{Admitted, Named}
 use Rattle.init_core.specs.Choosing.{IsChosenByVolumes}
+use Rattle.init_core.specs.Extents.{ExtentsFollow}
 use Rattle.init_core.specs.Running.{IsGood, IsReady, config_of, lines_told, path_told, runs_after, shown_running}
 use Rattle.init_core.specs.Turning.{around_in}
 
@@ -47,7 +48,7 @@ pub record LeavesRest {Q : Type 0} (queue_of : Q → RecordQueue) (job : ℕ) (o
   pub others : (other : ℕ) → other ≢ job → HoldsNone old.names other → HoldsNone new.names other
 
 -- A case of the table, but for what is open in records; what the case leaves open is as the volumes decide it; a risk is explained as the case says; the
--- lines are few; and what the next event goes by holds again.
+-- lines are few; what the next event goes by holds again; and the extents of all volumes follow.
 pub record Went {Q : Type 0} (queue_of : Q → RecordQueue) (c : Config) (old : Parts Q) (r : Running) (new : Parts Q) (came : Progress) : Type 0 where
   pub middle : Shared
   pub goes : world.GoesOn c (shown queue_of old) (shown_running c r) (shown_running c r).stage (lines_told came) middle
@@ -61,6 +62,7 @@ pub record Went {Q : Type 0} (queue_of : Q → RecordQueue) (c : Config) (old : 
   pub once : IsToldOnce r.stage came
   pub good : IsGood queue_of c new
   pub left : IsLeft c new.names r.job (runs_after came)
+  pub extents : ExtentsFollow old.store new.store
   pub rest : LeavesRest queue_of r.job old new
 
 -- A turn of an admitted job in its place: it went on, and the lines that it wrote begin there; or its END is due, and nothing has changed.

@@ -3,6 +3,7 @@ pub mod Finding
 pub mod Naming
 pub mod Going
 pub mod Turning
+pub mod Extents
 pub mod Choosing
 pub mod Providing
 pub mod Answering

@@ -8,6 +8,7 @@ use Rattle.jcl_meaning.specs.declared.state.Place.{Place}
 use Rattle.world_meaning.specs.Lenses.{put_back, seen}
 use Rattle.world_meaning.specs.Tracks.{kept_unless_made}
 use Rattle.world_meaning.specs.Worlds.{Config}
+use Rattle.shared_core.specs.Laws.{Follow}
 use Rattle.shared_core.specs.Rooms.{grants_growth, grants_new}
 use Rattle.shared_core.specs.Shown.{world_store_of}
 use Rattle.shared_core.specs.Tracks.{ConservesTracks, kept_shown}
@@ -49,13 +50,14 @@ abbrev pub TellsTurn : Profile → List Operation → ℕ → AdmittedJob → Bo
 TellsTurn p operations job a cancelled old before new after told =
     TellsJob (around_in p operations job a cancelled old) (named_of a).plan (seen job (world_store_of old)) before (seen job (world_store_of new)) after told
 
--- A job wrote what it sees: a set that it made at one of these places uses up what was kept for it, the volumes are the same, and their tracks are
--- conserved.
+-- A job wrote what it sees: a set that it made at one of these places uses up what was kept for it, the volumes are the same, their tracks are
+-- conserved, and their extents follow.
 pub record IsWritten (job : ℕ) (made : List Place) (old new : SharedStore) : Type 0 where
   pub world : world_store_of new ≡ put_back job (world_store_of old) (seen job (world_store_of new))
   pub kept : kept_shown new.volumes ≡ kept_unless_made (kept_shown old.volumes) job made
   pub volumes : serials_of new.volumes ≡ serials_of old.volumes
   pub conserves : ConservesTracks old new
+  pub extents : Follow old new
 
 -- The spool took over the job's listing, with its last line, and its outputs.
 abbrev pub with_spool : {Q : Type 0} → ℕ → Walk → JobPlan → Parts Q → Parts Q

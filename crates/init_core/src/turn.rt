@@ -25,7 +25,7 @@ use jcl_plan::entry::JobLine;
 use job_core::cancels::Cancels;
 use machine_core::parts::Parts;
 use prog_core::units::{Units, operations_are_apart};
-use shared_core::laws::{kept_is_spent, sets_of_others_stay, tracks_are_conserved};
+use shared_core::laws::{kept_is_spent, sets_of_others_stay, taking_follows, tracks_are_conserved};
 use shared_core::store::SharedStore;
 use shared_core::sums::volumes_add_up;
 use std::alloc::{AllocError, Global};
@@ -66,6 +66,7 @@ fn take_turn(
     sets_of_others_stay();
     kept_is_spent();
     tracks_are_conserved();
+    taking_follows();
     volumes_add_up(&*store);
     let setting = Setting {
         programs: profile.programs,

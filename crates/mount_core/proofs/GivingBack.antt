@@ -11,8 +11,9 @@ use Rattle.vtoc_core.specs.Volumes.{Moves, count_of, marked}
 use Rattle.vtoc_core.proofs.CountLemmas.{moves}
 use Rattle.mount_core.specs.declared.place.KeptPlace.{KeptPlace}
 use Rattle.mount_core.specs.Kept.{AreKept, Kept, place_cmp}
-use Rattle.mount_core.specs.Mounts.{MountedState, all_tracks, kept_given_back}
+use Rattle.mount_core.specs.Mounts.{MountedState, all_tracks, kept_given_back, unusable_at}
 use Rattle.mount_core.proofs.Keeping.{list_kept}
+use Rattle.mount_core.proofs.Usable.{same_use}
 use Rattle.mount_core.proofs.KeptMaps.{Entry, tied_equal}
 use Rattle.mount_core.proofs.Places.{place_total}
 
@@ -22,6 +23,7 @@ pub record GivesBack (job : ℕ) (old new : MountedState) : Type 0 where
   pub sets : new.volume.sets ≡ old.volume.sets
   pub serial : new.serial ≡ old.serial
   pub tracks : all_tracks new.volume ≡ all_tracks old.volume
+  pub unusable : (n : ℕ) → unusable_at new.volume.tracks n ≡ unusable_at old.volume.tracks n
 
 aside≢free : Aside ≢ Free
 aside≢free h = absurd cc
@@ -57,6 +59,7 @@ one_back job old m place (Some list) e same a g = record {
   sets = g.sets;
   serial = g.serial;
   tracks = same_tracks m.volume.tracks m.kept place list e a ∙ g.tracks;
+  unusable = λ n. same_use Free Aside list m.volume.tracks refl refl (list_kept m.volume.tracks m.kept place list e a) n ∙ g.unusable n;
 }
 
 -- and there are fewer

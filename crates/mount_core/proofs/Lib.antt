@@ -1,6 +1,7 @@
 pub mod Places
 pub mod KeptMaps
 pub mod KeptTracks
+pub mod Usable
 pub mod Keeping
 pub mod Making
 pub mod Sums

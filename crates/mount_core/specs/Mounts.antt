@@ -1,12 +1,14 @@
 -- A mounted volume: its serial, its tracks and sets, and the tracks that are kept on it.
-use Rattle.std.specs.Prelude.{◌≡◌, ℕ, ◌+◌, Bool, ◌==◌, nat_le, List, [], Option, Some, None, refl}
+use Rattle.std.specs.Prelude.{◌≡◌, ℕ, ◌+◌, Bool, true, false, ◌==◌, nat_le, List, [], slice_get, Option, Some, None, refl}
 use Rattle.std.specs.Coded.{Coded, code_by, coded×, coded_list, coded_ℕ}
 use Rattle.std.specs.FinMap.{insert, remove}
+use Rattle.std.specs.Option.{option_map}
 use Rattle.extent_core.specs.declared.extent.Extent.{Extent}
 use Rattle.vtoc_core.specs.Volumes.{Moves, VolumeState, coded_volume, count_of, marked}
 use Rattle.vtoc_core.specs.Extents.{five_largest, free_extents, planned, tracks_in}
 use Rattle.vtoc_core.specs.declared.entry.SetKey.{SetKey}
-use Rattle.vtoc_core.specs.declared.volume.Track.TheVariants.{Aside, Free, InSet}
+use Rattle.vtoc_core.specs.declared.volume.Track.{Track}
+use Rattle.vtoc_core.specs.declared.volume.Track.TheVariants.{Aside, Free, InSet, Unusable}
 use Rattle.mount_core.specs.declared.place.KeptPlace.{KeptPlace}
 use Rattle.mount_core.specs.Codes.{coded_kept}
 use Rattle.mount_core.specs.Kept.{Kept}
@@ -21,6 +23,16 @@ abbrev pub coded_mounted : Coded MountedState
 coded_mounted =
     code_by (List ℕ × (VolumeState × Kept)) (coded× (coded_list coded_ℕ) (coded× coded_volume coded_kept))
     (λ m. (m.serial, (m.volume, m.kept))) (λ p. record { serial = p.0; volume = p.1.0; kept = p.1.1 }) (λ _. refl)
+
+-- whether the track of a number is there and never free
+abbrev pub is_unusable : Track → Bool
+is_unusable Free = false
+is_unusable Aside = false
+is_unusable InSet = false
+is_unusable Unusable = true
+
+abbrev pub unusable_at : List Track → ℕ → Option Bool
+unusable_at tracks n = option_map is_unusable (slice_get tracks n)
 
 -- tracks kept at a place
 abbrev pub kept_for : MountedState → KeptPlace → List Extent → MountedState

@@ -1,5 +1,5 @@
 //! A mounted volume.
-ghost use Rattle.std.specs.Prelude.{◌≡◌, ◌≢◌, ◌+◌, ◌==◌, if◌then◌else◌, length, ◌≤◌, ◌<◌, ◌↔◌, ◌++◌, ◌∷◌, [], List, IsErr, false, true, Some, None, Err, IfErr, IfNone, IfOk, IfSome, IsSome, OnErr, OnOk};
+ghost use Rattle.std.specs.Prelude.{◌≡◌, ◌≢◌, ℕ, ◌+◌, ◌==◌, if◌then◌else◌, length, ◌≤◌, ◌<◌, ◌↔◌, ◌++◌, ◌∷◌, [], List, IsErr, false, true, Some, None, Err, IfErr, IfNone, IfOk, IfSome, IsSome, OnErr, OnOk};
 ghost use Rattle.std.specs.FinMap as map;
 ghost use Rattle.extent_core.specs.declared.extent.Extent.{Extent};
 ghost use Rattle.vtoc_core.specs.Entries.{changed, with_extents, with_records};
@@ -9,7 +9,7 @@ ghost use Rattle.vtoc_core.specs.declared.entry.SetEntry.{SetEntry};
 ghost use Rattle.vtoc_core.specs.declared.volume.Track.TheVariants.{Aside, Free, InSet, Unusable};
 ghost use Rattle.mount_core.specs.Kept.{AreKept, IsKeptFor, KeepsNoneFor, extents_kept};
 ghost use Rattle.mount_core.specs.declared.place.KeptPlace.{KeptPlace};
-ghost use Rattle.mount_core.specs.Mounts.{WasMade, all_tracks, kept_given_back, holds, kept_for};
+ghost use Rattle.mount_core.specs.Mounts.{WasMade, all_tracks, kept_given_back, holds, kept_for, unusable_at};
 
 use crate::lists::{self, Lists, copy_of, drop_place, extents_at, is_taken};
 use crate::place::KeptPlace;
@@ -135,6 +135,7 @@ impl Mounted {
         ensures sets { self.new.volume.sets ≡ self.old.volume.sets }
         ensures serial { self.new.serial ≡ self.old.serial }
         ensures tracks { all_tracks self.new.volume ≡ all_tracks self.old.volume }
+        ensures unusable { (n : ℕ) → unusable_at self.new.volume.tracks n ≡ unusable_at self.old.volume.tracks n }
     {
         while let Some(place) = self.first_for(job) {
             self.kept_is_aside();

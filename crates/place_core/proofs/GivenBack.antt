@@ -1,5 +1,5 @@
 -- What is kept for a job, given back on each volume.
-use Rattle.std.proofs.Common.{◌≡◌, ℕ, ◌==◌, not, Bool, true, false, cond, List, [], ◌∷◌, Option, Some, None, map, refl, sym, ap, ◌∙◌}
+use Rattle.std.proofs.Common.{◌≡◌, ℕ, ◌==◌, not, Bool, true, false, cond, List, [], ◌∷◌, Option, Some, None, map, refl, sym, ap, subst, ◌∙◌, inl, inr}
 use Rattle.std.specs.FinMap.{get}
 use Rattle.std.specs.List.{AllZip}
 use Rattle.std.specs.Option.{option_map}
@@ -9,6 +9,8 @@ use Rattle.vtoc_core.specs.declared.entry.SetKey.{SetKey}
 use Rattle.world_meaning.specs.Tracks.{kept_without}
 use Rattle.mount_core.specs.declared.place.KeptPlace.{KeptPlace}
 use Rattle.mount_core.specs.Mounts.{MountedState}
+use Rattle.shared_core.specs.Extents.{FollowOn, Follows, StaysKept, extents_of, extents_on}
+use Rattle.shared_core.specs.Giving.{whole_front}
 use Rattle.shared_core.specs.Rooms.{room_of}
 use Rattle.shared_core.specs.Shown.{data_of, kept_extents, mounted_in, set_on}
 use Rattle.shared_core.specs.Tracks.{kept_shown}
@@ -56,6 +58,32 @@ module _ (job : ℕ) (old new : List MountedState) (a : AllZip (IsGivenBackOn jo
   sets_back k serial =
       found_zip (IsGivenBackOn job) (λ x y r. r.serial) (λ o p. set_on p k ≡ set_on o k) refl
       (λ x y r. ap (λ sets. option_map data_of (get sets k)) r.sets) serial old new a
+
+-- what becomes of a volume's extents
+stays_or_not : (b : Bool) (x y : Option (List Extent)) → y ≡ cond b None x → StaysKept x y
+stays_or_not true x y e = inr e
+stays_or_not false x y e = inl e
+
+follows_same : (old new : Option MountedState) (x y : Option (List Extent)) → y ≡ x → Follows old new x y
+follows_same old new x y e = subst (λ z. Follows old new x z) (sym e) (by x)
+  where
+    by : (z : Option (List Extent)) → Follows old new z z
+    by None = tt
+    by (Some list) = inl (whole_front list)
+
+follows_back : (job : ℕ) (x y : MountedState) → IsGivenBackOn job x y → FollowOn (Some x) (Some y)
+follows_back job x y r = record {
+  sets = λ k. follows_same (Some x) (Some y) (extents_on (Some x) k) (extents_on (Some y) k) (ap (λ sets. option_map extents_of (get sets k)) r.sets);
+  kept = λ at. stays_or_not (at.job == job) (get x.kept at) (get y.kept at) (r.kept at);
+  unusable = r.unusable;
+}
+
+nothing_follows : FollowOn None None
+nothing_follows = record { sets = λ k. tt; kept = λ at. inl refl; unusable = λ n. refl }
+
+pub follow_back : (job : ℕ) (old new : List MountedState) → AllZip (IsGivenBackOn job) old new → (serial : List ℕ) → FollowOn (mounted_in old serial) (mounted_in new serial)
+follow_back job old new a serial =
+    found_zip (IsGivenBackOn job) (λ x y r. r.serial) (λ o p. FollowOn o p) nothing_follows (follows_back job) serial old new a
 
 pub rooms_zip : (job : ℕ) (old new : List MountedState) → AllZip (IsGivenBackOn job) old new → map room_of new ≡ map room_of old
 rooms_zip job [] [] a = refl

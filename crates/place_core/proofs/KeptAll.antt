@@ -127,7 +127,8 @@ module _ (job : ℕ) (plan : JobPlan) where
       run_step p places old (has_room (asked_at plan p) (mounted_in old p.serial)) refl
       (run_keeps places (changed_on (keep_on (kept_place job p) (asked_at plan p)) p.serial old)) r
 
-  module _ (places : List Place) (old new : SharedStore) (none : NothingKeptFor job old) (catalog : new.catalog ≡ old.catalog) (h : KeepsEach places old.volumes new.volumes) where
+  module _ (places : List Place) (old new : SharedStore) (none : NothingKeptFor job old) (volumes : new ≡ record old { volumes = (kept_in job plan places old.volumes).volumes })
+      (h : KeepsEach places old.volumes new.volumes) where
     without : (v : List ℕ) (at : KeptPlace) → kept_at old.volumes v at ≡ cond (not (at.job == job)) (kept_at new.volumes v at) None
     without v at = by (at.job == job) refl
       where
@@ -164,8 +165,9 @@ module _ (job : ℕ) (plan : JobPlan) where
             any_shown (is_kept_for job p p.serial) (mounted_in new.volumes p.serial) (kept_place job p) l.0 l.1 (its_test p (tracks_in l.0));
         once = λ v. once_shown job (mounted_in new.volumes v);
       };
-      store = λ i. record { set = λ k v. h.sets v k i; catalog = λ name. get (catalog i) name };
+      store = λ i. record { set = λ k v. h.sets v k i; catalog = λ name. get (volumes i).catalog name };
       rooms = h.rooms;
+      volumes = volumes;
     }
 
 -- where none is told to have no room, none is refused

@@ -10,8 +10,9 @@ use Rattle.vtoc_core.specs.Extents.{free_extents, planned}
 use Rattle.world_meaning.specs.Admissions.{AreKept, asked_at}
 use Rattle.world_meaning.specs.Tracks.{kept_without}
 use Rattle.mount_core.specs.declared.place.KeptPlace.{KeptPlace}
-use Rattle.mount_core.specs.Mounts.{MountedState}
+use Rattle.mount_core.specs.Mounts.{MountedState, unusable_at}
 use Rattle.shared_core.specs.declared.store.SharedStore.{SharedStore}
+use Rattle.shared_core.specs.Laws.{Follow}
 use Rattle.shared_core.specs.Rooms.{all_tracks, kept_place, room_of}
 use Rattle.shared_core.specs.Shown.{kept_extents, mounted_in, world_store_of}
 use Rattle.shared_core.specs.Tracks.{kept_shown}
@@ -44,13 +45,14 @@ AreApart places = all_different is_same_spot places ≡ true
 abbrev pub AreClearFor : List MountedState → ℕ → List Place → Type 0
 AreClearFor volumes job places = All (λ p. kept_extents (mounted_in volumes p.serial) (kept_place job p) ≡ None) places
 
--- Beside what was kept for others, the primary of each of these places is kept for a job; sets, catalog and the tracks that volumes have in all
--- stay.
+-- Beside what was kept for others, the primary of each of these places is kept for a job, in their order; sets, catalog and the tracks that volumes have
+-- in all stay.
 pub record KeepsAll (job : ℕ) (plan : JobPlan) (places : List Place) (old new : SharedStore) : Type 0 where
   pub others : kept_without (kept_shown new.volumes) job ≡ kept_shown old.volumes
   pub kept : AreKept plan job places (kept_shown new.volumes)
   pub store : world_store_of new ≡ world_store_of old
   pub rooms : map room_of new.volumes ≡ map room_of old.volumes
+  pub volumes : new ≡ record old { volumes = (kept_in job plan places old.volumes).volumes }
 
 -- Nothing is kept for a job on a volume any more: what is kept for others, its sets and how many tracks it has in all stay.
 pub record IsGivenBackOn (job : ℕ) (old new : MountedState) : Type 0 where
@@ -58,9 +60,11 @@ pub record IsGivenBackOn (job : ℕ) (old new : MountedState) : Type 0 where
   pub sets : new.volume.sets ≡ old.volume.sets
   pub serial : new.serial ≡ old.serial
   pub all : all_tracks new.volume.tracks ≡ all_tracks old.volume.tracks
+  pub unusable : (n : ℕ) → unusable_at new.volume.tracks n ≡ unusable_at old.volume.tracks n
 
 -- Nothing is kept for a job any more; sets, catalog and the tracks that volumes have in all stay.
 pub record GivesBackAll (job : ℕ) (old new : SharedStore) : Type 0 where
   pub kept : kept_shown new.volumes ≡ kept_without (kept_shown old.volumes) job
   pub store : world_store_of new ≡ world_store_of old
   pub rooms : map room_of new.volumes ≡ map room_of old.volumes
+  pub follow : Follow old new

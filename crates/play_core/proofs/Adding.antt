@@ -8,7 +8,7 @@ use Rattle.std.proofs.lemmas.List.Elements.{All-more, All-same}
 use Rattle.std.proofs.lemmas.Option.{get_or_from_slice_get, slice_get_within}
 use Rattle.jcl_plan.specs.declared.entry.Entry.{Entry}
 use Rattle.prog_core.specs.Operations.{is_busy}
-use Rattle.sched_core.specs.Systems.{IsSameFixed, Machine, Steps, world_of}
+use Rattle.sched_core.specs.Systems.{IsNext, Machine, Steps, world_of}
 use Rattle.sched_core.specs.Views.{seen_initiator, seen_volume}
 use Rattle.sched_core.specs.declared.views.SeenInitiator.{SeenInitiator}
 use Rattle.sched_core.specs.declared.views.SeenVolume.{SeenVolume}
@@ -28,8 +28,8 @@ pub Adds-none : (m : Machine) (given : List Given) → Adds m given m given
 Adds-none m given = record { more = []; after_so = sym (append-nil given); gives = refl }
 
 pub Adds-one : (old new : Machine) (given after : List Given) (g : Given) (lines : List Entry) → IsTaken (world_of old) g → Steps old (event_of g) lines (world_of new) →
-    IsSameFixed old new → after ≡ given ++ g ∷ [] → Adds old given new after
-Adds-one old new given after g lines taken step fixed is = record { more = g ∷ []; after_so = is; gives = (new, taken, (lines, step), fixed, refl) }
+    IsNext old new → after ≡ given ++ g ∷ [] → Adds old given new after
+Adds-one old new given after g lines taken step next is = record { more = g ∷ []; after_so = is; gives = (new, taken, (lines, step), next, refl) }
 
 pub Adds-then : (a b c : Machine) (first mid last : List Given) → Adds a first b mid → Adds b mid c last → Adds a first c last
 Adds-then a b c first mid last x y = record {
@@ -45,10 +45,10 @@ pub Leads-none : (m : Machine) → Leads m [] m
 Leads-none m = record { entries = []; drives = refl }
 
 pub Leads-more : (first mid last : Machine) (events : List Event) (e : Event) (lines : List Entry) → Leads first events mid → Steps mid e lines (world_of last) →
-    IsSameFixed mid last → Leads first (events ++ e ∷ []) last
-Leads-more first mid last events e lines before step fixed = record {
+    IsNext mid last → Leads first (events ++ e ∷ []) last
+Leads-more first mid last events e lines before step next = record {
   entries = before.entries ++ lines ∷ [];
-  drives = Drives-append first mid last events (e ∷ []) before.entries (lines ∷ []) before.drives (last, step, fixed, refl);
+  drives = Drives-append first mid last events (e ∷ []) before.entries (lines ∷ []) before.drives (last, step, next, refl);
 }
 
 pub Leads-then : (first mid last : Machine) (es fs : List Event) → Leads first es mid → Leads mid fs last → Leads first (es ++ fs) last

@@ -7,7 +7,7 @@ use Rattle.jcl_plan.specs.declared.entry.JobLine.{JobLine}
 use Rattle.jcl_plan.specs.declared.entry.JobLine.TheVariants as line
 use Rattle.machine_meaning.specs.declared.machine.TheConstants.{MOST_EVENTS}
 use Rattle.prog_core.specs.Operations.{is_busy}
-use Rattle.sched_core.specs.Systems.{Drives, IsSameFixed, Machine, Steps, world_of}
+use Rattle.sched_core.specs.Systems.{Drives, IsNext, Machine, Steps, world_of}
 use Rattle.world_meaning.specs.Worlds.{Initiator}
 use Rattle.play_core.specs.Given.{IsTaken, event_of}
 use Rattle.play_core.specs.declared.given.Given.{Given}
@@ -22,7 +22,7 @@ pub record Leads (old : Machine) (events : List Event) (new : Machine) : Type 0 
 abbrev pub Gives : Machine → List Given → Machine → Type 0
 Gives old [] new = new ≡ old
 Gives old (g ∷ given) new = (mid : Machine) × IsTaken (world_of old) g
-    × ((lines : List Entry) × Steps old (event_of g) lines (world_of mid)) × IsSameFixed old mid × Gives mid given new
+    × ((lines : List Entry) × Steps old (event_of g) lines (world_of mid)) × IsNext old mid × Gives mid given new
 
 -- and they stand behind those that were added before
 pub record Adds (old : Machine) (before : List Given) (new : Machine) (after : List Given) : Type 0 where

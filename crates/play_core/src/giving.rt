@@ -1,6 +1,6 @@
 //! An event is given to a machine, and what it writes is looked at.
 ghost use Rattle.std.specs.Prelude.{◌≡◌, ◌+◌, ◌<◌, ◌≤◌, [], All, IfOk, IfSome, OnOk, false, length, true};
-ghost use Rattle.sched_core.specs.Systems.{IsSameFixed, Steps, world_of};
+ghost use Rattle.sched_core.specs.Systems.{IsNext, Steps, world_of};
 ghost use Rattle.machine_meaning.specs.declared.machine.TheConstants.{MOST_EVENTS};
 ghost use Rattle.play_core.specs.Given.{IsTaken, event_of};
 ghost use Rattle.play_core.specs.Giving.{Adds, IsWait, SaysWait};
@@ -50,7 +50,7 @@ pub(crate) fn give(
     ensures adds { OnOk result (Adds system.old given.old.items system.new given.new.items) }
     ensures more { OnOk result (length given.new.items ≡ length given.old.items + 1) }
     ensures step { IfOk result (λ lines. Steps system.old (event_of next) lines (world_of system.new)) }
-    ensures fixed { IsSameFixed system.old system.new }
+    ensures next { IsNext system.old system.new }
 {
     given.reserve(1)?;
     let lines = system.apply_shown(&next.event())?;

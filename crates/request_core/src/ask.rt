@@ -1,5 +1,5 @@
 //! A request of a program. (This profile)
-ghost use Rattle.std.specs.Prelude.{◌≡◌, ◌<◌, IfOk, IsSome, OnErr, OnOk, Some, is_some, length, slice_get};
+ghost use Rattle.std.specs.Prelude.{◌≡◌, [], ◌<◌, IfOk, IsSome, OnErr, OnOk, Some, is_some, length, slice_get};
 ghost use Rattle.std.specs.Option.{option_copied, option_map};
 ghost use Rattle.jcl_meaning.specs.Programs.{is_read_only};
 ghost use Rattle.jcl_meaning.specs.RequestActs.{dd_name};
@@ -82,7 +82,7 @@ fn ask_of<S: JobStore>(
     ensures ok { OnOk result (AsksOf (S.grants_growth job store.old) step.now wants.now here.now dd.now
         (S.seen job store.old) course.old (S.seen job store.new) course.new) }
     ensures err { OnErr result ((store.new ≡ store.old) × (course.new ≡ course.old)) }
-    ensures rest { S.rest job store.new ≡ S.rest job store.old }
+    ensures rest { OnOk result (S.takes job [] (S.rest job store.old) (S.rest job store.new)) }
 {
     match wants {
         Move::From(name) => {
@@ -115,7 +115,7 @@ fn ask_at<S: JobStore>(
     ensures ok { OnOk result (CarriedAt (S.grants_growth job store.old) step.now wants.now d
         (S.seen job store.old) course.old (S.seen job store.new) course.new) }
     ensures err { OnErr result ((store.new ≡ store.old) × (course.new ≡ course.old)) }
-    ensures rest { S.rest job store.new ≡ S.rest job store.old }
+    ensures rest { OnOk result (S.takes job [] (S.rest job store.old) (S.rest job store.new)) }
 {
     let Some(here) = here_at(course.own.dds.as_slice(), d) else {
         abend(course, &Abend::SFF0)?;

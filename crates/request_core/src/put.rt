@@ -1,5 +1,5 @@
 //! PUT. (This profile)
-ghost use Rattle.std.specs.Prelude.{◌≡◌, IfOk, None, OnErr, OnOk, Some, is_some};
+ghost use Rattle.std.specs.Prelude.{◌≡◌, [], IfOk, None, OnErr, OnOk, Some, is_some};
 ghost use Rattle.jcl_plan.specs.declared.entry.JobLine.TheVariants as line;
 ghost use Rattle.jcl_meaning.specs.Programs.{emptied, empties, is_full, or_nothing};
 ghost use Rattle.jcl_meaning.specs.Takes.{secondary_of};
@@ -156,7 +156,7 @@ fn put_grows<S: JobStore>(
     ensures seen { OnOk result (S.seen job store.new ≡ store_grown (S.grants_growth job store.old t.now.key t.now.serial secondary) wipes secondary (S.seen job store.old) t.now) }
     ensures course { OnOk result (course.new ≡ course_grown (S.grants_growth job store.old t.now.key t.now.serial secondary) course.old name.now text.now d t.now secondary) }
     ensures err { OnErr result ((store.new ≡ store.old) × (course.new ≡ course.old)) }
-    ensures rest { S.rest job store.new ≡ S.rest job store.old }
+    ensures rest { OnOk result (S.takes job [] (S.rest job store.old) (S.rest job store.new)) }
 {
     grown_and_emptied_in_either_order();
     let lines = one_more(course.own.lines)?;
@@ -201,7 +201,7 @@ fn put_in<S: JobStore>(
     ensures ok { OnOk result (PutsIn (S.grants_growth job store.old) name.now text.now here.now p.now t.now
         (S.seen job store.old) course.old (S.seen job store.new) course.new) }
     ensures err { OnErr result ((store.new ≡ store.old) × (course.new ≡ course.old)) }
-    ensures rest { S.rest job store.new ≡ S.rest job store.old }
+    ensures rest { OnOk result (S.takes job [] (S.rest job store.old) (S.rest job store.new)) }
 {
     let wipes = empties(p.status, here.written);
     let secondary = secondary_of(&p.space);
@@ -261,7 +261,7 @@ pub(crate) fn put<S: JobStore>(
     ensures ok { OnOk result (Puts (S.grants_growth job store.old) name.now text.now here.now kind.now
         (S.seen job store.old) course.old (S.seen job store.new) course.new) }
     ensures err { OnErr result ((store.new ≡ store.old) × (course.new ≡ course.old)) }
-    ensures rest { S.rest job store.new ≡ S.rest job store.old }
+    ensures rest { OnOk result (S.takes job [] (S.rest job store.old) (S.rest job store.new)) }
 {
     match kind {
         DdKind::Sysout(_) => {

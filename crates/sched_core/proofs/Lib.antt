@@ -18,6 +18,7 @@ pub mod Machined
 pub mod Begun
 pub mod Nexts
 pub mod Driving
+pub mod Followed
 pub mod RefusedGrowth
 pub mod RefusedPrimary
 pub mod ActionFacts

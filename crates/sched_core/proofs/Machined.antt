@@ -1,15 +1,16 @@
 -- The machine's value, and the state that it stands for.
-use Rattle.std.proofs.Common.{◌≡◌, ℕ, List, length, sym, ◌∙◌, subst}
+use Rattle.std.proofs.Common.{◌≡◌, ℕ, List, length, refl, sym, ◌∙◌, subst}
 use Rattle.std.specs.Prelude.{Result}
 use Rattle.cb_queue.specs.RecordQueues.{RecordQueue}
 use Rattle.jcl_plan.specs.declared.entry.Entry.{Entry}
 use Rattle.proc_library.specs.declared.library.LibraryProcedure.{LibraryProcedure}
 use Rattle.world_meaning.specs.Worlds.{World}
+use Rattle.init_core.specs.Extents.{ExtentsFollow}
 use Rattle.init_core.specs.Running.{config_of}
 use Rattle.init_core.specs.declared.running.Profile.{Profile}
 use Rattle.sched_core.specs.Fits.{IsKept}
 use Rattle.sched_core.specs.Machines.{config_in, world_in}
-use Rattle.sched_core.specs.Systems.{Applies, IsSystem, Machine, machine_in, world_of}
+use Rattle.sched_core.specs.Systems.{Applies, IsNext, IsSystem, Machine, machine_in, world_of}
 use Rattle.sched_core.specs.declared.fault.ApplyFault.{ApplyFault}
 use Rattle.sched_core.specs.declared.state.State.{State}
 
@@ -27,6 +28,12 @@ module _ {Q : Type 0} (queue_of : Q → RecordQueue) (p : Profile) (names : List
     pub applied : (result : Result (List Entry) ApplyFault) (allows : List Entry → World → Type 0) →
         Applies result (world_of before) (world_in queue_of (config_in queue_of p s) new) allows → Applies result (world_of before) (world_of after) allows
     applied result allows h = subst (λ w. Applies result (world_of before) w allows) (sym same_world) h
+
+    pub next_machine : ExtentsFollow s.parts.store new.parts.store → IsNext before after
+    next_machine extents = record {
+      fixed = record { config = λ i. config_of p (layout i); unit_names = refl; library = refl };
+      extents = extents;
+    }
 
     pub system_again : IsKept queue_of (config_in queue_of p s) new → length names ≡ length p.units.now → IsSystem queue_of p names new
     system_again k named = record { kept = subst (λ l. IsKept queue_of (config_of p l) new) (sym layout) k; named = named }

@@ -15,3 +15,4 @@ pub mod Deciding
 pub mod Answers
 pub mod Zapping
 pub mod Views
+pub mod Volumes

@@ -12,6 +12,7 @@ use Rattle.world_meaning.specs.declared.event.Event.TheVariants as event
 use Rattle.world_meaning.specs.Readings.{Denoting}
 use Rattle.world_meaning.specs.Transitions.{Runs}
 use Rattle.world_meaning.specs.Worlds.{Config, World}
+use Rattle.init_core.specs.Extents.{ExtentsFollow}
 use Rattle.job_core.specs.Listed.{waiting_in}
 use Rattle.job_core.specs.declared.backlog.Listing.{Listing}
 use Rattle.machine_core.specs.Shown.{shown}
@@ -111,14 +112,19 @@ pub record IsSameFixed (old new : Machine) : Type 0 where
   pub unit_names : new.unit_names ≡ old.unit_names
   pub library : new.library ≡ old.library
 
+-- One machine and the next: and the extents of the volumes follow.
+pub record IsNext (old new : Machine) : Type 0 where
+  pub fixed : IsSameFixed old new
+  pub extents : ExtentsFollow old.parts.store new.parts.store
+
 -- A step of the machine: a case of the table, of which what it leaves open is as the volumes, as they were, decide it.
 abbrev pub Steps : Machine → Event → List Entry → World → Type 0
 Steps old e lines new = FollowsSo old.parts.store (denoting old) (world_of old) (meant_by e) lines new
 
--- steps of machine after machine, with what is fixed
+-- steps of machine after machine, each the next
 abbrev pub Drives : Machine → List Event → List (List Entry) → Machine → Type 0
 Drives old [] [] new = new ≡ old
-Drives old (e ∷ es) (lines ∷ more) new = (mid : Machine) × Steps old e lines (world_of mid) × IsSameFixed old mid × Drives mid es more new
+Drives old (e ∷ es) (lines ∷ more) new = (mid : Machine) × Steps old e lines (world_of mid) × IsNext old mid × Drives mid es more new
 Drives old [] (lines ∷ more) new = ⊥
 Drives old (e ∷ es) [] new = ⊥
 
@@ -127,7 +133,7 @@ abbrev pub Along : ((old : Machine) (e : Event) (lines : List Entry) (new : Worl
     Machine → List Event → List (List Entry) → Machine → Type 0
 Along P old [] [] new = new ≡ old
 Along P old (e ∷ es) (lines ∷ more) new =
-    (mid : Machine) × (s : Steps old e lines (world_of mid)) × IsSameFixed old mid × P old e lines (world_of mid) s × Along P mid es more new
+    (mid : Machine) × (s : Steps old e lines (world_of mid)) × IsNext old mid × P old e lines (world_of mid) s × Along P mid es more new
 Along P old [] (lines ∷ more) new = ⊥
 Along P old (e ∷ es) [] new = ⊥
 

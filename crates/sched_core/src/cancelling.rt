@@ -5,6 +5,7 @@ ghost use Rattle.jcl_plan.specs.declared.entry.Entry.TheVariants as entry;
 ghost use Rattle.world_meaning.specs.Cancels.{CancelsJob, cancelled_lines};
 ghost use Rattle.world_meaning.specs.Worlds.{Config};
 ghost use Rattle.job_core.specs.Cancelled.{with_job};
+ghost use Rattle.init_core.specs.Extents.{ExtentsFollow};
 ghost use Rattle.init_core.specs.Running.{IsReady};
 ghost use Rattle.init_core.specs.declared.running.Running.{Running};
 ghost use Rattle.sched_core.specs.Cancelling.{CancelsAt, CancelsRunning, GivesUp, LeavesQueue, RunsJob, has_admitted, has_job};
@@ -189,6 +190,7 @@ fn cancel_there<Q: RecordStore>(
     ensures refusal { RefusesFirst result (CancelsJob (world_in Q.queue (config_in Q.queue profile.now state.old) state.old) job) }
     ensures fit { IsFit Q.queue (config_in Q.queue profile.now state.old) state.new }
     ensures same { OnErr result (IsSameMachine Q.queue profile.now state.old state.new) }
+    ensures extents { OnOk result (ExtentsFollow state.old.parts.store state.new.parts.store) }
 {
     match cancel_at(alloc, &mut state.parts, &mut state.initiators, place, job) {
         Ok(lines) => Ok(lines),
@@ -210,6 +212,7 @@ pub(crate) fn cancel<Q: RecordStore>(
     ensures refusal { RefusesFirst result (CancelsJob (world_in Q.queue (config_in Q.queue profile.now state.old) state.old) job) }
     ensures fit { IsFit Q.queue (config_in Q.queue profile.now state.old) state.new }
     ensures same { OnErr result (IsSameMachine Q.queue profile.now state.old state.new) }
+    ensures extents { OnOk result (ExtentsFollow state.old.parts.store state.new.parts.store) }
 {
     if state.backlog.has(job) {
         return match cancel_waiting(alloc, &mut state.parts, &mut state.backlog, job) {

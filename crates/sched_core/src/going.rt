@@ -1,10 +1,11 @@
 //! An initiator goes on with its job.
-ghost use Rattle.std.specs.Prelude.{◌≡◌, ◌≢◌, ◌+◌, ◌<◌, ◌≤◌, ◌++◌, ◌∷◌, [], All, Err, IfOk, None, OnErr, Some, length, map, slice_get, slice_set};
+ghost use Rattle.std.specs.Prelude.{◌≡◌, ◌≢◌, ◌+◌, ◌<◌, ◌≤◌, ◌++◌, ◌∷◌, [], All, Err, IfOk, None, OnErr, Some, length, map, slice_get, slice_set, OnOk};
 ghost use Rattle.std.specs.Vec.{vec_capacity, vec_len};
 ghost use Rattle.jcl_plan.specs.declared.entry.Entry.TheVariants as entry;
 ghost use Rattle.jcl_plan.specs.declared.fault.Cause.{Cause};
 ghost use Rattle.world_meaning.specs.Transitions.{told_with};
 ghost use Rattle.world_meaning.specs.Worlds.{of_job};
+ghost use Rattle.init_core.specs.Extents.{ExtentsFollow};
 ghost use Rattle.init_core.specs.Providing.{IsProvided};
 ghost use Rattle.init_core.specs.Running.{IsGood, IsReady, config_of, path_before, told_before};
 ghost use Rattle.init_core.specs.declared.running.Running.{Running};
@@ -220,6 +221,7 @@ pub(crate) fn go_on_at<Q: RecordStore>(
     ensures never_refused { (cause : Cause) → result ≢ Err (Refused cause) }
     ensures fit { IsFit Q.queue (config_in Q.queue profile.now state.old) state.new }
     ensures same { OnErr result (IsSameMachine Q.queue profile.now state.old state.new) }
+    ensures extents { OnOk result (ExtentsFollow state.old.parts.store state.new.parts.store) }
 {
     match turn_at(
         alloc,

@@ -1,8 +1,9 @@
 //! What happens at an event.
-ghost use Rattle.std.specs.Prelude.{◌≡◌, ◌≢◌, ◌+◌, ◌<◌, ◌≤◌, All, Err, IfNone, IfOk, IfSome, OnErr, length};
+ghost use Rattle.std.specs.Prelude.{◌≡◌, ◌≢◌, ◌+◌, ◌<◌, ◌≤◌, All, Err, IfNone, IfOk, IfSome, OnErr, length, OnOk};
 ghost use Rattle.jcl_job.specs.Jobs.{job_of};
 ghost use Rattle.machine_meaning.specs.declared.machine.TheConstants.{MOST_EVENTS};
 ghost use Rattle.world_meaning.specs.Transitions.{Does, Transition, Turns};
+ghost use Rattle.init_core.specs.Extents.{ExtentsFollow};
 ghost use Rattle.sched_core.specs.Events.{Answers, DoesSo, FollowsSo, RefusesFirst, TurnsSo};
 ghost use Rattle.sched_core.specs.Fits.{IsFit, IsKept};
 ghost use Rattle.sched_core.specs.Happening.{IsSeat};
@@ -57,6 +58,7 @@ fn turn<Q: RecordStore>(
     ensures refusal { RefusesFirst result (Turns (world_in Q.queue (config_in Q.queue profile.now state.old) state.old) number) }
     ensures fit { IsFit Q.queue (config_in Q.queue profile.now state.old) state.new }
     ensures same { OnErr result (IsSameMachine Q.queue profile.now state.old state.new) }
+    ensures extents { OnOk result (ExtentsFollow state.old.parts.store state.new.parts.store) }
 {
     let Some(place) = place_of(state.initiators.as_slice(), number) else {
         return Err(ApplyFault::Refused(Cause::A(EventFault::NoSuchInitiator)));
@@ -87,6 +89,7 @@ fn happen<Q: RecordStore>(
         (Does (job_of units.now library.now) (world_in Q.queue (config_in Q.queue profile.now state.old) state.old) (meant_by event.now)) }
     ensures fit { IsFit Q.queue (config_in Q.queue profile.now state.old) state.new }
     ensures same { OnErr result (IsSameMachine Q.queue profile.now state.old state.new) }
+    ensures extents { OnOk result (ExtentsFollow state.old.parts.store state.new.parts.store) }
 {
     match event {
         Event::Read(deck) => read(alloc, state, profile, units, library, deck.get().as_slice()),
@@ -125,6 +128,7 @@ pub(crate) fn apply_in<Q: RecordStore>(
     ensures memory { result ≡ Err ApplyFault.Memory →
         machine_in Q.queue profile.now units.now library.now state.new ≡ machine_in Q.queue profile.now units.now library.now state.old }
     ensures kept { IsKept Q.queue (config_in Q.queue profile.now state.old) state.new }
+    ensures extents { ExtentsFollow state.old.parts.store state.new.parts.store }
 {
     soundness_is_kept();
     supplies_are_kept();

@@ -17,4 +17,5 @@ pub mod start;
 pub mod state;
 pub mod system;
 pub mod views;
+mod volumes;
 mod zapping;

@@ -112,6 +112,7 @@ fn accept<Q: RecordStore>(
     ensures never_refused { (cause : Cause) → result ≢ Err (Refused cause) }
     ensures fit { IsFit Q.queue (config_in Q.queue profile.now state.old) state.new }
     ensures same { OnErr result (IsSameMachine Q.queue profile.now state.old state.new) }
+    ensures store { state.new.parts.store ≡ state.old.parts.store }
 {
     let job = state.jobs + 1;
     match take_in(alloc, &mut state.parts.queue, &mut state.backlog, job, plan) {
@@ -141,6 +142,7 @@ pub(crate) fn read<Q: RecordStore>(
         (Reads (job_of units.now library.now) (world_in Q.queue (config_in Q.queue profile.now state.old) state.old) deck.now) }
     ensures fit { IsFit Q.queue (config_in Q.queue profile.now state.old) state.new }
     ensures same { OnErr result (IsSameMachine Q.queue profile.now state.old state.new) }
+    ensures store { state.new.parts.store ≡ state.old.parts.store }
 {
     if MOST_JOBS <= state.jobs {
         return Err(ApplyFault::Refused(Cause::A(EventFault::PastLimit)));

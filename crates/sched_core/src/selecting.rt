@@ -100,6 +100,7 @@ pub(crate) fn select_at<Q: RecordStore>(
     ensures never_refused { (cause : Cause) → result ≢ Err (Refused cause) }
     ensures fit { IsFit Q.queue (config_in Q.queue profile.now state.old) state.new }
     ensures same { OnErr result (IsSameMachine Q.queue profile.now state.old state.new) }
+    ensures store { state.new.parts.store ≡ state.old.parts.store }
 {
     let _layout = state.parts.queue.layout();
     match seat_next(

@@ -35,6 +35,7 @@ pub(crate) fn end_device<Q: RecordStore>(
     ensures refusal { RefusesFirst result (EndsDevice (world_in Q.queue (config_in Q.queue profile.now state.old) state.old) serial) }
     ensures fit { IsFit Q.queue (config_in Q.queue profile.now state.old) state.new }
     ensures same { OnErr result (IsSameMachine Q.queue profile.now state.old state.new) }
+    ensures store { state.new.parts.store ≡ state.old.parts.store }
 {
     match events::end_device(&mut state.parts, profile.volumes, serial) {
         Ok(()) => Ok(Listed::empty(alloc)),
@@ -56,6 +57,7 @@ pub(crate) fn write<Q: RecordStore>(
     ensures never_refused { (cause : Cause) → result ≢ Err (Refused cause) }
     ensures fit { IsFit Q.queue (config_in Q.queue profile.now state.old) state.new }
     ensures same { OnErr result (IsSameMachine Q.queue profile.now state.old state.new) }
+    ensures store { state.new.parts.store ≡ state.old.parts.store }
 {
     let mut lines = Vec::with_capacity(alloc, 1)?;
     let Some((job, written)) = events::write(&mut state.parts, class) else {

@@ -10,13 +10,15 @@ ghost use Rattle.world_meaning.specs.Starts.{IsStart};
 ghost use Rattle.world_meaning.specs.Transitions.{Transition};
 ghost use Rattle.sched_core.specs.Events.{RefusesFirst};
 ghost use Rattle.sched_core.specs.Starting.{IsForMachine, IsStarted};
-ghost use Rattle.sched_core.specs.Systems.{Applies, IsDriven, IsSameFixed, KeepsIfRefused, Steps, denoting, meant_by, world_of};
+ghost use Rattle.sched_core.specs.Systems.{Applies, IsDriven, IsNext, KeepsIfRefused, Steps, denoting, meant_by, world_of};
+ghost use Rattle.sched_core.specs.Volumes.{VolumesAreLaidOut};
 
 use crate::ending::end;
 use crate::fault::ApplyFault;
 use crate::happening::apply_in;
 use crate::start::{idle_of, started};
 use crate::state::State;
+use crate::volumes::volumes_are_laid_out;
 use case_laws::starts_supplied;
 use cb_queue::store::RecordStore;
 use config_core::laws::configuration_is_start;
@@ -106,14 +108,14 @@ impl<'c, Q: RecordStore> System<'c, Q> {
         })
     }
 
-    /// One event: a case of the table, decided by the volumes as they were. A refusal changes the count of events alone and takes no memory; want of
-    /// memory changes nothing.
+    /// One event: a case of the table, decided by the volumes as they were, whose extents follow. A refusal changes the count of events alone and takes no
+    /// memory; want of memory changes nothing.
     pub fn apply(&mut self, event: &Event<'_>) -> Result<Listed<Entry>, ApplyFault>
         ensures answer { Applies result (world_of self.old) (world_of self.new) (Steps self.old event.now) }
         ensures refusal { RefusesFirst result (Transition (denoting self.old) (world_of self.old) (meant_by event.now)) }
         ensures unless_refused { KeepsIfRefused result self.old self.new }
         ensures memory { result ≡ Err ApplyFault.Memory → self.new ≡ self.old }
-        ensures fixed { IsSameFixed self.old self.new }
+        ensures next { IsNext self.old self.new }
     {
         apply_in(
             self.alloc,
@@ -129,7 +131,7 @@ impl<'c, Q: RecordStore> System<'c, Q> {
     pub fn apply_shown(&mut self, event: &Event<'_>) -> Result<Listed<Entry>, AllocError>
         ensures step { IfOk result (λ lines. Steps self.old event.now lines (world_of self.new)) }
         ensures err { OnErr result (self.new ≡ self.old) }
-        ensures fixed { IsSameFixed self.old self.new }
+        ensures next { IsNext self.old self.new }
     {
         let mut line = Vec::with_capacity(self.alloc, 1)?;
         match self.apply(event) {
@@ -170,6 +172,14 @@ impl<'c, Q: RecordStore> System<'c, Q> {
         ensures { VolumesHaveTheirSizes self.now.parts.store }
     {
         volumes_have_their_sizes(&self.state.parts.store);
+    }
+
+    /// On each volume of the machine no track is in two extents, those of sets and those that are kept are marked so, and no others are. So the tracks that
+    /// are free are those of no set that are not kept, but for those that are never free.
+    pub fn volumes_are_laid_out(&self)
+        ensures { VolumesAreLaidOut self.now.parts.store }
+    {
+        volumes_are_laid_out(&self.state.parts.store);
     }
 
     /// Takes the machine apart, with the jobs that it still has. It takes no memory.

@@ -96,6 +96,7 @@ pub(crate) fn zap<Q: RecordStore>(
     ensures refusal { RefusesFirst result (ZapsRecord (world_in Q.queue (config_in Q.queue profile.now state.old) state.old) n offset bytes.now) }
     ensures fit { IsFit Q.queue (config_in Q.queue profile.now state.old) state.new }
     ensures same { OnErr result (IsSameMachine Q.queue profile.now state.old state.new) }
+    ensures store { state.new.parts.store ≡ state.old.parts.store }
 {
     if let Some(fault) = zap_fault(&*state, n, offset, bytes.len()) {
         return Err(ApplyFault::Refused(Cause::Q(fault)));

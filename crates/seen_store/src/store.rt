@@ -1,5 +1,5 @@
 //! The store that an analysed job sees.
-ghost use Rattle.std.specs.Prelude.{◌≡◌, ◌<◌, ◌≤◌, All, IfOk, IfSome, OnSome, Some, length, refl, true};
+ghost use Rattle.std.specs.Prelude.{◌≡◌, ◌<◌, ◌≤◌, All, IfOk, IfSome, OnSome, Some, length, true};
 ghost use Rattle.std.specs.Option.{option_copied};
 ghost use Rattle.group_core.specs.Entries.{volume_in};
 ghost use Rattle.jname_core.specs.Generations.{base_of};
@@ -166,13 +166,19 @@ impl JobStore for SeenStore {
 
     ghost rest = { λ _ _. tt };
 
-    ghost spent = { λ _ _ rest. rest };
+    ghost gives_up = { λ _ _. Unit {0} };
+
+    ghost takes = { λ _ _ _ _. Unit {0} };
 
     ghost grants_new = { λ _ _ _ _ _. true };
 
     ghost grants_growth = { λ _ _ _ _ _. true };
 
-    ghost spent_nothing = { λ _ _. refl };
+    ghost gives_nothing = { λ _. tt };
+
+    ghost gives_both = { λ _ _ _ _ _. tt };
+
+    ghost takes_none = { λ _ _ _ _. tt };
 
     fn set(&self, _job: u16, key: &Key, serial: Serial) -> Option<SetFacts> {
         match self.set_at(key, serial) {

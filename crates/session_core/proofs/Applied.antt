@@ -6,7 +6,7 @@ use Rattle.std.proofs.lemmas.Grind.{replicate_next}
 use Rattle.jcl_plan.specs.declared.entry.Entry.{Entry}
 use Rattle.jcl_plan.specs.Lines.{text_of}
 use Rattle.input_core.specs.declared.event.Event.{Event}
-use Rattle.sched_core.specs.Systems.{Drives, IsSameFixed, Machine}
+use Rattle.sched_core.specs.Systems.{Drives, IsNext, Machine}
 use Rattle.session_core.specs.Listings.{text_of_all}
 use Rattle.session_core.specs.Running.{AreApplied, IsApplied}
 
@@ -41,17 +41,17 @@ AreApplied-behind machine after events out old new a = record {
   text_so = ap (λ x. out ++ x) a.text_so ∙ sym (append_assoc out old (text_of_all a.entries));
 }
 
-AreApplied-one : (machine after : Machine) (event : Event) (old new : List ℕ) → IsSameFixed machine after → IsApplied machine event after old new
+AreApplied-one : (machine after : Machine) (event : Event) (old new : List ℕ) → IsNext machine after → IsApplied machine event after old new
     → AreApplied machine (event ∷ []) after old new
-AreApplied-one machine after event old new same one = record {
+AreApplied-one machine after event old new next one = record {
   entries = one.lines ∷ [];
-  drives = (after, one.step, same, refl);
+  drives = (after, one.step, next, refl);
   text_so = one.text_so ∙ ap (λ x. old ++ x) (sym (append-nil (flat_map text_of one.lines)));
 }
 
 -- once more
 pub AreApplied-more : (first mid after : Machine) (event : Event) (done : ℕ) (start old new : List ℕ) → AreApplied first (replicate done event) mid start old
-    → IsSameFixed mid after → IsApplied mid event after old new → AreApplied first (replicate (done + 1) event) after start new
-AreApplied-more first mid after event done start old new applied same one =
+    → IsNext mid after → IsApplied mid event after old new → AreApplied first (replicate (done + 1) event) after start new
+AreApplied-more first mid after event done start old new applied next one =
     rw (replicate_next done event) (AreApplied-append first mid after (replicate done event) (event ∷ []) start old new applied
-    (AreApplied-one mid after event old new same one))
+    (AreApplied-one mid after event old new next one))

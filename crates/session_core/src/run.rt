@@ -11,7 +11,7 @@ ghost use Rattle.session_core.specs.Sessions.{refuses_in, session_behind};
 ghost use Rattle.session_core.specs.Streams.{sink_state};
 ghost use Rattle.session_text.specs.declared.statement.Says.TheVariants as says;
 ghost use Rattle.sched_core.specs.Starting.{IsStarted};
-ghost use Rattle.sched_core.specs.Systems.{IsSameFixed};
+ghost use Rattle.sched_core.specs.Systems.{IsNext, IsSameFixed};
 
 use crate::listing::{Listing, MOST_HELD, Mark};
 use crate::open::{Opened, open, start};
@@ -36,7 +36,7 @@ fn run_event(
     ensures ok { OnOk result (IsApplied system.old event.now system.new listing.old.text.kept listing.new.text.kept) }
     ensures err { OnErr result (listing.new.text.kept ≡ listing.old.text.kept) }
     ensures left { OnErr result (IsLeft system.old system.new) }
-    ensures fixed { IsSameFixed system.old system.new }
+    ensures next { IsNext system.old system.new }
     ensures marks { listing.new.marks.items ≡ listing.old.marks.items }
 {
     match system.apply(event) {

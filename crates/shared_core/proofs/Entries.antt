@@ -21,6 +21,10 @@ pub ok_by : {X E P Q : Type 0} (r : Result X E) → (P → Q) → OnOk r P → O
 ok_by (Ok x) f p = f p
 ok_by (Err e) f p = tt
 
+pub ok_both : {X E P R Q : Type 0} (r : Result X E) → (P → R → Q) → OnOk r P → OnOk r R → OnOk r Q
+ok_both (Ok x) f p q = f p q
+ok_both (Err e) f p q = tt
+
 pub err_by : {X E P Q : Type 0} (r : Result X E) → (P → Q) → OnErr r P → OnErr r Q
 err_by (Ok x) f p = tt
 err_by (Err e) f p = f p

@@ -13,3 +13,5 @@ pub mod ShownLists
 mod SetTracks
 mod Conserving
 mod AddingUp
+mod OnVolumes
+pub mod Following

@@ -25,9 +25,9 @@ use Rattle.vtoc_core.specs.Entries.{same_key as same_world_key}
 use Rattle.world_meaning.specs.Lenses.{WorldStore, seen, seen_set, world_key}
 use Rattle.mount_core.specs.Mounts.{MountedState}
 use Rattle.shared_core.specs.declared.store.SharedStore.{SharedStore}
-use Rattle.shared_core.specs.Rooms.{kept_place, others_of, set_of_others, spent}
+use Rattle.shared_core.specs.Rooms.{GiveUp, Take, kept_place, others_of, set_of_others}
 use Rattle.shared_core.specs.Shown.{set_on, mounted_in, world_store_of}
-use Rattle.shared_core.specs.Writes.{Changes, Keeps, KeepsOthers, Writes}
+use Rattle.shared_core.specs.Writes.{Changes, GiveUpTracks, Keeps, KeepsOthers, Stay, TakeTracks, TakeTracksAt, Writes}
 use Rattle.shared_core.proofs.WorldKeys.{name_put, name_taken}
 use Rattle.shared_core.proofs.Written.{at_its_place}
 
@@ -137,19 +137,47 @@ module _ (job : ℕ) (s : SharedStore) (volumes : List MountedState) (key : Key)
     catalog = λ n. get s.catalog n;
   }
 
-  pub others_written : (there : Option DataSet) → Writes s.volumes volumes k serial there → Keeps s.volumes volumes → others_of job (with_volumes s volumes) ≡ others_of job s
-  others_written there w kept = λ i. record {
-    set = λ q v. others_step job (world_store_of s) (world_store_of (with_volumes s volumes)) serial there q key k v w.set own i;
+  others_stay : (there : Option DataSet) → Writes s.volumes volumes k serial there → set_of_others job (world_store_of (with_volumes s volumes)) ≡ set_of_others job (world_store_of s)
+  others_stay there w = λ i q v. others_step job (world_store_of s) (world_store_of (with_volumes s volumes)) serial there q key k v w.set own i
+
+  pub others_written : (there : Option DataSet) → Writes s.volumes volumes k serial there → Keeps s.volumes volumes → Stay s.volumes volumes →
+      others_of job (with_volumes s volumes) ≡ others_of job s
+  others_written there w kept stay = λ i. record {
+    set = others_stay there w i;
     rooms = w.rooms i;
     kept = λ v at. kept v at i;
+    extents = λ v q. (stay v).extents q i;
+    tracks = λ v. (stay v).tracks i;
+  }
+
+  pub others_given : (there : Option DataSet) → Writes s.volumes volumes k serial there → Keeps s.volumes volumes → GiveUpTracks s.volumes volumes →
+      GiveUp (others_of job s) (others_of job (with_volumes s volumes))
+  others_given there w kept given = record {
+    set = others_stay there w;
+    rooms = w.rooms;
+    kept = λ i v at. kept v at i;
+    extents = λ v. (given v).extents;
+    unusable = λ v. (given v).unusable;
   }
 
   pub others_made : (place : Place) (there : Option DataSet) → Writes s.volumes volumes k serial there → KeepsOthers s.volumes volumes place.serial (kept_place job place) →
-      others_of job (with_volumes s volumes) ≡ spent job (place ∷ []) (others_of job s)
-  others_made place there w kept = λ i. record {
-    set = λ q v. others_step job (world_store_of s) (world_store_of (with_volumes s volumes)) serial there q key k v w.set own i;
-    rooms = w.rooms i;
-    kept = λ v at. kept v at i;
+      TakeTracksAt place.serial (kept_place job place) s.volumes volumes → Take job (place ∷ []) (others_of job s) (others_of job (with_volumes s volumes))
+  others_made place there w kept take = record {
+    set = others_stay there w;
+    rooms = w.rooms;
+    kept = λ i v at. kept v at i;
+    extents = λ v. (take v).extents;
+    unusable = λ v. (take v).unusable;
+  }
+
+  pub others_grown : (there : Option DataSet) → Writes s.volumes volumes k serial there → Keeps s.volumes volumes → TakeTracks s.volumes volumes →
+      Take job [] (others_of job s) (others_of job (with_volumes s volumes))
+  others_grown there w kept take = record {
+    set = others_stay there w;
+    rooms = w.rooms;
+    kept = λ i v at. kept v at i;
+    extents = λ v. (take v).extents;
+    unusable = λ v. (take v).unusable;
   }
 
   -- a set that is there is changed, and else nothing
@@ -176,8 +204,8 @@ module _ (job : ℕ) (s : SharedStore) (volumes : List MountedState) (key : Key)
       by_what_is_there f (set_on (mounted_in s.volumes serial) k) refl w.0
       ∙ ap (λ o. with_set_there o (f (or_nothing o)) (seen job (world_store_of s)) key serial) (sym (seen_at job (world_store_of s) key k serial own))
 
-  pub others_changed : (f : DataSet → DataSet) → Changes f s.volumes volumes k serial → others_of job (with_volumes s volumes) ≡ others_of job s
-  others_changed f w = others_written (option_map f (set_on (mounted_in s.volumes serial) k)) w.0 w.1
+  pub others_changed : (f : DataSet → DataSet) → Changes f s.volumes volumes k serial → Stay s.volumes volumes → others_of job (with_volumes s volumes) ≡ others_of job s
+  others_changed f w stay = others_written (option_map f (set_on (mounted_in s.volumes serial) k)) w.0 w.1 stay
 
   cut_there : (o : Option DataSet) (t : Store) → with_set_there o (cut (or_nothing o)) t key serial ≡ cut_at o t key serial
   cut_there None t = refl

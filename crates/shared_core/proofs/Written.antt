@@ -140,6 +140,11 @@ used_step at false true new its o h w = w ∙ ap (λ o. kept_extents o at) (sym 
 used_step at true false new its o h w = refl
 used_step at false false new its o h w = refl
 
+each_step : (R : Option MountedState → Option MountedState → Type 0) → ((o : Option MountedState) → R o o) → (c : Bool) (new its : MountedState)
+    (o : Option MountedState) → (c ≡ true → o ≡ Some its) → (c ≡ true → R (Some its) (Some new)) → R o (cond c (Some new) o)
+each_step R stays true new its o h r = subst (λ p. R p (Some new)) (sym (h refl)) (r refl)
+each_step R stays false new its o h r = stays o
+
 module _ (volumes : List MountedState) (serial : List ℕ) (place : ℕ) (f : IsFirstMounted volumes serial place) (new : MountedState) where
   found_at : (v : List ℕ) → bytes_eq v serial ≡ true → mounted_in volumes v ≡ Some f.its_volume
   found_at v e = ap (mounted_in volumes) (names_same v serial e) ∙ f.found
@@ -161,6 +166,13 @@ module _ (volumes : List MountedState) (serial : List ℕ) (place : ℕ) (f : Is
   keeps_others_at its s w v at =
       ap (λ o. kept_extents o at) (f.changed new v s)
       ∙ used_step at (is_same_place at its) (bytes_eq v serial) new f.its_volume (mounted_in volumes v) (found_at v) (w at)
+
+  pub each_at : (R : List ℕ → Option MountedState → Option MountedState → Type 0) → ((v : List ℕ) (o : Option MountedState) → R v o o) →
+      new.serial ≡ f.its_volume.serial → R serial (Some f.its_volume) (Some new) → (v : List ℕ) → R v (mounted_in volumes v) (mounted_in (slice_set volumes place new) v)
+  each_at R stays s r v =
+      subst (R v (mounted_in volumes v)) (sym (f.changed new v s))
+      (each_step (R v) (stays v) (bytes_eq v serial) new f.its_volume (mounted_in volumes v) (found_at v)
+      (λ e. subst (λ u. R u (Some f.its_volume) (Some new)) (sym (names_same v serial e)) r))
 
 -- as the code has it: the list, the volume that it read there, and the list with that volume written
 module _ (volumes slice items after : List MountedState) (serial : List ℕ) (place : ℕ) (x : MountedState) (new : MountedState) (k : SetKey)
@@ -204,3 +216,13 @@ module _ (volumes slice items after : List MountedState) (serial : List ℕ) (pl
     subst (λ o. Writes volumes after k serial (option_map g (set_on o k))) (sym (its_state f)) (writes_in (option_map g (set_on (Some x) k)) f w.0),
     keeps_in f w.0.serial w.1,
   )
+
+  -- what becomes of its volume becomes of each, where it is what becomes of one that stays
+  pub each_in : (R : List ℕ → Option MountedState → Option MountedState → Type 0) → ((v : List ℕ) (o : Option MountedState) → R v o o) →
+      IsFirstMounted slice serial place → new.serial ≡ x.serial → R serial (Some x) (Some new) →
+      (v : List ℕ) → R v (mounted_in volumes v) (mounted_in after v)
+  each_in R stays f s r v =
+      let h : IsFirstMounted volumes serial place = first_of f in
+      let m : x ≡ h.its_volume = sym (its_volume_is h) in
+      subst (λ l. R v (mounted_in volumes v) (mounted_in l v)) after_is
+      (each_at volumes serial place h new R stays (s ∙ ap (λ (y : MountedState). y.serial) m) (subst (λ (y : MountedState). R serial (Some y) (Some new)) m r) v)

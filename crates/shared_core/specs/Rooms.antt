@@ -1,5 +1,5 @@
 -- What stays of the store when one job writes what it sees, and which tracks it is granted.
-use Rattle.std.specs.Prelude.{ℕ, ◌+◌, ◌==◌, ◌&&◌, Bool, true, false, nat_le, length, List, [], ◌∷◌, map, Option, Some, None, if◌then◌else◌}
+use Rattle.std.specs.Prelude.{◌≡◌, ℕ, ◌+◌, ◌==◌, ◌&&◌, Bool, true, false, nat_le, length, List, [], ◌∷◌, map, Option, Some, None, if◌then◌else◌}
 use Rattle.std.specs.FinMap.{get}
 use Rattle.std.specs.Str.{bytes_eq}
 use Rattle.extent_core.specs.declared.extent.Extent.{Extent}
@@ -15,8 +15,9 @@ use Rattle.jcl_meaning.specs.declared.state.Place.{Place}
 use Rattle.jcl_meaning.specs.declared.store.DataSet.{DataSet}
 use Rattle.world_meaning.specs.Lenses.{WorldStore, world_key}
 use Rattle.mount_core.specs.declared.place.KeptPlace.{KeptPlace}
-use Rattle.mount_core.specs.Mounts.{MountedState, holds}
+use Rattle.mount_core.specs.Mounts.{MountedState, holds, unusable_at}
 use Rattle.shared_core.specs.declared.store.SharedStore.{SharedStore}
+use Rattle.shared_core.specs.Extents.{GivesUp, Takes, extents_on, tracks_on}
 use Rattle.shared_core.specs.Shown.{kept_extents, mounted_in, world_store_of}
 
 -- the sets that others than a job alone see
@@ -36,17 +37,22 @@ all_tracks tracks = count_of Free tracks + (count_of Aside tracks + count_of InS
 abbrev pub room_of : MountedState → Room
 room_of m = record { serial = m.serial; all = all_tracks m.volume.tracks }
 
--- what else is known of the store: the sets that others alone see, how many tracks each volume has for sets, and which are kept
+-- What else is known of the store: the sets that others alone see, how many tracks each volume has for sets, which are kept, which extents each
+-- set has, and what each track is.
 pub record Others : Type 0 where
   pub set : SetKey → List ℕ → Option DataSet
   pub rooms : List Room
   pub kept : List ℕ → KeptPlace → Option (List Extent)
+  pub extents : List ℕ → SetKey → Option (List Extent)
+  pub tracks : List ℕ → List Track
 
 abbrev pub others_of : ℕ → SharedStore → Others
 others_of job s = record {
   set = λ k serial. set_of_others job (world_store_of s) k serial;
   rooms = map room_of s.volumes;
   kept = λ serial at. kept_extents (mounted_in s.volumes serial) at;
+  extents = λ serial k. extents_on (mounted_in s.volumes serial) k;
+  tracks = λ serial. tracks_on (mounted_in s.volumes serial);
 }
 
 -- a set that is made uses up the tracks that are kept for it on its volume
@@ -61,8 +67,27 @@ without_kept job [] kept = kept
 without_kept job (p ∷ places) kept =
     without_kept job places (λ serial at. if is_same_place at (kept_place job p) && bytes_eq serial p.serial then None else kept serial at)
 
-abbrev pub spent : ℕ → List Place → Others → Others
-spent job places rest = record { set = rest.set; rooms = rest.rooms; kept = without_kept job places rest.kept }
+-- Sets give tracks up, and all else stays.
+pub record GiveUp (old new : Others) : Type 0 where
+  pub set : new.set ≡ old.set
+  pub rooms : new.rooms ≡ old.rooms
+  pub kept : new.kept ≡ old.kept
+  pub extents : (serial : List ℕ) (k : SetKey) → GivesUp (old.extents serial k) (new.extents serial k)
+  pub unusable : (serial : List ℕ) (n : ℕ) → unusable_at (new.tracks serial) n ≡ unusable_at (old.tracks serial) n
+
+-- what is kept on a volume for the set that a job makes at these places: an action makes one set at most
+abbrev pub kept_at : ℕ → List Place → (List ℕ → KeptPlace → Option (List Extent)) → List ℕ → Option (List Extent)
+kept_at job [] kept serial = None
+kept_at job (p ∷ places) kept serial = if bytes_eq serial p.serial then kept serial (kept_place job p) else None
+
+-- Sets of a job take tracks: those that it makes at these places, or one that grows. All else stays.
+pub record Take (job : ℕ) (places : List Place) (old new : Others) : Type 0 where
+  pub set : new.set ≡ old.set
+  pub rooms : new.rooms ≡ old.rooms
+  pub kept : new.kept ≡ without_kept job places old.kept
+  pub extents : (serial : List ℕ) (k : SetKey) →
+      Takes (kept_at job places old.kept serial) (free_extents (old.tracks serial)) (old.extents serial k) (new.extents serial k)
+  pub unusable : (serial : List ℕ) (n : ℕ) → unusable_at (new.tracks serial) n ≡ unusable_at (old.tracks serial) n
 
 -- a primary is granted where it is kept, or where none is kept and the five largest free extents of its volume hold it
 abbrev pub holds_new : Option SetKey → Option MountedState → KeptPlace → ℕ → Bool

@@ -3,11 +3,13 @@ use Rattle.std.specs.Prelude.{◌≡◌, ℕ, ◌<◌, ◌&&◌, Bool, List, len
 use Rattle.std.specs.FinMap.{get}
 use Rattle.std.specs.Option.{option_map}
 use Rattle.std.specs.Str.{bytes_eq}
+use Rattle.extent_core.specs.declared.extent.Extent.{Extent}
 use Rattle.vtoc_core.specs.declared.entry.SetKey.{SetKey}
 use Rattle.vtoc_core.specs.Entries.{same_key}
 use Rattle.jcl_meaning.specs.declared.store.DataSet.{DataSet}
 use Rattle.mount_core.specs.declared.place.KeptPlace.{KeptPlace}
 use Rattle.mount_core.specs.Mounts.{MountedState}
+use Rattle.shared_core.specs.Extents.{GiveUpOn, StayOn, TakeOn}
 use Rattle.shared_core.specs.Rooms.{all_tracks, is_same_place, room_of}
 use Rattle.shared_core.specs.Shown.{kept_extents, mounted_in, set_on}
 
@@ -57,3 +59,20 @@ KeepsOthers old new serial place = (v : List ℕ) (at : KeptPlace) →
 
 abbrev pub Changes : (DataSet → DataSet) → List MountedState → List MountedState → SetKey → List ℕ → Type 0
 Changes f old new k serial = Writes old new k serial (option_map f (set_on (mounted_in old serial) k)) × Keeps old new
+
+-- what becomes of the extents on each volume
+abbrev pub Stay : List MountedState → List MountedState → Type 0
+Stay old new = (v : List ℕ) → StayOn (mounted_in old v) (mounted_in new v)
+
+abbrev pub GiveUpTracks : List MountedState → List MountedState → Type 0
+GiveUpTracks old new = (v : List ℕ) → GiveUpOn (mounted_in old v) (mounted_in new v)
+
+abbrev pub TakeTracks : List MountedState → List MountedState → Type 0
+TakeTracks old new = (v : List ℕ) → TakeOn None (mounted_in old v) (mounted_in new v)
+
+-- for a set that is made at a place on the volume of a serial
+abbrev pub kept_there : List ℕ → KeptPlace → List ℕ → Option MountedState → Option (List Extent)
+kept_there serial place v o = if bytes_eq v serial then kept_extents o place else None
+
+abbrev pub TakeTracksAt : List ℕ → KeptPlace → List MountedState → List MountedState → Type 0
+TakeTracksAt serial place old new = (v : List ℕ) → TakeOn (kept_there serial place v (mounted_in old v)) (mounted_in old v) (mounted_in new v)

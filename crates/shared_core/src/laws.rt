@@ -3,7 +3,7 @@ ghost use Rattle.std.specs.Prelude.{◌≡◌, ℕ};
 ghost use Rattle.std.specs.FinMap as map;
 ghost use Rattle.std.specs.List.{All};
 ghost use Rattle.world_meaning.specs.Lenses.{put_back, seen};
-ghost use Rattle.shared_core.specs.Laws.{KeptIsSpent, NothingIsShown, SetsOfOthersStay, TracksAreConserved};
+ghost use Rattle.shared_core.specs.Laws.{KeptIsSpent, NothingIsShown, SetsOfOthersStay, TakingFollows, TracksAreConserved};
 ghost use Rattle.shared_core.specs.Rooms.{others_of};
 ghost use Rattle.shared_core.specs.Shown.{world_store_of};
 ghost use Rattle.shared_core.specs.Tracks.{NothingKept};
@@ -22,6 +22,12 @@ pub fn sets_of_others_stay()
 /// On volumes that are new no tracks are kept.
 pub fn new_volumes_keep_nothing()
     ensures { (s : SharedStore) → All (λ m. m.kept ≡ map.empty) s.volumes → NothingKept s }
+{}
+
+/// Where a job takes tracks, a set that it makes has the extents that were kept for it, or those that its tracks take of the free ones; one that grows
+/// takes such behind its own; and each other set keeps its extents, or the first tracks of them.
+pub fn taking_follows()
+    ensures { TakingFollows }
 {}
 
 /// Where no tracks are kept none are shown.

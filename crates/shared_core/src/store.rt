@@ -1,10 +1,11 @@
 //! The store of all jobs.
-ghost use Rattle.std.specs.Prelude.{◌≡◌, refl};
+ghost use Rattle.std.specs.Prelude.{◌≡◌};
 ghost use Rattle.std.specs.Option.{option_copied, option_map};
 ghost use Rattle.store_core.specs.Actions.{facts_of};
 ghost use Rattle.world_meaning.specs.Lenses.{seen, seen_set};
-ghost use Rattle.shared_core.specs.Rooms.{Others, grants_growth, grants_new, kept_place, others_of, spent};
+ghost use Rattle.shared_core.specs.Rooms.{GiveUp, Others, Take, grants_growth, grants_new, kept_place, others_of};
 ghost use Rattle.shared_core.specs.Shown.{data_of, world_store_of};
+ghost use Rattle.shared_core.specs.Giving.{both_given, none_taken, nothing_given};
 
 use crate::key::world_key;
 use crate::volumes::{append_to, empty_set, grow_set, make_set, place_of, scratch_set, trim_set};
@@ -74,13 +75,19 @@ impl JobStore for SharedStore {
 
     ghost rest = { λ job s. others_of job s };
 
-    ghost spent = { λ job places rest. spent job places rest };
+    ghost gives_up = { λ old new. GiveUp old new };
+
+    ghost takes = { λ job places old new. Take job places old new };
 
     ghost grants_new = { λ job s key place tracks. grants_new job s key place tracks };
 
     ghost grants_growth = { λ job s key serial tracks. grants_growth job s key serial tracks };
 
-    ghost spent_nothing = { λ _ _. refl };
+    ghost gives_nothing = { nothing_given };
+
+    ghost gives_both = { both_given };
+
+    ghost takes_none = { none_taken };
 
     fn set(&self, job: u16, key: &Key, serial: Serial) -> Option<SetFacts> {
         match self.entry_of(job, key, serial) {

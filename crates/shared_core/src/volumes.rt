@@ -5,8 +5,9 @@ ghost use Rattle.jcl_meaning.specs.Programs.{appended, emptied, grown_by};
 ghost use Rattle.jcl_meaning.specs.Stores.{cut};
 ghost use Rattle.store_core.specs.Actions.{new_set_of};
 ghost use Rattle.shared_core.specs.Rooms.{holds_more, holds_new};
-ghost use Rattle.shared_core.specs.Shown.{set_on, mounted_in};
-ghost use Rattle.shared_core.specs.Writes.{Changes, ChangesOn, IsFirstMounted, Keeps, KeepsOn, KeepsOthers, KeepsOthersOn, Writes, WritesOn, is_mounted};
+ghost use Rattle.shared_core.specs.Extents.{GiveUpOn, StayOn, TakeOn};
+ghost use Rattle.shared_core.specs.Shown.{kept_extents, set_on, mounted_in};
+ghost use Rattle.shared_core.specs.Writes.{Changes, ChangesOn, GiveUpTracks, IsFirstMounted, Keeps, KeepsOn, KeepsOthers, KeepsOthersOn, Stay, TakeTracks, TakeTracksAt, Writes, WritesOn, is_mounted};
 
 use jcl_plan::plan::Record;
 use jname_core::serial::Serial;
@@ -18,6 +19,7 @@ use std::mem;
 use store_core::job_store::RoomFault;
 use vtoc_core::entry::SetKey;
 use vtoc_core::fault::VolumeFault;
+use vtoc_core::volume::volumes_are_sound;
 
 /// The first place of a volume of the serial.
 pub fn position_of(volumes: &[Mounted], serial: Serial) -> Option<usize>
@@ -38,7 +40,8 @@ pub(crate) fn place_of(volumes: &[Mounted], serial: Serial) -> Option<usize>
 
 /// Takes the records of a set away.
 fn empty_on(mounted: &mut Mounted, key: &SetKey)
-    ensures { ChangesOn (emptied true) mounted.old mounted.new key.now }
+    ensures changes { ChangesOn (emptied true) mounted.old mounted.new key.now }
+    ensures extents { StayOn (Some mounted.old) (Some mounted.new) }
 {
     match mounted.clear(key) {
         Ok(()) => {}
@@ -48,7 +51,8 @@ fn empty_on(mounted: &mut Mounted, key: &SetKey)
 
 /// Takes the records of a set on the volume of a serial away.
 pub(crate) fn empty_set(alloc: Global, volumes: &mut Listed<Mounted>, serial: Serial, key: &SetKey)
-    ensures { Changes (emptied true) volumes.old volumes.new key.now serial }
+    ensures changes { Changes (emptied true) volumes.old volumes.new key.now serial }
+    ensures extents { Stay volumes.old volumes.new }
 {
     let Some(at) = place_of(volumes.as_slice(), serial) else {
         return;
@@ -61,6 +65,7 @@ pub(crate) fn empty_set(alloc: Global, volumes: &mut Listed<Mounted>, serial: Se
 /// Puts a record behind those of a set, where it is there. An `Err` changes nothing.
 fn append_on(mounted: &mut Mounted, key: &SetKey, text: &Record) -> Result<(), AllocError>
     ensures ok { OnOk result (ChangesOn (appended text.now) mounted.old mounted.new key.now) }
+    ensures extents { StayOn (Some mounted.old) (Some mounted.new) }
     ensures err { OnErr result (mounted.new ≡ mounted.old) }
 {
     match mounted.append(key, *text) {
@@ -79,6 +84,7 @@ pub(crate) fn append_to(
     text: &Record,
 ) -> Result<(), AllocError>
     ensures ok { OnOk result (Changes (appended text.now) volumes.old volumes.new key.now serial) }
+    ensures extents { OnOk result (Stay volumes.old volumes.new) }
     ensures err { OnErr result (volumes.new ≡ volumes.old) }
 {
     let Some(at) = place_of(volumes.as_slice(), serial) else {
@@ -92,8 +98,10 @@ pub(crate) fn append_to(
 
 /// Takes a set off its volume.
 fn scratch_on(mounted: &mut Mounted, key: &SetKey)
-    ensures { WritesOn mounted.old mounted.new key.now None × KeepsOn mounted.old mounted.new }
+    ensures changes { WritesOn mounted.old mounted.new key.now None × KeepsOn mounted.old mounted.new }
+    ensures extents { GiveUpOn (Some mounted.old) (Some mounted.new) }
 {
+    volumes_are_sound(mounted.volume());
     match mounted.scratch(key) {
         Ok(()) => {}
         Err(_) => {}
@@ -107,7 +115,8 @@ pub(crate) fn scratch_set(
     serial: Serial,
     key: &SetKey,
 )
-    ensures { Writes volumes.old volumes.new key.now serial None × Keeps volumes.old volumes.new }
+    ensures changes { Writes volumes.old volumes.new key.now serial None × Keeps volumes.old volumes.new }
+    ensures extents { GiveUpTracks volumes.old volumes.new }
 {
     let Some(at) = place_of(volumes.as_slice(), serial) else {
         return;
@@ -119,8 +128,10 @@ pub(crate) fn scratch_set(
 
 /// Cuts a set to the tracks that its records fill.
 fn trim_on(mounted: &mut Mounted, key: &SetKey)
-    ensures { ChangesOn cut mounted.old mounted.new key.now }
+    ensures changes { ChangesOn cut mounted.old mounted.new key.now }
+    ensures extents { GiveUpOn (Some mounted.old) (Some mounted.new) }
 {
+    volumes_are_sound(mounted.volume());
     let Some(entry) = mounted.volume().find(key) else {
         return;
     };
@@ -133,7 +144,8 @@ fn trim_on(mounted: &mut Mounted, key: &SetKey)
 
 /// Cuts a set on the volume of a serial to the tracks that its records fill.
 pub(crate) fn trim_set(alloc: Global, volumes: &mut Listed<Mounted>, serial: Serial, key: &SetKey)
-    ensures { Changes cut volumes.old volumes.new key.now serial }
+    ensures changes { Changes cut volumes.old volumes.new key.now serial }
+    ensures extents { GiveUpTracks volumes.old volumes.new }
 {
     let Some(at) = place_of(volumes.as_slice(), serial) else {
         return;
@@ -155,9 +167,11 @@ fn make_on(
     requires { set_on (Some mounted.old) key.now ≡ None }
     ensures ok { OnOk result (WritesOn mounted.old mounted.new key.now (Some (new_set_of tracks expires)) × KeepsOthersOn mounted.old mounted.new place.now
         × (holds_new (Some key.now) (Some mounted.old) place.now tracks ≡ true)) }
+    ensures extents { OnOk result (TakeOn (kept_extents (Some mounted.old) place.now) (Some mounted.old) (Some mounted.new)) }
     ensures refused { result ≡ Err RoomFault.NotGranted ↔ holds_new (Some key.now) (Some mounted.old) place.now tracks ≡ false }
     ensures err { OnErr result (mounted.new ≡ mounted.old) }
 {
+    mounted.kept_is_aside();
     match mounted.make(alloc, place, *key, tracks, expires) {
         Ok(()) => Ok(()),
         Err(VolumeFault::NoSpace) => Err(RoomFault::NotGranted),
@@ -179,6 +193,7 @@ pub(crate) fn make_set(
     requires { set_on (mounted_in volumes.old serial) key.now ≡ None }
     ensures ok { OnOk result (Writes volumes.old volumes.new key.now serial (Some (new_set_of tracks expires)) × KeepsOthers volumes.old volumes.new serial place.now
         × (holds_new (Some key.now) (mounted_in volumes.old serial) place.now tracks ≡ true)) }
+    ensures extents { OnOk result (TakeTracksAt serial place.now volumes.old volumes.new) }
     ensures refused { result ≡ Err RoomFault.NotGranted ↔ holds_new (Some key.now) (mounted_in volumes.old serial) place.now tracks ≡ false }
     ensures err { OnErr result (volumes.new ≡ volumes.old) }
 {
@@ -195,6 +210,7 @@ pub(crate) fn make_set(
 fn grow_on(mounted: &mut Mounted, key: &SetKey, tracks: u16) -> Result<(), RoomFault>
     ensures ok { OnOk result (ChangesOn (grown_by tracks) mounted.old mounted.new key.now
         × (holds_more (Some key.now) (Some mounted.old) tracks ≡ true)) }
+    ensures extents { OnOk result (TakeOn None (Some mounted.old) (Some mounted.new)) }
     ensures refused { result ≡ Err RoomFault.NotGranted ↔ holds_more (Some key.now) (Some mounted.old) tracks ≡ false }
     ensures err { OnErr result (mounted.new ≡ mounted.old) }
 {
@@ -217,6 +233,7 @@ pub(crate) fn grow_set(
 ) -> Result<(), RoomFault>
     ensures ok { OnOk result (Changes (grown_by tracks) volumes.old volumes.new key.now serial
         × (holds_more (Some key.now) (mounted_in volumes.old serial) tracks ≡ true)) }
+    ensures extents { OnOk result (TakeTracks volumes.old volumes.new) }
     ensures refused { result ≡ Err RoomFault.NotGranted ↔ holds_more (Some key.now) (mounted_in volumes.old serial) tracks ≡ false }
     ensures err { OnErr result (volumes.new ≡ volumes.old) }
 {

@@ -1,5 +1,6 @@
 //! The store of a job alone, as lists.
 ghost use Rattle.std.specs.Prelude.{◌≡◌, ◌<◌, ◌≤◌, Some, None, IfOk, IfSome, IfNone, OnOk, OnErr, List, refl, true, ℕ};
+ghost use Rattle.std.proofs.Common.{◌∙◌};
 ghost use Rattle.std.specs.List.{position};
 ghost use Rattle.group_core.specs.Entries.{group_in};
 ghost use Rattle.group_core.specs.Groups.{GroupState, RollsInRange, without};
@@ -54,13 +55,19 @@ impl JobStore for Alone {
 
     ghost rest = { λ _ s. s.store.volumes };
 
-    ghost spent = { λ _ _ rest. rest };
+    ghost gives_up = { λ old new. new ≡ old };
+
+    ghost takes = { λ _ _ old new. new ≡ old };
 
     ghost grants_new = { λ _ _ _ _ _. true };
 
     ghost grants_growth = { λ _ s _ _ _. s.growth };
 
-    ghost spent_nothing = { λ _ _. refl };
+    ghost gives_nothing = { λ _. refl };
+
+    ghost gives_both = { λ _ _ _ p q. q ∙ p };
+
+    ghost takes_none = { λ _ _ _ p. p };
 
     fn set(&self, _job: u16, key: &Key, serial: Serial) -> Option<SetFacts> {
         match set_in(&self.store, key, serial) {

@@ -43,11 +43,14 @@ pub trait JobStore {
     /// All else that is known of the store.
     ghost Rest: { Type 0 };
 
-    /// The same for a job: the sets that others alone see, and what is kept for jobs.
+    /// The same for a job: the sets that others alone see, the extents of all sets, and what is kept for jobs.
     ghost rest: { ℕ → Self → Rest };
 
-    /// What is left of it once a job's sets are made at these places.
-    ghost spent: { ℕ → List Place → Rest → Rest };
+    /// What becomes of it where sets give tracks up and none takes any.
+    ghost gives_up: { Rest → Rest → Type 0 };
+
+    /// What becomes of it where a job's sets take tracks: those that it makes at these places, or one that grows.
+    ghost takes: { ℕ → List Place → Rest → Rest → Type 0 };
 
     /// Whether the tracks of a job's new set of a key are granted, at a place.
     ghost grants_new: { ℕ → Self → Key → Place → ℕ → Bool };
@@ -55,8 +58,14 @@ pub trait JobStore {
     /// Whether further tracks are granted to a job's set.
     ghost grants_growth: { ℕ → Self → Key → List ℕ → ℕ → Bool };
 
-    /// Where nothing is made all else stays.
-    ghost spent_nothing: { (job : ℕ) (rest : Rest) → spent job [] rest ≡ rest };
+    /// To give up nothing is to give up.
+    ghost gives_nothing: { (rest : Rest) → gives_up rest rest };
+
+    /// To give up twice is to give up.
+    ghost gives_both: { (first second third : Rest) → gives_up first second → gives_up second third → gives_up first third };
+
+    /// Where tracks are given up none are taken.
+    ghost takes_none: { (job : ℕ) (old new : Rest) → gives_up old new → takes job [] old new };
 
     /// What is known of the set of a key on a volume, if it is there.
     fn set(&self, job: u16, key: &Key, serial: Serial) -> Option<SetFacts>
@@ -85,7 +94,7 @@ pub trait JobStore {
     ) -> Result<(), RoomFault>
         requires { (seen job self.old).set key.now place.now.serial ≡ None }
         ensures ok { OnOk result ((seen job self.new ≡ with_set (seen job self.old) key.now place.now.serial (Some (new_set_of tracks expires)))
-            × (rest job self.new ≡ spent job (place.now ∷ []) (rest job self.old)) × (grants_new job self.old key.now place.now tracks ≡ true)) }
+            × takes job (place.now ∷ []) (rest job self.old) (rest job self.new) × (grants_new job self.old key.now place.now tracks ≡ true)) }
         ensures refused { result ≡ Err RoomFault.NotGranted ↔ grants_new job self.old key.now place.now tracks ≡ false }
         ensures err { OnErr result (self.new ≡ self.old) };
 
@@ -95,7 +104,7 @@ pub trait JobStore {
             × (grants_growth job self.old key.now serial tracks ≡ true)) }
         ensures refused { result ≡ Err RoomFault.NotGranted ↔ grants_growth job self.old key.now serial tracks ≡ false }
         ensures err { OnErr result (self.new ≡ self.old) }
-        ensures rest { rest job self.new ≡ rest job self.old };
+        ensures rest { OnOk result (takes job [] (rest job self.old) (rest job self.new)) };
 
     /// Takes the records of a set away.
     fn empty(&mut self, job: u16, key: &Key, serial: Serial)
@@ -117,12 +126,12 @@ pub trait JobStore {
     /// Cuts a set to the tracks that its records fill.
     fn trim(&mut self, job: u16, key: &Key, serial: Serial)
         ensures seen { seen job self.new ≡ cut_at ((seen job self.old).set key.now serial) (seen job self.old) key.now serial }
-        ensures rest { rest job self.new ≡ rest job self.old };
+        ensures rest { gives_up (rest job self.old) (rest job self.new) };
 
     /// Takes a set off its volume.
     fn scratch(&mut self, job: u16, key: &Key, serial: Serial)
         ensures seen { seen job self.new ≡ with_set (seen job self.old) key.now serial None }
-        ensures rest { rest job self.new ≡ rest job self.old };
+        ensures rest { gives_up (rest job self.old) (rest job self.new) };
 
     /// Enters a name for a volume, in place of what is there. The error is want of memory.
     fn enter(&mut self, job: u16, name: &DsName, serial: Serial) -> Result<(), AllocError>

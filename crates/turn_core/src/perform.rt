@@ -29,7 +29,7 @@ pub(crate) fn perform<S: JobStore>(
         Performs setting.now.programs.now steps (record { new = S.grants_new setting.now.job store.old; growth = S.grants_growth setting.now.job store.old })
         setting.now.cancelled (fixed_by setting.now.given) (action_of task.now)
         (S.seen setting.now.job store.old) course.old (S.seen setting.now.job store.new) course.new made) }
-    ensures rest { IfOk result (λ made. S.rest setting.now.job store.new ≡ S.spent setting.now.job (made_of made) (S.rest setting.now.job store.old)) }
+    ensures rest { IfOk result (λ made. S.takes setting.now.job (made_of made) (S.rest setting.now.job store.old) (S.rest setting.now.job store.new)) }
     ensures err { OnErr result ((store.new ≡ store.old) × (course.new ≡ course.old)) }
 {
     let job = setting.job;

@@ -38,8 +38,8 @@ fn turn_at<S: JobStore>(
         (action_of task.now ∷ actions) (S.seen setting.now.job store.old) walk.old.course (S.seen setting.now.job store.new) walk.new.course actions told) }
     ensures place { IfOk result (λ told. acts told ≡ true → walk.new.todo ≡ behind) }
     ensures kept { IfOk result (λ told. acts told ≡ false → (store.new ≡ store.old) × (walk.new ≡ walk.old)) }
-    ensures rest { IfOk result (λ told. S.rest setting.now.job store.new ≡
-        S.spent setting.now.job (made_of (made_in told)) (S.rest setting.now.job store.old)) }
+    ensures rest { IfOk result (λ told.
+        S.takes setting.now.job (made_of (made_in told)) (S.rest setting.now.job store.old) (S.rest setting.now.job store.new)) }
     ensures err { OnErr result ((store.new ≡ store.old) × (walk.new ≡ walk.old)) }
 {
     if must_wait(setting, &*store, &walk.course.own, task) {
@@ -78,8 +78,8 @@ fn turn_from<S: JobStore>(
         (agenda_at (moves_of setting.now.programs.now) plan.now.steps walk.old.todo) (S.seen setting.now.job store.old) walk.old.course (S.seen setting.now.job store.new) walk.new.course
         (agenda_at (moves_of setting.now.programs.now) plan.now.steps walk.new.todo)) }
     ensures kept { IfOk result (λ told. acts told ≡ false → (store.new ≡ store.old) × (walk.new ≡ walk.old)) }
-    ensures rest { IfOk result (λ told. S.rest setting.now.job store.new ≡
-        S.spent setting.now.job (made_of (made_in told)) (S.rest setting.now.job store.old)) }
+    ensures rest { IfOk result (λ told.
+        S.takes setting.now.job (made_of (made_in told)) (S.rest setting.now.job store.old) (S.rest setting.now.job store.new)) }
     ensures err { OnErr result ((store.new ≡ store.old) × (walk.new ≡ walk.old)) }
 {
     match find(
@@ -130,8 +130,8 @@ pub fn turn<S: JobStore>(
         (around_of setting.now plan.now.steps (record { new = S.grants_new setting.now.job store.old; growth = S.grants_growth setting.now.job store.old }))
         plan.now (S.seen setting.now.job store.old) walk.old (S.seen setting.now.job store.new) walk.new) }
     ensures kept { IfOk result (λ told. acts told ≡ false → (store.new ≡ store.old) × (walk.new ≡ walk.old)) }
-    ensures rest { IfOk result (λ told. S.rest setting.now.job store.new ≡
-        S.spent setting.now.job (made_of (made_in told)) (S.rest setting.now.job store.old)) }
+    ensures rest { IfOk result (λ told.
+        S.takes setting.now.job (made_of (made_in told)) (S.rest setting.now.job store.old) (S.rest setting.now.job store.new)) }
     ensures err { OnErr result ((store.new ≡ store.old) × (walk.new ≡ walk.old)) }
 {
     turn_from(alloc, plan, setting, store, walk)

@@ -1,4 +1,4 @@
-use Rattle.std.proofs.Common.{ap, refl, subst, sym, ◌∙◌, ◌-◌, IfOk, None, slice_get}
+use Rattle.std.proofs.Common.{ap, subst, sym, ◌∙◌, ◌-◌, IfOk, None, slice_get}
 use Rattle.jcl_meaning.specs.EndActs.{disposes}
 use Rattle.jcl_meaning.specs.States.{if_runs}
 use Rattle.disp_core.proofs.Silent.{carried_silently}
@@ -17,7 +17,7 @@ returns-in_default g c =
           (sym c.in_default.is ∙ c.in_ok-x.ensures ∙ ap (λ l. slice_get l (at.dd - 1)) c.as_slice.ensures)
           (carried_silently seen course));
       err = tt;
-      rest = refl;
+      rest = g.S.JobStore.takes_none at.job _ _ (g.S.JobStore.gives_nothing (g.S.JobStore.rest at.job c.args.store.now));
     }
 
 pub returns : goal.returns

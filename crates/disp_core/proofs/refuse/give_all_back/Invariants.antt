@@ -6,5 +6,5 @@ use Rattle.disp_core.proofs.refuse.give_all_back.Given as goal
 abbrev pub invariant-loop-x : goal.invariant-loop-x
 invariant-loop-x g l = record {
   seen : all_given_back (drop l.x-index l.dds) (g.S.JobStore.seen l.job l.store) ≡ all_given_back l.dds (g.S.JobStore.seen l.job l.fn.store);
-  rest : g.S.JobStore.rest l.job l.store ≡ g.S.JobStore.rest l.job l.fn.store;
+  rest : g.S.JobStore.gives_up (g.S.JobStore.rest l.job l.fn.store) (g.S.JobStore.rest l.job l.store);
 }

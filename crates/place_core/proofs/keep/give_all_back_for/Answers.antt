@@ -4,7 +4,7 @@ use Rattle.std.specs.FinMap.{get}
 use Rattle.std.specs.List.{AllZip}
 use Rattle.mount_core.specs.Mounts.{MountedState}
 use Rattle.place_core.specs.Keepings.{IsGivenBackOn}
-use Rattle.place_core.proofs.GivenBack.{rooms_zip, sets_back, shown_back}
+use Rattle.place_core.proofs.GivenBack.{follow_back, rooms_zip, sets_back, shown_back}
 use Rattle.place_core.proofs.keep.give_all_back_for.Goals as goal
 
 pub returns : goal.returns
@@ -21,4 +21,5 @@ returns c =
       kept = shown_back c.args.job old c.new.result all;
       store = λ i. record { set = λ k serial. sets_back c.args.job old c.new.result all k serial i; catalog = λ name. get c.args.store.now.catalog name };
       rooms = rooms_zip c.args.job old c.new.result all;
+      follow = follow_back c.args.job old c.new.result all;
     }

@@ -10,7 +10,7 @@ loop-mounted-preserved c =
     let e = c.give_back_all.ensures in
     one_more_changed (IsGivenBackOn c.args.job) c.loop-mounted.mounted-index c.args.volumes.now c.loop-mounted.volumes c.mounted-item.result c.give_back_all.new.self
     c.loop-mounted-test.true c.loop-mounted.invariant
-    (record { kept = e.kept; sets = e.sets; serial = e.serial; all = e.tracks })
+    (record { kept = e.kept; sets = e.sets; serial = e.serial; all = e.tracks; unusable = e.unusable })
 
 pub returns : goal.returns
 returns c =

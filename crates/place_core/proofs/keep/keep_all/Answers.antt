@@ -22,5 +22,5 @@ returns-clause-kept c = λ ok.
     ∙ none_refused c.keep_on_each-done.result (kept_in job plan places before).refused c.keep_on_each-done.ensures.refused ok in
     let run : (kept_in job plan places store.volumes).volumes ≡ c.new.result =
     ap (λ (v : List MountedState). (kept_in job plan places v).volumes) (sym was) ∙ sym (c.keep_on_each-done.ensures.volumes ok) ∙ sym is in
-    keeps_all job plan places store (record store { volumes = c.new.result }) c.requires.none refl
+    keeps_all job plan places store (record store { volumes = c.new.result }) c.requires.none (λ i. record store { volumes = sym run i })
     (subst (KeepsEach job plan places store.volumes) run (run_keeps job plan places store.volumes refused))

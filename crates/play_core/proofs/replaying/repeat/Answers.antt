@@ -12,4 +12,4 @@ loop-done-preserved c =
     let done = c.loop-done.done in
     subst (λ es. Leads old es new) (sym (replicate_next done e))
     (Leads-more old c.loop-done.system new (replicate done e) e c.in_ok-apply_shown.field-0 c.loop-done.invariant c.in_ok-apply_shown.ensures.step
-    c.apply_shown.ensures.fixed)
+    c.apply_shown.ensures.next)

@@ -41,7 +41,7 @@ loop-place-preserved c =
     let long = Adds-length c.args.system.now c.loop-place.system first mid before.adds in
     record {
       adds = Adds-then c.args.system.now c.loop-place.system c.give.new.system first mid c.give.new.given.items before.adds c.in_ok-give.ensures.adds;
-      config = c.give.ensures.fixed.config ∙ before.config;
+      config = c.give.ensures.next.fixed.config ∙ before.config;
       count = before.count;
       idle = λ e. absurd cc;
       same = λ e. absurd cc;

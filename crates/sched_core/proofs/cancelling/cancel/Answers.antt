@@ -10,6 +10,7 @@ use Rattle.sched_core.specs.declared.fault.ApplyFault.TheVariants.{Memory}
 use Rattle.sched_core.proofs.Cancelled.{fit_waiting, leads_waiting, never_refused, no_job, some_waiting}
 use Rattle.sched_core.proofs.Unchanged.{queue_alone, same_fit, same_machine}
 use Rattle.sched_core.proofs.Waits.{found_waiting, nameless, numbered}
+use Rattle.sched_core.proofs.Followed.{left_extents}
 use Rattle.sched_core.proofs.cancelling.cancel.Goals as goal
 
 pub cancel_waiting-requires-clause-some : goal.cancel_waiting-requires-clause-some
@@ -78,3 +79,6 @@ returns-in-Err-clause-same g c =
     let s = c.args.state.now in
     same_machine g.Q.RecordStore.queue c.args.profile.now s (record s { parts = c.cancel_waiting.new.parts; backlog = c.cancel_waiting.new.backlog })
     (ap (parts_of g.Q.RecordStore.queue) c.in-Err.ensures.err.0) refl c.in-Err.ensures.err.1 refl refl
+
+pub returns-in-Ok-clause-extents : goal.returns-in-Ok-clause-extents
+returns-in-Ok-clause-extents g c = left_extents c.in-Ok.ensures.left

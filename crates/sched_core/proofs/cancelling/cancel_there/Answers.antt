@@ -5,6 +5,7 @@ use Rattle.sched_core.specs.Systems.{parts_of}
 use Rattle.sched_core.specs.declared.fault.ApplyFault.TheVariants.{Memory}
 use Rattle.sched_core.proofs.Cancelled.{fit_running, leads_running, never_refused, some_running}
 use Rattle.sched_core.proofs.Unchanged.{queue_alone, same_fit, same_machine}
+use Rattle.sched_core.proofs.Followed.{cancelled_extents}
 use Rattle.sched_core.proofs.cancelling.cancel_there.Goals as goal
 
 pub cancel_at-requires : goal.cancel_at-requires
@@ -65,3 +66,6 @@ returns-in-Err-clause-same g c =
     let s = c.args.state.now in
     same_machine g.Q.RecordStore.queue c.args.profile.now s (record s { parts = c.cancel_at.new.parts; initiators = c.cancel_at.new.initiators })
     (ap (parts_of g.Q.RecordStore.queue) c.in-Err.ensures.err.0) c.in-Err.ensures.err.1 refl refl refl
+
+pub returns-in-Ok-clause-extents : goal.returns-in-Ok-clause-extents
+returns-in-Ok-clause-extents g c = cancelled_extents c.in-Ok.ensures.ok.cancels

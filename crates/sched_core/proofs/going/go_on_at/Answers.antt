@@ -41,3 +41,6 @@ returns-in-Err-clause-same g c =
     let s = c.args.state.now in
     same_machine g.Q.RecordStore.queue c.args.profile.now s (record s { parts = c.turn_at.new.parts; initiators = c.turn_at.new.initiators })
     (ap (parts_of g.Q.RecordStore.queue) c.in-Err.ensures.err.0) c.in-Err.ensures.err.1 refl refl refl
+
+pub returns-in-Ok-clause-extents : goal.returns-in-Ok-clause-extents
+returns-in-Ok-clause-extents g c = c.in-Ok.ensures.ok.turns.went.extents

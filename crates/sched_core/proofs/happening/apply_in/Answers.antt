@@ -1,4 +1,4 @@
-use Rattle.std.proofs.Common.{◌<◌, ◌-◌, ◌+◌, ◌≡◌, arith, ap, subst}
+use Rattle.std.proofs.Common.{◌<◌, ◌-◌, ◌+◌, ◌≡◌, arith, ap, subst, refl}
 use Rattle.jcl_job.specs.Jobs.{job_of}
 use Rattle.machine_meaning.specs.declared.machine.TheConstants.{MOST_EVENTS}
 use Rattle.std.specs.Prelude.{Err}
@@ -10,6 +10,7 @@ use Rattle.sched_core.specs.Systems.{Machine, meant_by}
 use Rattle.sched_core.proofs.Counting.{kept_at}
 use Rattle.sched_core.proofs.Happened.{done, kept_before, kept_done, kept_refused, refuses, refuses_first}
 use Rattle.sched_core.proofs.Machined.{counted_alone, counted_back}
+use Rattle.sched_core.proofs.Followed.{same_extents}
 use Rattle.sched_core.proofs.happening.apply_in.Goals as goal
 
 pub happen-requires-clause-kept : goal.happen-requires-clause-kept
@@ -118,3 +119,16 @@ returns-in-Err-Memory-clause-memory g c =
     let counted : c.happen.new.state.events ≡ s.events + 1 = ap (λ (m : Machine). m.events) same in
     λ _. counted_back g.Q.RecordStore.queue c.args.profile.now names library s c.happen.new.state (s.events + 1) same
     (c.happen.new.state.events - 1) (omega (arith, counted))
+
+pub returns-in-Err-Refused-clause-extents : goal.returns-in-Err-Refused-clause-extents
+returns-in-Err-Refused-clause-extents g c =
+    same_extents c.args.state.now.parts.store c.happen.new.state.parts.store
+    (ap (λ (m : Machine). m.parts.store) (c.in-Err-Refused.ensures.same c.args.units.now c.args.library.now))
+
+pub returns-in-Err-Memory-clause-extents : goal.returns-in-Err-Memory-clause-extents
+returns-in-Err-Memory-clause-extents g c =
+    same_extents c.args.state.now.parts.store c.happen.new.state.parts.store
+    (ap (λ (m : Machine). m.parts.store) (c.in-Err-Memory.ensures.same c.args.units.now c.args.library.now))
+
+pub returns-then-state-ge-MOST_EVENTS-clause-extents : goal.returns-then-state-ge-MOST_EVENTS-clause-extents
+returns-then-state-ge-MOST_EVENTS-clause-extents g c = same_extents c.args.state.now.parts.store c.args.state.now.parts.store refl

@@ -1,4 +1,4 @@
-use Rattle.std.proofs.Common.{◌∙◌, sym, subst}
+use Rattle.std.proofs.Common.{◌∙◌, refl, sym, subst}
 use Rattle.jcl_job.specs.Jobs.{job_of}
 use Rattle.world_meaning.specs.Devices.{Writes}
 use Rattle.world_meaning.specs.Readings.{Reads}
@@ -8,6 +8,7 @@ use Rattle.sched_core.specs.Events.{Answers, DoesSo, RefusesFirst}
 use Rattle.sched_core.specs.Machines.{config_in, world_in}
 use Rattle.sched_core.specs.Systems.{meant_by}
 use Rattle.sched_core.proofs.Happened.{never_so, shows_never, so_answers, writes_never}
+use Rattle.sched_core.proofs.Followed.{on_ok, same_extents}
 use Rattle.sched_core.proofs.happening.happen.Goals as goal
 
 pub returns-in-Read-clause-answer : goal.returns-in-Read-clause-answer
@@ -134,3 +135,18 @@ returns-in-Display-clause-refusal g c =
     let job = job_of c.args.units.now c.args.library.now in
     let w = world_in queue_of config s in
     subst (λ e. RefusesFirst c.display.result (Does job w (meant_by e))) (sym c.in-Display.is) (never_so (Shows w) c.display.result (shows_never w))
+
+pub returns-in-Read-clause-extents : goal.returns-in-Read-clause-extents
+returns-in-Read-clause-extents g c = on_ok c.read.result (same_extents c.args.state.now.parts.store c.read.new.state.parts.store c.read.ensures.store)
+
+pub returns-in-DeviceEnd-clause-extents : goal.returns-in-DeviceEnd-clause-extents
+returns-in-DeviceEnd-clause-extents g c = on_ok c.end_device.result (same_extents c.args.state.now.parts.store c.end_device.new.state.parts.store c.end_device.ensures.store)
+
+pub returns-in-Write-clause-extents : goal.returns-in-Write-clause-extents
+returns-in-Write-clause-extents g c = on_ok c.write.result (same_extents c.args.state.now.parts.store c.write.new.state.parts.store c.write.ensures.store)
+
+pub returns-in-Zap-clause-extents : goal.returns-in-Zap-clause-extents
+returns-in-Zap-clause-extents g c = on_ok c.zap.result (same_extents c.args.state.now.parts.store c.zap.new.state.parts.store c.zap.ensures.store)
+
+pub returns-in-Display-clause-extents : goal.returns-in-Display-clause-extents
+returns-in-Display-clause-extents g c = on_ok c.display.result (same_extents c.args.state.now.parts.store c.args.state.now.parts.store refl)

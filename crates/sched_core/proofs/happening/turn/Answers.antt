@@ -4,6 +4,7 @@ use Rattle.std.proofs.lemmas.Option.{slice_get_within}
 use Rattle.sched_core.specs.Happening.{IsSeat}
 use Rattle.sched_core.specs.Machines.{config_in, world_in}
 use Rattle.sched_core.proofs.Happened.{never_refused, refused, refused_first, seat_idle, seat_runs, selects_acts, turn_answer}
+use Rattle.sched_core.proofs.Followed.{on_ok, same_extents}
 use Rattle.sched_core.proofs.happening.turn.Goals as goal
 
 pub returns-in_default-clause-answer : goal.returns-in_default-clause-answer
@@ -68,3 +69,7 @@ returns-else-is_some-clause-refusal g c =
     let s = c.args.state.now in
     let seat = subst (λ ys. IsSeat ys c.args.number c.in-Some.place) c.as_slice.ensures.value c.in-Some.ensures.some in
     never_refused g.Q.RecordStore.queue (config_in g.Q.RecordStore.queue c.args.profile.now s) s c.args.number c.in-Some.place seat c.select_at.result
+
+pub returns-else-is_some-clause-extents : goal.returns-else-is_some-clause-extents
+returns-else-is_some-clause-extents g c =
+    on_ok c.select_at.result (same_extents c.args.state.now.parts.store c.select_at.new.state.parts.store c.select_at.ensures.store)

@@ -10,8 +10,8 @@ loop-done-preserved c =
     let done = c.loop-done.invariant in
     record {
       applied = AreApplied-more _ c.loop-done.system _ c.args.event.now c.loop-done.done _ c.loop-done.listing.text.kept _ done.applied
-          c.run_event.ensures.fixed c.in_ok-run_event.ensures.ok;
-      fixed = IsSameFixed-twice _ _ _ done.fixed c.run_event.ensures.fixed;
+          c.run_event.ensures.next c.in_ok-run_event.ensures.ok;
+      fixed = IsSameFixed-twice _ _ _ done.fixed c.run_event.ensures.next.fixed;
       marks = c.run_event.ensures.marks ∙ done.marks;
     }
 

@@ -1,9 +1,9 @@
 use Rattle.std.proofs.Common.{◌≡◌, Err, subst}
 use Rattle.world_meaning.specs.Transitions.{Transition}
 use Rattle.sched_core.specs.Events.{RefusesFirst}
-use Rattle.sched_core.specs.Systems.{Applies, KeepsIfRefused, Steps, denoting, machine_in, meant_by, world_of}
+use Rattle.sched_core.specs.Systems.{Applies, IsNext, KeepsIfRefused, Steps, denoting, machine_in, meant_by, world_of}
 use Rattle.sched_core.specs.declared.fault.ApplyFault.TheVariants.{Memory}
-use Rattle.sched_core.proofs.Machined.{applied}
+use Rattle.sched_core.proofs.Machined.{applied, next_machine}
 use Rattle.sched_core.proofs.system.System.apply.Goals as goal
 
 pub returns-clause-answer : goal.returns-clause-answer
@@ -33,3 +33,11 @@ returns-clause-memory g c =
     let x = c.self.inside in
     subst (λ m. c.apply_in.result ≡ Err Memory → machine_in g.Q.RecordStore.queue x.profile x.units.now x.library.now c.apply_in.new.state ≡ m) c.self.view_is
     c.apply_in.ensures.memory
+
+pub returns-clause-next : goal.returns-clause-next
+returns-clause-next g c =
+    let queue_of = g.Q.RecordStore.queue in
+    let x = c.self.inside in
+    let new = c.apply_in.new.state in
+    subst (λ m. IsNext m (machine_in queue_of x.profile x.units.now x.library.now new)) c.self.view_is
+    (next_machine queue_of x.profile x.units.now x.library.now x.state new c.apply_in.ensures.kept.fit.good.layout c.apply_in.ensures.extents)

@@ -2,6 +2,7 @@ use Rattle.std.proofs.Common.{◌≡◌, ◌∷◌, [], sym, subst}
 use Rattle.std.specs.Prelude.{Err}
 use Rattle.jcl_plan.specs.declared.entry.Entry.TheVariants as entry
 use Rattle.sched_core.specs.Systems.{Applies, Steps, world_of}
+use Rattle.sched_core.proofs.Driving.{IsNext-none}
 use Rattle.sched_core.proofs.system.System.apply_shown.Goals as goal
 
 pub returns-in-Err-Refused-clause-step : goal.returns-in-Err-Refused-clause-step
@@ -15,3 +16,6 @@ returns-in-Err-Refused-clause-step g c =
     let shown = c.new.ensures in
     let is : c.new.result ≡ entry.Refused c.in-Err-Refused.cause ∷ [] = cc in
     subst (λ lines. Steps old e lines (world_of new)) (sym is) step
+
+pub returns-in_err-line-clause-next : goal.returns-in_err-line-clause-next
+returns-in_err-line-clause-next g c = IsNext-none c.args.self.now

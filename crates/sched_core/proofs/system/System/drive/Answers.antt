@@ -17,7 +17,7 @@ loop-event-preserved g c =
       ap (λ n. n + 1) same,
       subst (λ ys. DrivenTo c.args.self.now events ys (c.loop-event.done + 1) c.apply_shown.new.self) (sym grown)
           (driven_more c.args.self.now c.loop-event.self c.apply_shown.new.self events entries c.loop-event.done e lines c.loop-event.invariant.1 less is
-          c.in-Ok-apply_shown.ensures.step c.apply_shown.ensures.fixed),
+          c.in-Ok-apply_shown.ensures.step c.apply_shown.ensures.next),
     )
 
 pub returns-in_default-clause-done : goal.returns-in_default-clause-done

@@ -18,12 +18,12 @@ returns-clause-ok c =
     let made : DataSet = new_set_of c.args.tracks c.args.expires in
     let same : set ≡ made = λ i. record { tracks = c.from.ensures i; expires = c.args.expires; records = c.empty.ensures i } in
     let Told : Result (Unit {0}) RoomFault → Type 0 = λ r.
-    OnOk r ((store_of (listed new entries) ≡ with_set (store_of c.args.self.now) key serial (Some made)) × (tt {0} ≡ tt {0}) × (true ≡ true)) in
+    OnOk r ((store_of (listed new entries) ≡ with_set (store_of c.args.self.now) key serial (Some made)) × Unit {0} × (true ≡ true)) in
     elim c.match-put_set.branch [
       | in-Ok w ↦ subst Told (sym w.result-is) (
         seen_written sets new entries key serial (Some set) w.in-Ok.ensures.ok
             ∙ (λ i. with_set (store_of (c.self.view_is i)) key serial (Some (same i))),
-        refl,
+        tt,
         refl,
       )
       | in-Err w ↦ subst Told (sym w.result-is) tt

@@ -1,9 +1,11 @@
-use Rattle.std.proofs.Common.{◌≡◌, true, ap, subst}
+use Rattle.std.proofs.Common.{◌≡◌, true, subst}
+use Rattle.std.specs.Option.{option_map}
 use Rattle.jcl_meaning.specs.Programs.{grown_by}
+use Rattle.shared_core.specs.Giving.{none_taken, nothing_given}
 use Rattle.shared_core.specs.Rooms.{holds_more, others_of}
-use Rattle.shared_core.specs.Shown.{mounted_in}
-use Rattle.shared_core.proofs.Entries.{either_way, err_by, ok_by}
-use Rattle.shared_core.proofs.SeenSets.{others_changed, seen_changed, with_volumes}
+use Rattle.shared_core.specs.Shown.{mounted_in, set_on}
+use Rattle.shared_core.proofs.Entries.{ok_both, ok_by}
+use Rattle.shared_core.proofs.SeenSets.{others_grown, seen_changed}
 use Rattle.shared_core.proofs.store.SharedStoreJobStore.grow.Goals as goal
 
 pub returns-in-Some-clause-ok : goal.returns-in-Some-clause-ok
@@ -16,7 +18,10 @@ returns-in-Some-clause-ok c =
 
 pub returns-in-Some-clause-rest : goal.returns-in-Some-clause-rest
 returns-in-Some-clause-rest c =
-    either_way c.grow_set.result
-    (ok_by c.grow_set.result (λ w. others_changed c.args.job c.args.self.now c.grow_set.new.volumes c.args.key.now c.in-Some.key c.args.serial c.in-Some.ensures (grown_by c.args.tracks) w.0)
-    c.grow_set.ensures.ok)
-    (err_by c.grow_set.result (λ e. ap (λ l. others_of c.args.job (with_volumes c.args.self.now l)) e) c.grow_set.ensures.err)
+    ok_both c.grow_set.result (λ w take.
+    others_grown c.args.job c.args.self.now c.grow_set.new.volumes c.args.key.now c.in-Some.key c.args.serial c.in-Some.ensures
+    (option_map (grown_by c.args.tracks) (set_on (mounted_in c.args.self.now.volumes c.args.serial) c.in-Some.key)) w.0.0 w.0.1 take)
+    c.grow_set.ensures.ok c.grow_set.ensures.extents
+
+pub returns-in-None-clause-rest : goal.returns-in-None-clause-rest
+returns-in-None-clause-rest c = none_taken c.args.job _ _ (nothing_given (others_of c.args.job c.args.self.now))
