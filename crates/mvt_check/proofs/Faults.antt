@@ -1,17 +1,29 @@
 -- A session that is stopped has a fault.
-use Rattle.std.proofs.Common.{◌≡◌, ℕ, [], Err, Some, true, ap, subst}
-use Rattle.std.specs.Prelude.{is_some}
-use Rattle.session_text.specs.declared.fault.Fault.{Fault}
+use Rattle.std.proofs.Common.{List, [], sym, ap, ◌∙◌, inl}
+use Rattle.std.specs.Prelude.{IfOk, Result, Ok, Err, is_some}
+use Rattle.session_text.specs.declared.statement.Statement.{Statement}
 use Rattle.session_core.specs.Outcomes.{IsOutcome}
-use Rattle.session_core.specs.Sessions.{Session}
+use Rattle.session_core.specs.Sessions.{session_behind}
 use Rattle.session_core.specs.declared.Options.{Options}
 use Rattle.session_core.specs.declared.SessionEnd.{SessionEnd}
 use Rattle.session_core.specs.declared.SessionFault.{SessionFault}
-use Rattle.session_core.specs.declared.SessionFault.TheVariants.{Stopped}
+use Rattle.session_core.specs.declared.SessionFault.TheVariants.{Memory, Stopped, WriteFailed}
+use Rattle.mvt_check.specs.Checking.{IsFound, TellsStop, fault_text}
+use Rattle.mvt_check.specs.declared.session.Found.{Found}
 
-pub has_fault : (o : Options) (s : Session) (told : SessionFault) (fault : Fault) (line : ℕ) → told ≡ Stopped fault line →
-    IsOutcome {T = SessionEnd} o s (Err told) [] → is_some s.fault ≡ true
-has_fault o s told fault line same h = ap is_some (stopped (subst (λ x. IsOutcome {T = SessionEnd} o s (Err x) []) same h))
-  where
-    stopped : IsOutcome {T = SessionEnd} o s (Err (Stopped fault line)) [] → s.fault ≡ Some (fault, line)
-    stopped outcome = outcome.0
+module _ (o : Options) (statements : List Statement) where
+  stop_found : (why : SessionFault) (found : Found) → IsOutcome {T = SessionEnd} o (session_behind [] statements) (Err why) [] → TellsStop why found →
+      IsFound o statements found
+  stop_found (Stopped fault line) found outcome told = inl (record {
+    fault = ap is_some outcome.0;
+    text = told.0 ∙ ap fault_text (sym outcome.0);
+    refused = told.1;
+    calm = told.2;
+  })
+  stop_found (WriteFailed line) found outcome told = absurd told
+  stop_found Memory found outcome told = absurd told
+
+  pub stops_found : {E : Type 0} (why : SessionFault) (r : Result Found E) → IsOutcome {T = SessionEnd} o (session_behind [] statements) (Err why) [] →
+      IfOk r (TellsStop why) → IfOk r (IsFound o statements)
+  stops_found why (Ok found) outcome told = stop_found why found outcome told
+  stops_found why (Err error) outcome told = tt

@@ -1,2 +1,3 @@
 pub mod Adding
 pub mod Faults
+pub mod Later

@@ -25,6 +25,8 @@ use Rattle.session_core.specs.Opening.{IsOpened}
 use Rattle.session_core.specs.Sessions.{session_behind}
 use Rattle.session_core.specs.Streams.{IsRead, SinkState, SourceState}
 use Rattle.session_core.specs.declared.Options.{Options}
+use Rattle.session_core.specs.declared.SessionFault.{SessionFault}
+use Rattle.session_core.specs.declared.SessionFault.TheVariants.{Memory, Stopped, WriteFailed}
 use Rattle.session_core.specs.declared.open.Opened.{Opened}
 use Rattle.mvt_check.specs.declared.session.Found.{Found}
 
@@ -78,6 +80,25 @@ fault_text (Some (fault, line)) =
 abbrev pub fault_of : List Statement → Option (Fault × ℕ)
 fault_of statements = (session_behind [] statements).fault
 
+-- that of a statement behind the first event, where this is told of all configuration
+abbrev pub fault_by : Option Fault → ℕ → Says → Option (Fault × ℕ)
+fault_by late line (says.Events event times) = None
+fault_by late line (says.Refused fault) = Some (fault, line)
+fault_by None line (says.Config s has_end) = None
+fault_by (Some fault) line (says.Config s has_end) = Some (fault, line)
+
+abbrev pub fault_at : Option Fault → Statement → Option (Fault × ℕ)
+fault_at late s = fault_by late s.line s.says
+
+abbrev pub or_later : Option (Fault × ℕ) → Option (Fault × ℕ) → Option (Fault × ℕ)
+or_later (Some fault) later = Some fault
+or_later None later = later
+
+-- the first of them
+abbrev pub later_fault : Option Fault → List Statement → Option (Fault × ℕ)
+later_fault late [] = None
+later_fault late (s ∷ statements) = or_later (fault_at late s) (later_fault late statements)
+
 -- a job may fail, or has too many paths
 abbrev pub is_risk_answer : Option Answer → Bool
 is_risk_answer None = false
@@ -95,6 +116,13 @@ pub record IsUnopened (statements : List Statement) (found : Found) : Type 0 whe
   pub text : found.text.items ≡ fault_text (fault_of statements)
   pub refused : found.refused ≡ true
   pub calm : found.at_risk ≡ false
+
+-- what is found of a session that stops at a fault before its first event; of one for which memory is wanting nothing is
+abbrev pub TellsStop : SessionFault → Found → Type 0
+TellsStop (Stopped fault line) found =
+    (found.text.items ≡ fault_text (Some (fault, line))) × (found.refused ≡ true) × (found.at_risk ≡ false)
+TellsStop (WriteFailed line) found = ⊥
+TellsStop Memory found = ⊥
 
 -- the decks are looked at with the units and procedures that the session configures
 pub record IsLookedAt (o : Options) (statements : List Statement) (found : Found) : Type 0 where

@@ -1,11 +1,12 @@
 //! All decks of a session, looked at.
-ghost use Rattle.std.specs.Prelude.{◌≡◌, ◌++◌, ◌||◌, ℕ, List, IfOk, OnOk, Some, decimal, false, is_err, is_some};
+ghost use Rattle.std.specs.Prelude.{◌≡◌, ◌++◌, ◌||◌, ℕ, List, IfOk, OnOk, Some, decimal, false, is_err, is_some, true};
 ghost use Rattle.std.specs.List.{list_any};
 ghost use Rattle.check_core.specs.Reports.{AreTold};
 ghost use Rattle.config_core.specs.Configs.{unit_names};
 ghost use Rattle.jcl_job.specs.Jobs.{job_of};
 ghost use Rattle.proc_library.specs.declared.library.LibraryProcedure.{LibraryProcedure};
-ghost use Rattle.mvt_check.specs.Checking.{AddsAll, AddsDeck, AddsEvent, AddsSaid, IsFound, fault_of, fault_text, is_refused, is_refused_event, is_risk, some_refused};
+ghost use Rattle.session_core.specs.Opening.{IsOpened};
+ghost use Rattle.mvt_check.specs.Checking.{AddsAll, AddsDeck, AddsEvent, AddsSaid, IsFound, TellsStop, fault_at, fault_of, fault_text, is_refused, is_refused_event, is_risk, some_refused};
 
 use answer_core::answer::{Answer, Answered};
 use answer_core::session::answers_of;
@@ -23,13 +24,10 @@ use jcl_plan::plan::JobPlan;
 use plain::lent::Lent;
 use plain::text::Text;
 use session_core::open::{Opened, open};
-use session_core::run::run;
-use session_core::stream::Sink;
-use session_core::{Options, SessionEnd, SessionFault};
+use session_core::{Options, SessionFault};
 use session_text::fault::Fault;
 use session_text::statement::{Says, Statement};
 use std::alloc::{AllocError, Global};
-use std::io;
 
 /// What is found of a session, as text, whether a deck is refused or the session has a fault, and whether a job may fail.
 #[derive(Drop)]
@@ -60,30 +58,74 @@ fn fault_line(alloc: Global, fault: Fault, line: usize) -> Result<Vec<u8>, Alloc
     Ok(text)
 }
 
-/// Runs a session, and writes its fault, if it has one.
-fn own_fault(
-    alloc: Global,
-    statements: &[Statement<'_>],
-    options: Options,
-) -> Result<Found, AllocError>
-    ensures text { IfOk result (λ found. found.text.items ≡ fault_text (fault_of statements.now)) }
-    ensures refused { IfOk result (λ found. found.refused ≡ is_some (fault_of statements.now)) }
+/// The fault of a statement behind the first event, with its line; of all configuration there the same is told.
+fn fault_at(late: Option<Fault>, statement: &Statement<'_>) -> Option<(Fault, usize)>
+    ensures { result ≡ fault_at late statement.now }
+{
+    match &statement.says {
+        Says::Events(_, _) => None,
+        Says::Refused(fault) => Some((*fault, statement.line)),
+        Says::Config { .. } => match late {
+            Some(fault) => Some((fault, statement.line)),
+            None => None,
+        },
+    }
+}
+
+/// The fault of a session that is opened, with its line: its configuration has none.
+fn later_fault(opened: &Opened, statements: &[Statement<'_>]) -> Option<(Fault, usize)>
+    requires { IsOpened statements.now opened.now }
+    ensures { result ≡ fault_of statements.now }
+{
+    let (_, behind) = statements.split_at(opened.from);
+    for statement in behind {
+        if let Some(fault) = fault_at(opened.late, statement) {
+            return Some(fault);
+        }
+    }
+    None
+}
+
+/// What is found of a session that has this fault.
+fn found_stopped(alloc: Global, fault: Fault, line: usize) -> Result<Found, AllocError>
+    ensures text { IfOk result (λ found. found.text.items ≡ fault_text (Some (fault, line))) }
+    ensures refused { IfOk result (λ found. found.refused ≡ true) }
     ensures calm { IfOk result (λ found. found.at_risk ≡ false) }
 {
-    let mut nothing = io::sink();
-    let mut sink = Sink::new(&mut nothing);
-    match run(alloc, statements, options, &mut sink) {
-        Ok(SessionEnd) => Ok(Found {
+    Ok(Found {
+        text: fault_line(alloc, fault, line)?,
+        refused: true,
+        at_risk: false,
+    })
+}
+
+/// What is found of a session that is not opened, by the fault at which it stops.
+fn found_unopened(alloc: Global, why: SessionFault) -> Result<Found, AllocError>
+    ensures { IfOk result (TellsStop why) }
+{
+    match why {
+        SessionFault::Stopped(fault, line) => found_stopped(alloc, fault, line),
+        SessionFault::WriteFailed(_) => Err(AllocError),
+        SessionFault::Memory => Err(AllocError),
+    }
+}
+
+/// What is found of a session by its own fault, if it has one.
+fn found_by(alloc: Global, fault: Option<(Fault, usize)>) -> Result<Found, AllocError>
+    ensures text { IfOk result (λ found. found.text.items ≡ fault_text fault) }
+    ensures refused { IfOk result (λ found. found.refused ≡ is_some fault) }
+    ensures calm { IfOk result (λ found. found.at_risk ≡ false) }
+{
+    match fault {
+        None => Ok(Found {
             text: Vec::new(alloc),
             refused: false,
             at_risk: false,
         }),
-        Err(SessionFault::Stopped(fault, line)) => Ok(Found {
-            text: fault_line(alloc, fault, line)?,
-            refused: true,
-            at_risk: false,
-        }),
-        Err(SessionFault::WriteFailed(_) | SessionFault::Memory) => Err(AllocError),
+        Some((fault, line)) => {
+            let found = found_stopped(alloc, fault, line)?;
+            Ok(found)
+        }
     }
 }
 
@@ -347,15 +389,14 @@ pub(crate) fn check_session(
 ) -> Result<Found, AllocError>
     ensures { IfOk result (IsFound options statements.now) }
 {
-    let mut found = own_fault(alloc, statements, options)?;
     match open(alloc, statements) {
         Ok(opened) => {
+            let mut found = found_by(alloc, later_fault(&opened, statements))?;
             let answers = answers_of(alloc, statements, options)?;
             let answers = answers.as_slice();
             check_opened(alloc, &opened.fixed, answers, statements, &mut found)?;
             Ok(found)
         }
-        Err(SessionFault::Stopped(_, _)) => Ok(found),
-        Err(_) => Err(AllocError),
+        Err(why) => found_unopened(alloc, why),
     }
 }
