@@ -1,0 +1,6 @@
+//! A job as its actions read it: by numbers and by value, wherever it stands. (This profile)
+#![tactic(auto)]
+
+pub mod planned;
+pub mod text;
+pub mod texts;

@@ -1,0 +1,60 @@
+//! A job that stands in memory as its plan.
+ghost use Rattle.std.specs.Prelude.{◌≡◌, ◌<◌, length};
+ghost use Rattle.job_text.specs.Places.{card_at};
+ghost use Rattle.job_text.specs.Texts.{cards_in};
+
+use crate::text::JobText;
+use crate::texts::{KindText, StepText, kind_text, step_text};
+use jcl_plan::plan::{DdKind, JobPlan, Record, Test};
+use jname_core::name8::Name8;
+
+/// A card of a DD.
+fn card_of(kind: &DdKind, card: usize) -> Record
+    requires { card < length (cards_in kind.now) }
+    ensures { result ≡ card_at (cards_in kind.now) card }
+{
+    match kind {
+        DdKind::Cards(cards) => cards.as_slice()[card],
+        DdKind::Sysout(_) => unreachable!(),
+        DdKind::Dummy => unreachable!(),
+        DdKind::Set(_) => unreachable!(),
+    }
+}
+
+impl JobText for JobPlan {
+    ghost plan = { λ p. p };
+
+    ghost reads = { λ _. Unit {0} };
+
+    fn step_count(&self) -> usize {
+        self.steps.len()
+    }
+
+    fn step(&self, step: usize) -> StepText {
+        step_text(&self.steps.as_slice()[step])
+    }
+
+    fn test_count(&self, step: usize) -> usize {
+        self.steps.as_slice()[step].tests.len()
+    }
+
+    fn test(&self, step: usize, test: usize) -> Test {
+        self.steps.as_slice()[step].tests.as_slice()[test]
+    }
+
+    fn dd_count(&self, step: usize) -> usize {
+        self.steps.as_slice()[step].dds.len()
+    }
+
+    fn dd_name(&self, step: usize, dd: usize) -> Option<Name8> {
+        self.steps.as_slice()[step].dds.as_slice()[dd].name
+    }
+
+    fn kind(&self, step: usize, dd: usize) -> KindText {
+        kind_text(&self.steps.as_slice()[step].dds.as_slice()[dd].kind)
+    }
+
+    fn card(&self, step: usize, dd: usize, card: usize) -> Record {
+        card_of(&self.steps.as_slice()[step].dds.as_slice()[dd].kind, card)
+    }
+}

@@ -1,0 +1,70 @@
+//! A job as its actions read it.
+ghost use Rattle.std.specs.Prelude.{◌≡◌, ◌<◌, length};
+ghost use Rattle.jcl_plan.specs.declared.plan.JobPlan.{JobPlan};
+ghost use Rattle.job_text.specs.Places.{card_at, dd_at, step_at, test_at};
+ghost use Rattle.job_text.specs.Texts.{cards_in, kind_text, step_text};
+
+use crate::texts::{KindText, StepText};
+use jcl_plan::plan::{Record, Test};
+use jname_core::name8::Name8;
+
+/// A job, wherever it stands. It is asked by numbers, and answers by value. Steps, tests, DDs and cards count from 0.
+pub trait JobText {
+    /// The job.
+    ghost plan: { Self → JobPlan };
+
+    /// It can be read.
+    ghost reads: { Self → Type 0 };
+
+    /// How many steps it has.
+    fn step_count(&self) -> usize
+        requires { reads self.now }
+        ensures { result ≡ length (plan self.now).steps };
+
+    /// A step, but for its tests and its DDs.
+    fn step(&self, step: usize) -> StepText
+        requires reads { reads self.now }
+        requires step { step < length (plan self.now).steps }
+        ensures { result ≡ step_text (step_at (plan self.now).steps step) };
+
+    /// How many tests a step has.
+    fn test_count(&self, step: usize) -> usize
+        requires reads { reads self.now }
+        requires step { step < length (plan self.now).steps }
+        ensures { result ≡ length (step_at (plan self.now).steps step).tests.items };
+
+    /// A test of a step.
+    fn test(&self, step: usize, test: usize) -> Test
+        requires reads { reads self.now }
+        requires step { step < length (plan self.now).steps }
+        requires test { test < length (step_at (plan self.now).steps step).tests.items }
+        ensures { result ≡ test_at (step_at (plan self.now).steps step).tests.items test };
+
+    /// How many DDs a step has.
+    fn dd_count(&self, step: usize) -> usize
+        requires reads { reads self.now }
+        requires step { step < length (plan self.now).steps }
+        ensures { result ≡ length (step_at (plan self.now).steps step).dds };
+
+    /// The name of a DD, if it has one.
+    fn dd_name(&self, step: usize, dd: usize) -> Option<Name8>
+        requires reads { reads self.now }
+        requires step { step < length (plan self.now).steps }
+        requires dd { dd < length (step_at (plan self.now).steps step).dds }
+        ensures { result ≡ (dd_at (step_at (plan self.now).steps step).dds dd).name };
+
+    /// What a DD is.
+    fn kind(&self, step: usize, dd: usize) -> KindText
+        requires reads { reads self.now }
+        requires step { step < length (plan self.now).steps }
+        requires dd { dd < length (step_at (plan self.now).steps step).dds }
+        ensures { result ≡ kind_text (dd_at (step_at (plan self.now).steps step).dds dd).kind };
+
+    /// A card of a DD.
+    fn card(&self, step: usize, dd: usize, card: usize) -> Record
+        requires reads { reads self.now }
+        requires step { step < length (plan self.now).steps }
+        requires dd { dd < length (step_at (plan self.now).steps step).dds }
+        requires card { card < length (cards_in (dd_at (step_at (plan self.now).steps step).dds dd).kind) }
+        ensures { result ≡ card_at (cards_in (dd_at (step_at (plan self.now).steps step).dds dd).kind) card };
+}
