@@ -2,10 +2,12 @@
 //! this profile's)
 ghost use Rattle.std.specs.Prelude.{◌≡◌, ◌<◌, ◌==◌, ◌&&◌, ◌∷◌, ◌++◌, [], IfNone, IfOk, IfSome, None, OnErr, OnOk, Some, length, remove, slice_get};
 ghost use Rattle.jcl_plan.specs.declared.entry.JobLine.TheVariants as line;
+ghost use Rattle.jcl_plan.specs.declared.plan.DdKind.{DdKind};
 ghost use Rattle.jcl_plan.specs.declared.words.DispWord.TheVariants as disp;
 ghost use Rattle.jcl_meaning.specs.Dispositions.{changed};
 ghost use Rattle.jcl_meaning.specs.EndActs.{after_abend, disposes_at, leaves, left_at, left_disposed, passed_by, passed_with, tracks_released, set_disposed, set_disposes, without_pass};
 ghost use Rattle.jcl_meaning.specs.Takes.{releases};
+ghost use Rattle.job_text.specs.Texts.{kind_text};
 ghost use Rattle.disp_core.specs.Acting.{Acts, Meets, at_site, course_put_out, disposition, word_in};
 
 use crate::change::{change, disposed_by};
@@ -19,8 +21,9 @@ use jcl_plan::day::Day;
 use jcl_plan::entry::JobLine;
 use jcl_plan::fault::Fault;
 use jcl_plan::outcome::Outcome;
-use jcl_plan::plan::{DdKind, Record, SetPlan, Space, Word};
+use jcl_plan::plan::{Record, SetPlan, Space, Word};
 use jcl_plan::words::DispWord;
+use job_text::texts::KindText;
 use plain::listed::Listed;
 use std::alloc::AllocError;
 use store_core::disposition::{as_taken, fault_in, left_word};
@@ -245,17 +248,17 @@ fn dispose_at<S: JobStore>(
     given: &Given,
     course: &mut Course,
     at: &Site,
-    kind: &DdKind,
+    kind: &KindText,
     x: DdState,
 ) -> Result<Option<Fault>, AllocError>
-    ensures { Acts S.JobStore at.now.job (Meets (at_site disposes_at given.now at.now kind.now x))
-        result store.old course.old store.new course.new }
+    ensures { (dd : DdKind) → kind_text dd ≡ kind.now →
+        Acts S.JobStore at.now.job (Meets (at_site disposes_at given.now at.now dd x)) result store.old course.old store.new course.new }
 {
     match kind {
-        DdKind::Sysout(class) => put_out(course, at, *class, x.spooled),
-        DdKind::Dummy => say_nothing(course, at),
-        DdKind::Cards(_) => say_nothing(course, at),
-        DdKind::Set(p) => dispose_taken(store, given, course, at, p, &x.taken),
+        KindText::Sysout(class) => put_out(course, at, *class, x.spooled),
+        KindText::Dummy => say_nothing(course, at),
+        KindText::Cards(_) => say_nothing(course, at),
+        KindText::Set(p) => dispose_taken(store, given, course, at, p, &x.taken),
     }
 }
 
@@ -265,10 +268,11 @@ pub fn dispose<S: JobStore>(
     given: &Given,
     course: &mut Course,
     at: &Site,
-    kind: &DdKind,
+    kind: &KindText,
 ) -> Result<Option<Fault>, AllocError>
     requires { 0 < at.now.dd }
-    ensures { Acts S.JobStore at.now.job (Meets (disposition given.now at.now kind.now)) result store.old course.old store.new course.new }
+    ensures { (dd : DdKind) → kind_text dd ≡ kind.now →
+        Acts S.JobStore at.now.job (Meets (disposition given.now at.now dd)) result store.old course.old store.new course.new }
 {
     if !course.own.runs {
         return Ok(None);
@@ -367,11 +371,12 @@ pub fn leave<S: JobStore>(
     given: &Given,
     course: &mut Course,
     at: &Site,
-    kind: &DdKind,
+    kind: &KindText,
 ) -> Result<Option<Fault>, AllocError>
-    ensures { Acts S.JobStore at.now.job (Meets (at_site left_at given.now at.now kind.now)) result store.old course.old store.new course.new }
+    ensures { (dd : DdKind) → kind_text dd ≡ kind.now →
+        Acts S.JobStore at.now.job (Meets (at_site left_at given.now at.now dd)) result store.old course.old store.new course.new }
 {
-    let DdKind::Set(p) = kind else {
+    let KindText::Set(p) = kind else {
         return Ok(None);
     };
     let passed = passed_by(course.own.passed.as_slice(), at.step, at.dd);

@@ -1,19 +1,21 @@
 //! The start of a step, its end, and the job's end. (GC28-6704, COND parameter)
-ghost use Rattle.std.specs.Prelude.{◌≡◌, ◌∷◌, [], OnErr, OnOk};
+ghost use Rattle.std.specs.Prelude.{◌≡◌, ◌-◌, ◌<◌, ◌∷◌, [], OnErr, OnOk, length};
 ghost use Rattle.jcl_plan.specs.declared.entry.JobLine.TheVariants as line;
 ghost use Rattle.jcl_meaning.specs.EndActs.{end_line, finished};
+ghost use Rattle.jcl_meaning.specs.History.{some_satisfied};
 ghost use Rattle.jcl_meaning.specs.States.{at_step, goes};
 ghost use Rattle.jcl_meaning.specs.TakeActs.{started};
+ghost use Rattle.job_text.specs.Places.{IsStep, step_at};
 ghost use Rattle.disp_core.specs.Acting.{ActsAside};
 ghost use Rattle.disp_core.specs.Courses.{CarriedAside, CarriedEnd, course_ended_by, fixed_by, own_ended};
 
 use crate::course::{Course, Given};
 use jcl_meaning::ending::{as_ending, end_line, marked_later};
-use jcl_meaning::history::{abended, fate, is_abend, is_run, some_satisfied};
+use jcl_meaning::history::{abended, fate, is_abend, is_run, satisfied, some_satisfied};
 use jcl_meaning::state::{Ended, Own};
 use jcl_plan::entry::JobLine;
 use jcl_plan::outcome::{Abend, Outcome};
-use jcl_plan::plan::StepPlan;
+use job_text::text::JobText;
 use std::alloc::{AllocError, Global};
 
 /// A step begins, or is passed over.
@@ -27,22 +29,39 @@ fn enter_step(own: &mut Own, runs: bool)
     own.lines = 0;
 }
 
-/// The start of a step. An `Err` changes nothing.
-pub fn begin(
+/// Whether a test of a step, from 0, is met by a step that ended.
+fn is_met<T: JobText>(text: &T, step: usize, ended: &[Ended]) -> bool
+    requires reads { T.reads text.now }
+    requires step { step < length (T.plan text.now).steps }
+    ensures { result ≡ some_satisfied ended.now (step_at (T.plan text.now).steps step).tests.items }
+{
+    for test in 0..text.test_count(step) {
+        if satisfied(ended, &text.test(step, test)) {
+            return true;
+        }
+    }
+    false
+}
+
+/// The start of the n-th step. An `Err` changes nothing.
+pub fn begin<T: JobText>(
+    text: &T,
     given: &Given,
     course: &mut Course,
     n: usize,
-    step: &StepPlan,
 ) -> Result<(), AllocError>
-    ensures { ActsAside (CarriedAside (started (fixed_by given.now) n step.now)) result course.old course.new }
+    requires reads { T.reads text.now }
+    requires step { IsStep (T.plan text.now).steps n }
+    ensures { ActsAside (CarriedAside (started (fixed_by given.now) n (step_at (T.plan text.now).steps (n - 1)))) result course.old course.new }
 {
+    let step = text.step(n - 1);
     let ended = course.own.ended.as_slice();
     let fate = fate(
         course.own.faulted,
         some_satisfied(ended, given.job_tests),
         step.after_abend,
         abended(ended),
-        some_satisfied(ended, step.tests.as_slice()),
+        is_met(text, n - 1, ended),
     );
     course.say(JobLine::Step {
         step: n,

@@ -1,6 +1,7 @@
 //! The taking of a DD. (GC28-6704, DISP parameter)
 ghost use Rattle.std.specs.Prelude.{◌≡◌, ◌<◌, Err, IfNone, IfOk, IfSome, None, OnErr, OnOk, Some, false, is_some, length, remove, true};
 ghost use Rattle.jcl_plan.specs.declared.entry.JobLine.{JobLine};
+ghost use Rattle.jcl_plan.specs.declared.plan.DdKind.{DdKind};
 ghost use Rattle.jcl_meaning.specs.Resolutions.{place_of};
 ghost use Rattle.jcl_meaning.specs.TakeActs.{new_dd, passed_left, refused, take_word};
 ghost use Rattle.jcl_meaning.specs.Takes.{is_there, primary_of, where_of, without_passed};
@@ -12,6 +13,7 @@ ghost use Rattle.disp_core.specs.Takings.{decision_in, target_in};
 ghost use Rattle.disp_core.specs.declared.course.Course.{Course};
 ghost use Rattle.jcl_meaning.specs.declared.state.DdState.{DdState};
 ghost use Rattle.jcl_meaning.specs.declared.state.DdVolume.{DdVolume};
+ghost use Rattle.job_text.specs.Texts.{kind_text};
 
 use crate::change::{catalogued, is_on};
 use crate::course::{Course, Given, drop_last};
@@ -22,11 +24,12 @@ use jcl_meaning::state::{DdState, DdVolume, Own, Passed, Place, Resolution, Take
 use jcl_meaning::take::{Decision, How, Target, Where};
 use jcl_plan::entry::JobLine;
 use jcl_plan::fault::Fault;
-use jcl_plan::plan::{DdKind, SetPlan, Space, VolumePlan};
+use jcl_plan::plan::{SetPlan, Space, VolumePlan};
 use jcl_plan::words::TakeWord;
 use jname_core::key::Key;
 use jname_core::name8::Name8;
 use jname_core::serial::Serial;
+use job_text::texts::KindText;
 use plain::listed::Listed;
 use std::alloc::{AllocError, Global};
 use store_core::job_store::{JobStore, RoomFault};
@@ -455,10 +458,10 @@ pub fn take<S: JobStore>(
     given: &Given,
     course: &mut Course,
     at: &Site,
-    kind: &DdKind,
+    kind: &KindText,
 ) -> Result<Taken, AllocError>
-    ensures { Makes S.JobStore at.now.job (Took (S.grants_new at.now.job store.old) given.now at.now kind.now)
-        result store.old course.old store.new course.new }
+    ensures { (dd : DdKind) → kind_text dd ≡ kind.now →
+        Makes S.JobStore at.now.job (Took (S.grants_new at.now.job store.old) given.now at.now dd) result store.old course.old store.new course.new }
 {
     if !course.own.runs {
         return Ok(Taken {
@@ -467,9 +470,9 @@ pub fn take<S: JobStore>(
         });
     }
     match kind {
-        DdKind::Sysout(class) => take_no_set(alloc, course, at, TakeWord::Sysout(*class)),
-        DdKind::Dummy => take_no_set(alloc, course, at, TakeWord::Dummy),
-        DdKind::Cards(cards) => take_no_set(alloc, course, at, TakeWord::Cards(cards.len())),
-        DdKind::Set(p) => take_set(alloc, store, given, course, at, p),
+        KindText::Sysout(class) => take_no_set(alloc, course, at, TakeWord::Sysout(*class)),
+        KindText::Dummy => take_no_set(alloc, course, at, TakeWord::Dummy),
+        KindText::Cards(count) => take_no_set(alloc, course, at, TakeWord::Cards(*count)),
+        KindText::Set(p) => take_set(alloc, store, given, course, at, p),
     }
 }

@@ -11,6 +11,7 @@ use Rattle.cb_queue.specs.RecordQueues.{RecordQueue}
 use Rattle.prog_core.specs.declared.units.Operation.{Operation}
 use Rattle.prog_core.specs.Operations.{IsRoomFor, OneEach, is_owner, without_owner}
 use Rattle.jcl_meaning.specs.Names.{names_of}
+use Rattle.jcl_meaning.specs.States.{Fixed}
 use Rattle.machine_meaning.specs.Spools.{sets_of, with_sets}
 use Rattle.world_meaning.specs.Choices.{choice_of_advance}
 use Rattle.world_meaning.specs.Holdings.{cancels_without, released}
@@ -36,7 +37,7 @@ use Rattle.turn_core.specs.declared.walk.Turned.{Turned}
 use Rattle.turn_core.specs.declared.walk.Walk.{Walk}
 use Rattle.disp_core.specs.Grants.{made_of}
 use Rattle.grant_laws.specs.Granted.{GrantedTurns, GrantsAll, with_primaries}
-use Rattle.admit_core.specs.Admissions.{is_assured, named_of}
+use Rattle.admit_core.specs.Admissions.{fixed_for, given_to, is_assured, named_of}
 use Rattle.admit_core.specs.declared.admission.AdmittedJob.{AdmittedJob}
 use Rattle.job_core.proofs.Wanted.{releasing_leaves, releasing_leaves_none}
 use Rattle.machine_core.specs.declared.parts.Parts.{Parts}
@@ -50,7 +51,7 @@ use Rattle.init_core.specs.Choosing.{IsChosenByVolumes, IsGrantedByVolumes}
 use Rattle.init_core.specs.Going.{ActsInPlace, Went, WentInPlace}
 use Rattle.init_core.specs.Providing.{IsForAction}
 use Rattle.init_core.specs.Running.{AreOn, IsAt, IsGood, config_of, shown_admission, shown_running}
-use Rattle.init_core.specs.Turning.{IsEnded, IsWritten, TellsTurn, answers_of, around_in, with_spool}
+use Rattle.init_core.specs.Turning.{IsEnded, IsWritten, answers_of, around_in, with_spool}
 use Rattle.init_core.proofs.Covering.{granted}
 use Rattle.init_core.proofs.Reading.{good_again}
 use Rattle.init_core.proofs.Rooms.{known_on, room_if, stand_on}
@@ -118,16 +119,20 @@ module _ {Q : Type 0} (queue_of : Q → RecordQueue) (profile : Profile) (p : Pa
   abbrev pub chosen_to : List JobLine → Shared → Option world.Running → Type 0
   chosen_to lines new runs = (g : advances_to lines new runs) × IsChosenByVolumes c p.store p.date (choice_of_advance g)
 
-  pub told_as : (st : SharedStore) (after : Walk) (cancelled : Bool) (told same : Turned) → (named_of a).held ≡ job → cancelled ≡ has_cancel p.cancels job → told ≡ same →
-      TellsTurn profile p.units (named_of a).held a cancelled p.store walk st after told →
+  pub told_as : (st : SharedStore) (after : Walk) (n : ℕ) (fixed : Fixed) (its_plan : JobPlan) (cancelled : Bool) (told same : Turned) → n ≡ job →
+      fixed ≡ fixed_for profile.volumes.now plan (given_to a) → its_plan ≡ plan → cancelled ≡ has_cancel p.cancels job → told ≡ same →
+      TellsJob (record its_around { steps = its_plan.steps; fixed = fixed; job = n; cancel = cancelled; grants = answers_of n p.store }) its_plan
+      (seen n (world_store_of p.store)) walk (seen n (world_store_of st)) after told →
       TellsJob its_around plan (seen job (world_store_of p.store)) walk (seen job (world_store_of st)) after same
-  told_as st after cancelled told same own due is t =
-      subst (λ x. TellsJob its_around plan (seen job (world_store_of p.store)) walk (seen job (world_store_of st)) after x) is
-      (subst (λ (x : ℕ × Bool). TellsTurn profile p.units x.0 a x.1 p.store walk st after told) (λ i. (own i, due i)) t)
+  told_as st after n fixed its_plan cancelled told same own for planned due is t =
+      subst (λ (x : ℕ × Fixed × JobPlan × Bool × Turned).
+      TellsJob (record its_around { steps = x.2.steps; fixed = x.1; job = x.0; cancel = x.3; grants = answers_of x.0 p.store }) x.2
+      (seen x.0 (world_store_of p.store)) walk (seen x.0 (world_store_of st)) after x.4)
+      (λ i. (own i, for i, planned i, due i, is i)) t
 
-  pub written_as : (st : SharedStore) (told same : Turned) → (named_of a).held ≡ job → told ≡ same → IsWritten (named_of a).held (made_of (made_in told)) p.store st →
+  pub written_as : (st : SharedStore) (n : ℕ) (told same : Turned) → n ≡ job → told ≡ same → IsWritten n (made_of (made_in told)) p.store st →
       IsWritten job (made_of (made_in same)) p.store st
-  written_as st told same own is w = subst (λ (x : ℕ × Turned). IsWritten x.0 (made_of (made_in x.1)) p.store st) (λ i. (own i, is i)) w
+  written_as st n told same own is w = subst (λ (x : ℕ × Turned). IsWritten x.0 (made_of (made_in x.1)) p.store st) (λ i. (own i, is i)) w
 
   pub ended_err : (r : Result Progress Running) (old new : Parts Q) → old ≡ p → OnErr r (new ≡ old) → OnErr r (new ≡ p)
   ended_err (Ok came) old new is same = tt

@@ -1,6 +1,5 @@
 -- What a turn leaves of the store of all jobs.
 use Rattle.std.proofs.Common.{◌≡◌, ◌≤◌, ℕ, List, Option, None, Some, length, map, arith}
-use Rattle.std.specs.Prelude.{IfOk, Result, Ok, Err}
 use Rattle.jcl_meaning.specs.declared.state.Place.{Place}
 use Rattle.disp_core.specs.Grants.{made_of}
 use Rattle.shared_core.specs.Laws.{KeptIsSpent, SetsOfOthersStay, TakingFollows, TracksAreConserved}
@@ -29,7 +28,5 @@ module _ (job : ℕ) (old new : SharedStore) (sets : SetsOfOthersStay) (spends :
         extents = follows job made old new few rest;
       }
 
-  pub written_by : {E : Type 0} (r : Result Turned E) → IfOk r (λ told. Take job (made_of (made_in told)) (others_of job old) (others_of job new)) →
-      IfOk r (λ told. IsWritten job (made_of (made_in told)) old new)
-  written_by (Ok told) ok = written (made_of (made_in told)) (one_made (made_in told)) ok
-  written_by (Err e) ok = tt
+  pub written_by : (told : Turned) → Take job (made_of (made_in told)) (others_of job old) (others_of job new) → IsWritten job (made_of (made_in told)) old new
+  written_by told rest = written (made_of (made_in told)) (one_made (made_in told)) rest

@@ -17,9 +17,7 @@ use Rattle.place_core.specs.Placings.{serials_of}
 use Rattle.admit_core.specs.Admissions.{fixed_for, given_to, named_of}
 use Rattle.admit_core.specs.declared.admission.AdmittedJob.{AdmittedJob}
 use Rattle.turn_core.specs.Performing.{StoreAnswers}
-use Rattle.turn_core.specs.Standing.{TellsJob}
 use Rattle.turn_core.specs.Turning.{Around}
-use Rattle.turn_core.specs.declared.walk.Turned.{Turned}
 use Rattle.machine_core.specs.declared.parts.Parts.{Parts}
 use Rattle.machine_core.specs.Released.{GivesBack, IsReleased}
 use Rattle.machine_meaning.specs.Spools.{sets_of, with_sets}
@@ -44,11 +42,6 @@ around_in p operations job a cancelled store = record {
   cancel = cancelled;
   grants = answers_of job store;
 }
-
--- What is told of its turn, in the store as it sees it.
-abbrev pub TellsTurn : Profile → List Operation → ℕ → AdmittedJob → Bool → SharedStore → Walk → SharedStore → Walk → Turned → Type 0
-TellsTurn p operations job a cancelled old before new after told =
-    TellsJob (around_in p operations job a cancelled old) (named_of a).plan (seen job (world_store_of old)) before (seen job (world_store_of new)) after told
 
 -- A job wrote what it sees: a set that it made at one of these places uses up what was kept for it, the volumes are the same, their tracks are
 -- conserved, and their extents follow.

@@ -4,14 +4,12 @@ ghost use Rattle.jcl_plan.specs.declared.entry.JobLine.TheVariants as line;
 ghost use Rattle.prog_core.specs.Operations.{IsRoomFor, is_busy};
 ghost use Rattle.world_meaning.specs.Holdings.{cancels_without};
 ghost use Rattle.disp_core.specs.Courses.{fixed_by};
-ghost use Rattle.disp_core.specs.Grants.{made_of};
 ghost use Rattle.admit_core.specs.Admissions.{fixed_for, given_to, named_of};
-ghost use Rattle.turn_core.specs.Standing.{Stands};
-ghost use Rattle.turn_core.specs.Turning.{acts, made_in, operations_by};
+ghost use Rattle.turn_core.specs.Turning.{operations_by};
 ghost use Rattle.init_core.specs.Going.{ActsInPlace, Went};
 ghost use Rattle.init_core.specs.Providing.{IsProvided};
 ghost use Rattle.init_core.specs.Running.{IsAt, IsGood, config_of};
-ghost use Rattle.init_core.specs.Turning.{IsEnded, IsWritten, TellsTurn};
+ghost use Rattle.init_core.specs.Turning.{IsEnded};
 ghost use Rattle.init_core.specs.declared.running.Progress.TheVariants as progress;
 ghost use Rattle.init_core.specs.declared.running.Stage.TheVariants as stage;
 
@@ -26,7 +24,6 @@ use job_core::cancels::Cancels;
 use machine_core::parts::Parts;
 use prog_core::units::{Units, operations_are_apart};
 use shared_core::laws::{kept_is_spent, sets_of_others_stay, taking_follows, tracks_are_conserved};
-use shared_core::store::SharedStore;
 use shared_core::sums::volumes_add_up;
 use std::alloc::{AllocError, Global};
 use turn_core::laws::{acts_advance, ends_advance, few_lines, waits_advance};
@@ -45,39 +42,6 @@ fn given<'a>(profile: &Profile<'a>, admitted: &'a AdmittedJob) -> Given<'a>
         meanings: &provision.meanings,
         date: provision.date,
     }
-}
-
-/// Its actions up to the first that writes. Where none did, and on an `Err`, all is as it was.
-fn take_turn(
-    alloc: Global,
-    profile: &Profile<'_>,
-    store: &mut SharedStore,
-    units: &Units,
-    admitted: &AdmittedJob,
-    walk: &mut Walk,
-    cancelled: bool,
-) -> Result<Turned, AllocError>
-    requires stands { Stands (named_of admitted.now).plan profile.now.programs.now walk.old.todo }
-    ensures ok { IfOk result (TellsTurn profile.now units.now (named_of admitted.now).held admitted.now cancelled store.old walk.old store.new walk.new) }
-    ensures written { IfOk result (λ told. IsWritten (named_of admitted.now).held (made_of (made_in told)) store.old store.new) }
-    ensures same { IfOk result (λ told. acts told ≡ false → (store.new ≡ store.old) × (walk.new ≡ walk.old)) }
-    ensures err { OnErr result ((store.new ≡ store.old) × (walk.new ≡ walk.old)) }
-{
-    sets_of_others_stay();
-    kept_is_spent();
-    tracks_are_conserved();
-    taking_follows();
-    volumes_add_up(&*store);
-    let setting = Setting {
-        programs: profile.programs,
-        units,
-        job: admitted.number(),
-        given: given(profile, admitted),
-        cancelled,
-    };
-    let told = turn(alloc, admitted.plan(), &setting, store, walk);
-    volumes_add_up(&*store);
-    told
 }
 
 /// What an action that wrote leaves of the operations and the cancels.
@@ -168,20 +132,25 @@ pub(crate) fn act<Q: RecordStore>(
     acts_advance();
     few_lines();
     granted_turns();
+    sets_of_others_stay();
+    kept_is_spent();
+    tracks_are_conserved();
+    taking_follows();
     operations_are_apart(&parts.units);
+    volumes_add_up(&parts.store);
     let from = walk.course.lines.len();
     let cancelled = parts.cancels.has(job);
-    match take_turn(
-        alloc,
-        profile,
-        &mut parts.store,
-        &parts.units,
-        admitted,
-        walk,
+    let setting = Setting {
+        programs: profile.programs,
+        units: &parts.units,
+        job: admitted.number(),
+        given: given(profile, admitted),
         cancelled,
-    ) {
+    };
+    match turn(alloc, admitted.plan(), &setting, &mut parts.store, walk) {
         Ok(Turned::Waits) => Ok(Some(from)),
         Ok(Turned::Acts(acted)) => {
+            volumes_add_up(&parts.store);
             enter_acted(&mut parts.units, &mut parts.cancels, job, &acted);
             Ok(Some(from))
         }

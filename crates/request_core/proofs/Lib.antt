@@ -1,2 +1,2 @@
-mod Asking
+pub mod Asking
 pub mod Reading

@@ -71,12 +71,8 @@ abbrev pub got : Course → List ℕ → ℕ → FoundRecord → Course
 got c name d found = got_by c name d found.member found.position found.text found.serial
 
 -- at the end of a member that is not the last, nor one that is not read past, the next is read
-abbrev pub is_some_dd : List DdPlan → Bool
-is_some_dd [] = false
-is_some_dd (dd ∷ dds) = true
-
-abbrev pub is_read_on : Source → List DdPlan → ℕ → Bool
-is_read_on x rest position = is_some_dd rest && not (nat_lt position (length x.records)) && x.read_past
+abbrev pub is_read_on : Source → Bool → ℕ → Bool
+is_read_on x more position = more && not (nat_lt position (length x.records)) && x.read_past
 
 -- what a PUT leaves of its DD: a record was put to its set, or stands behind those for SYSOUT
 abbrev pub with_mark : DdState → DdState

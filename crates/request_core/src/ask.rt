@@ -1,34 +1,36 @@
 //! A request of a program. (This profile)
-ghost use Rattle.std.specs.Prelude.{◌≡◌, [], ◌<◌, IfOk, IsSome, OnErr, OnOk, Some, is_some, length, slice_get};
-ghost use Rattle.std.specs.Option.{option_copied, option_map};
+ghost use Rattle.std.specs.Prelude.{◌≡◌, [], ◌<◌, IfOk, OnErr, OnOk, Some, is_some, length};
+ghost use Rattle.jcl_plan.specs.declared.plan.DdKind.{DdKind};
 ghost use Rattle.jcl_meaning.specs.Programs.{is_read_only};
 ghost use Rattle.jcl_meaning.specs.RequestActs.{dd_name};
+ghost use Rattle.job_text.specs.Places.{dd_at, step_at};
+ghost use Rattle.job_text.specs.Texts.{kind_text};
 ghost use Rattle.disp_core.specs.Acting.{Acts};
-ghost use Rattle.request_core.specs.Requests.{AsksOf, CarriedAt, IsAsked, growth_at, growth_of, here_at};
+ghost use Rattle.request_core.specs.Requests.{AsksOf, CarriedAt, IsAsked, growth_at, growth_of};
 
-use crate::here::Here;
-use crate::put::put;
+use crate::here::{Asking, Here, here_at};
+use crate::put::{Putting, put};
 use crate::request::{abend, get, is_open};
 use disp_core::course::Course;
 use jcl_meaning::names::is_shr;
 use jcl_meaning::program::Move;
-use jcl_meaning::state::DdState;
 use jcl_plan::outcome::Abend;
-use jcl_plan::plan::{DdKind, DdPlan, StepPlan};
 use jname_core::name8::Name8;
+use job_text::text::JobText;
+use job_text::texts::KindText;
 use std::alloc::{AllocError, Global};
 use store_core::job_store::JobStore;
 use store_core::source::{dd_of, is_concatenated};
 
 /// Whether no record may be put to a DD.
-pub fn is_read_only(kind: &DdKind) -> bool
-    ensures { result ≡ is_read_only kind.now }
+pub fn is_read_only(kind: &KindText) -> bool
+    ensures { (dd : DdKind) → kind_text dd ≡ kind.now → result ≡ is_read_only dd }
 {
     match kind {
-        DdKind::Sysout(_) => false,
-        DdKind::Dummy => false,
-        DdKind::Cards(_) => true,
-        DdKind::Set(p) => is_shr(p.status),
+        KindText::Sysout(_) => false,
+        KindText::Dummy => false,
+        KindText::Cards(_) => true,
+        KindText::Set(p) => is_shr(p.status),
     }
 }
 
@@ -42,117 +44,101 @@ pub fn dd_name(wants: &Move) -> &Name8
     }
 }
 
-/// A DD of a step, from 0.
-pub fn dd_at(dds: &[DdPlan], d: usize) -> Option<&DdPlan>
-    ensures dd { option_copied result ≡ slice_get dds.now d }
-    ensures within { IsSome result → d < length dds.now }
-{
-    dds.get(d)
-}
-
-/// What a request needs of its DD, if that was taken.
-fn here_at(dds: &[DdState], d: usize) -> Option<Here>
-    ensures { result ≡ option_map (here_at d) (slice_get dds.now d) }
-{
-    match dds.get(d) {
-        None => None,
-        Some(x) => Some(Here {
-            d,
-            member: x.member,
-            position: x.position,
-            written: x.written,
-            taken: x.taken,
-        }),
-    }
-}
-
 /// A request to a DD that was taken; it tells whether it asked for tracks. An `Err` changes nothing.
-fn ask_of<S: JobStore>(
+fn ask_of<T: JobText, S: JobStore>(
     alloc: Global,
+    text: &T,
     store: &mut S,
-    job: u16,
     course: &mut Course,
-    step: &StepPlan,
-    wants: &Move,
+    asking: &Asking<'_>,
     here: &Here,
-    dd: &DdPlan,
 ) -> Result<bool, AllocError>
-    requires { here.now.d < length step.now.dds }
-    ensures asked { IfOk result (λ asked. asked ≡ is_some (growth_of step.now wants.now here.now dd.now (S.seen job store.old))) }
-    ensures ok { OnOk result (AsksOf (S.grants_growth job store.old) step.now wants.now here.now dd.now
-        (S.seen job store.old) course.old (S.seen job store.new) course.new) }
+    requires reads { T.reads text.now }
+    requires step { asking.now.step < length (T.plan text.now).steps }
+    requires dd { here.now.d < length (step_at (T.plan text.now).steps asking.now.step).dds }
+    ensures asked { IfOk result (λ asked. asked ≡ is_some (growth_of (step_at (T.plan text.now).steps asking.now.step) asking.now.wants.now here.now
+        (dd_at (step_at (T.plan text.now).steps asking.now.step).dds here.now.d) (S.seen asking.now.job store.old))) }
+    ensures ok { OnOk result (AsksOf (S.grants_growth asking.now.job store.old) (step_at (T.plan text.now).steps asking.now.step) asking.now.wants.now here.now
+        (dd_at (step_at (T.plan text.now).steps asking.now.step).dds here.now.d)
+        (S.seen asking.now.job store.old) course.old (S.seen asking.now.job store.new) course.new) }
     ensures err { OnErr result ((store.new ≡ store.old) × (course.new ≡ course.old)) }
-    ensures rest { OnOk result (S.takes job [] (S.rest job store.old) (S.rest job store.new)) }
+    ensures rest { OnOk result (S.takes asking.now.job [] (S.rest asking.now.job store.old) (S.rest asking.now.job store.new)) }
 {
-    match wants {
+    match asking.wants {
         Move::From(name) => {
-            get(alloc, &*store, job, course, step, name, here)?;
+            get(alloc, text, &*store, course, asking, name, here)?;
             Ok(false)
         }
-        Move::To { dd: name, text } => {
-            let refused = is_read_only(&dd.kind) || is_concatenated(&step.dds.as_slice()[here.d..]);
-            if refused {
+        Move::To { dd, text: record } => {
+            let kind = text.kind(asking.step, here.d);
+            if is_read_only(&kind) || is_concatenated(text, asking.step, here.d) {
                 abend(course, &Abend::SFF1)?;
                 Ok(false)
             } else {
-                put(alloc, store, job, course, name, text, here, &dd.kind)
+                let putting = Putting {
+                    job: asking.job,
+                    name: dd,
+                    text: record,
+                    d: here.d,
+                };
+                put(alloc, store, course, &putting, here, &kind)
             }
         }
     }
 }
 
 /// A request to the d-th DD of its step, from 0; it tells whether it asked for tracks. An `Err` changes nothing.
-fn ask_at<S: JobStore>(
+fn ask_at<T: JobText, S: JobStore>(
     alloc: Global,
+    text: &T,
     store: &mut S,
-    job: u16,
     course: &mut Course,
-    step: &StepPlan,
-    wants: &Move,
+    asking: &Asking<'_>,
     d: usize,
 ) -> Result<bool, AllocError>
-    ensures asked { IfOk result (λ asked. asked ≡ is_some (growth_at (Some d) step.now wants.now course.old.own.dds (S.seen job store.old))) }
-    ensures ok { OnOk result (CarriedAt (S.grants_growth job store.old) step.now wants.now d
-        (S.seen job store.old) course.old (S.seen job store.new) course.new) }
+    requires reads { T.reads text.now }
+    requires step { asking.now.step < length (T.plan text.now).steps }
+    requires dd { d < length (step_at (T.plan text.now).steps asking.now.step).dds }
+    ensures asked { IfOk result (λ asked. asked ≡ is_some (growth_at (Some d) (step_at (T.plan text.now).steps asking.now.step) asking.now.wants.now
+        course.old.own.dds (S.seen asking.now.job store.old))) }
+    ensures ok { OnOk result (CarriedAt (S.grants_growth asking.now.job store.old) (step_at (T.plan text.now).steps asking.now.step) asking.now.wants.now d
+        (S.seen asking.now.job store.old) course.old (S.seen asking.now.job store.new) course.new) }
     ensures err { OnErr result ((store.new ≡ store.old) × (course.new ≡ course.old)) }
-    ensures rest { OnOk result (S.takes job [] (S.rest job store.old) (S.rest job store.new)) }
+    ensures rest { OnOk result (S.takes asking.now.job [] (S.rest asking.now.job store.old) (S.rest asking.now.job store.new)) }
 {
     let Some(here) = here_at(course.own.dds.as_slice(), d) else {
         abend(course, &Abend::SFF0)?;
         return Ok(false);
     };
-    let Some(dd) = dd_at(step.dds.as_slice(), d) else {
-        abend(course, &Abend::SFF0)?;
-        return Ok(false);
-    };
-    ask_of(alloc, store, job, course, step, wants, &here, dd)
+    ask_of(alloc, text, store, course, asking, &here)
 }
 
 /// A request's first action, unless a cancel stands in its place; it tells whether it asked its store for tracks. An `Err` changes nothing.
-pub fn ask<S: JobStore>(
+pub fn ask<T: JobText, S: JobStore>(
     alloc: Global,
+    text: &T,
     store: &mut S,
-    job: u16,
     course: &mut Course,
-    step: &StepPlan,
-    wants: &Move,
-    cancelled: bool,
+    asking: &Asking<'_>,
 ) -> Result<bool, AllocError>
-    ensures { Acts S.JobStore job (IsAsked cancelled (S.grants_growth job store.old) step.now wants.now)
+    requires reads { T.reads text.now }
+    requires step { asking.now.step < length (T.plan text.now).steps }
+    ensures { Acts S.JobStore asking.now.job
+        (IsAsked asking.now.cancelled (S.grants_growth asking.now.job store.old) (step_at (T.plan text.now).steps asking.now.step) asking.now.wants.now)
         result store.old course.old store.new course.new }
 {
     if !is_open(&course.own) {
         return Ok(false);
     }
-    if cancelled {
+    if asking.cancelled {
         abend(course, &Abend::S222)?;
         return Ok(false);
     }
-    match dd_of(step.dds.as_slice(), dd_name(wants)) {
+    match dd_of(text, asking.step, dd_name(asking.wants)) {
         None => {
             abend(course, &Abend::SFF0)?;
             Ok(false)
         }
-        Some(d) => ask_at(alloc, store, job, course, step, wants, d),
+        Some(d) => ask_at(alloc, text, store, course, asking, d),
     }
 }

@@ -2,7 +2,7 @@
 #![tactic(auto)]
 
 pub mod ask;
-mod here;
+pub mod here;
 mod put;
 pub mod read;
 pub mod request;

@@ -1,9 +1,11 @@
 //! PUT. (This profile)
 ghost use Rattle.std.specs.Prelude.{◌≡◌, [], IfOk, None, OnErr, OnOk, Some, is_some};
 ghost use Rattle.jcl_plan.specs.declared.entry.JobLine.TheVariants as line;
+ghost use Rattle.jcl_plan.specs.declared.plan.DdKind.{DdKind};
 ghost use Rattle.jcl_meaning.specs.Programs.{emptied, empties, is_full, or_nothing};
 ghost use Rattle.jcl_meaning.specs.Takes.{secondary_of};
 ghost use Rattle.jcl_meaning.specs.declared.state.Due.TheVariants as due;
+ghost use Rattle.job_text.specs.Texts.{kind_text};
 ghost use Rattle.store_core.specs.Actions.{changed_at};
 ghost use Rattle.request_core.specs.Requests.{Puts, PutsIn, course_grown, course_put, course_with, growth_in, growth_of_kind, store_grown, with_dd, with_mark, with_spooled};
 
@@ -13,13 +15,23 @@ use disp_core::course::Course;
 use jcl_meaning::state::{DdState, Due, TakenSet};
 use jcl_plan::entry::JobLine;
 use jcl_plan::outcome::Abend;
-use jcl_plan::plan::{DdKind, RECORDS_A_TRACK, Record, SetPlan, Space, Status};
+use jcl_plan::plan::{RECORDS_A_TRACK, Record, SetPlan, Space, Status};
 use jname_core::name8::Name8;
+use job_text::texts::KindText;
 use plain::listed::Listed;
 use std::alloc::{AllocError, Global};
 use std::mem;
 use store_core::job_store::{JobStore, RoomFault};
 use store_core::laws::{grown_and_emptied_in_either_order, not_emptied_stays};
+
+/// A PUT: of which job, the name of its DD, its record, and the DD, from 0.
+#[derive(Clone, Copy)]
+pub(crate) struct Putting<'a> {
+    pub(crate) job: u16,
+    pub(crate) name: &'a Name8,
+    pub(crate) text: &'a Record,
+    pub(crate) d: usize,
+}
 
 /// A record was put by a DD.
 fn mark(alloc: Global, dds: &mut Listed<DdState>, d: usize)
@@ -108,13 +120,13 @@ fn begin_put(alloc: Global, course: &mut Course, d: usize, due: Due, lines: usiz
     course.own.lines = lines;
 }
 
-fn due_of(name: &Name8, text: &Record, d: usize) -> Due
-    ensures { result ≡ due.Put name.now d text.now }
+fn due_of(putting: &Putting<'_>) -> Due
+    ensures { result ≡ due.Put putting.now.name.now putting.now.d putting.now.text.now }
 {
     Due::Put {
-        name: *name,
-        dd: d,
-        text: *text,
+        name: *putting.name,
+        dd: putting.d,
+        text: *putting.text,
     }
 }
 
@@ -122,21 +134,19 @@ fn due_of(name: &Name8, text: &Record, d: usize) -> Due
 fn put_starts(
     alloc: Global,
     course: &mut Course,
-    name: &Name8,
-    text: &Record,
-    d: usize,
+    putting: &Putting<'_>,
     t: &TakenSet,
 ) -> Result<(), AllocError>
-    ensures ok { OnOk result (course.new ≡ course_put course.old name.now text.now d t.now None) }
+    ensures ok { OnOk result (course.new ≡ course_put course.old putting.now.name.now putting.now.text.now putting.now.d t.now None) }
     ensures err { OnErr result (course.new ≡ course.old) }
 {
     let lines = one_more(course.own.lines)?;
     course.say(JobLine::PutStart {
-        name: *name,
+        name: *putting.name,
         serial: t.serial,
         grown: None,
     })?;
-    begin_put(alloc, course, d, due_of(name, text, d), lines);
+    begin_put(alloc, course, putting.d, due_of(putting), lines);
     Ok(())
 }
 
@@ -144,37 +154,36 @@ fn put_starts(
 fn put_grows<S: JobStore>(
     alloc: Global,
     store: &mut S,
-    job: u16,
     course: &mut Course,
-    name: &Name8,
-    text: &Record,
-    d: usize,
+    putting: &Putting<'_>,
     t: &TakenSet,
     secondary: u16,
     wipes: bool,
 ) -> Result<(), AllocError>
-    ensures seen { OnOk result (S.seen job store.new ≡ store_grown (S.grants_growth job store.old t.now.key t.now.serial secondary) wipes secondary (S.seen job store.old) t.now) }
-    ensures course { OnOk result (course.new ≡ course_grown (S.grants_growth job store.old t.now.key t.now.serial secondary) course.old name.now text.now d t.now secondary) }
+    ensures seen { OnOk result (S.seen putting.now.job store.new ≡
+        store_grown (S.grants_growth putting.now.job store.old t.now.key t.now.serial secondary) wipes secondary (S.seen putting.now.job store.old) t.now) }
+    ensures course { OnOk result (course.new ≡ course_grown (S.grants_growth putting.now.job store.old t.now.key t.now.serial secondary)
+        course.old putting.now.name.now putting.now.text.now putting.now.d t.now secondary) }
     ensures err { OnErr result ((store.new ≡ store.old) × (course.new ≡ course.old)) }
-    ensures rest { OnOk result (S.takes job [] (S.rest job store.old) (S.rest job store.new)) }
+    ensures rest { OnOk result (S.takes putting.now.job [] (S.rest putting.now.job store.old) (S.rest putting.now.job store.new)) }
 {
     grown_and_emptied_in_either_order();
     let lines = one_more(course.own.lines)?;
     course.say(JobLine::PutStart {
-        name: *name,
+        name: *putting.name,
         serial: t.serial,
         grown: Some(secondary),
     })?;
-    match store.grow(job, &t.key, t.serial, secondary) {
+    match store.grow(putting.job, &t.key, t.serial, secondary) {
         Ok(()) => {
-            begin_put(alloc, course, d, due_of(name, text, d), lines);
-            wipe(store, job, t, wipes);
+            begin_put(alloc, course, putting.d, due_of(putting), lines);
+            wipe(store, putting.job, t, wipes);
             Ok(())
         }
         Err(RoomFault::NotGranted) => {
             course.unsay();
             abend(course, &Abend::SB37)?;
-            wipe(store, job, t, wipes);
+            wipe(store, putting.job, t, wipes);
             Ok(())
         }
         Err(RoomFault::Memory) => {
@@ -189,52 +198,45 @@ fn put_grows<S: JobStore>(
 fn put_in<S: JobStore>(
     alloc: Global,
     store: &mut S,
-    job: u16,
     course: &mut Course,
-    name: &Name8,
-    text: &Record,
+    putting: &Putting<'_>,
     here: &Here,
     p: &SetPlan,
     t: &TakenSet,
 ) -> Result<bool, AllocError>
-    ensures asked { IfOk result (λ asked. asked ≡ is_some (growth_in p.now here.now.written (Some t.now) (S.seen job store.old))) }
-    ensures ok { OnOk result (PutsIn (S.grants_growth job store.old) name.now text.now here.now p.now t.now
-        (S.seen job store.old) course.old (S.seen job store.new) course.new) }
+    requires { here.now.d ≡ putting.now.d }
+    ensures asked { IfOk result (λ asked. asked ≡ is_some (growth_in p.now here.now.written (Some t.now) (S.seen putting.now.job store.old))) }
+    ensures ok { OnOk result (PutsIn (S.grants_growth putting.now.job store.old) putting.now.name.now putting.now.text.now here.now p.now t.now
+        (S.seen putting.now.job store.old) course.old (S.seen putting.now.job store.new) course.new) }
     ensures err { OnErr result ((store.new ≡ store.old) × (course.new ≡ course.old)) }
-    ensures rest { OnOk result (S.takes job [] (S.rest job store.old) (S.rest job store.new)) }
+    ensures rest { OnOk result (S.takes putting.now.job [] (S.rest putting.now.job store.old) (S.rest putting.now.job store.new)) }
 {
     let wipes = empties(p.status, here.written);
     let secondary = secondary_of(&p.space);
-    if !is_full(store, job, t, wipes) {
-        put_starts(alloc, course, name, text, here.d, t)?;
-        wipe(store, job, t, wipes);
+    if !is_full(store, putting.job, t, wipes) {
+        put_starts(alloc, course, putting, t)?;
+        wipe(store, putting.job, t, wipes);
         return Ok(false);
     }
     if secondary == 0 {
         abend(course, &Abend::SD37)?;
-        wipe(store, job, t, wipes);
+        wipe(store, putting.job, t, wipes);
         return Ok(false);
     }
-    put_grows(
-        alloc, store, job, course, name, text, here.d, t, secondary, wipes,
-    )?;
+    put_grows(alloc, store, course, putting, t, secondary, wipes)?;
     Ok(true)
 }
 
 /// PUT to a DD for SYSOUT. An `Err` changes nothing.
-fn put_out(
-    alloc: Global,
-    course: &mut Course,
-    name: &Name8,
-    text: &Record,
-    d: usize,
-) -> Result<(), AllocError>
-    ensures ok { OnOk result (course.new ≡ course_with course.old (with_spooled text.now) d None (line.PutDone name.now)) }
+fn put_out(alloc: Global, course: &mut Course, putting: &Putting<'_>) -> Result<(), AllocError>
+    ensures ok { OnOk result (course.new ≡ course_with course.old (with_spooled putting.now.text.now) putting.now.d None (line.PutDone putting.now.name.now)) }
     ensures err { OnErr result (course.new ≡ course.old) }
 {
     let lines = one_more(course.own.lines)?;
-    course.say(JobLine::PutDone { name: *name })?;
-    match spool(alloc, &mut course.own.dds, d, text) {
+    course.say(JobLine::PutDone {
+        name: *putting.name,
+    })?;
+    match spool(alloc, &mut course.own.dds, putting.d, putting.text) {
         Ok(()) => {}
         Err(error) => {
             course.unsay();
@@ -250,38 +252,40 @@ fn put_out(
 pub(crate) fn put<S: JobStore>(
     alloc: Global,
     store: &mut S,
-    job: u16,
     course: &mut Course,
-    name: &Name8,
-    text: &Record,
+    putting: &Putting<'_>,
     here: &Here,
-    kind: &DdKind,
+    kind: &KindText,
 ) -> Result<bool, AllocError>
-    ensures asked { IfOk result (λ asked. asked ≡ is_some (growth_of_kind here.now kind.now (S.seen job store.old))) }
-    ensures ok { OnOk result (Puts (S.grants_growth job store.old) name.now text.now here.now kind.now
-        (S.seen job store.old) course.old (S.seen job store.new) course.new) }
+    requires { here.now.d ≡ putting.now.d }
+    ensures asked { IfOk result (λ asked. (dd : DdKind) → kind_text dd ≡ kind.now →
+        asked ≡ is_some (growth_of_kind here.now dd (S.seen putting.now.job store.old))) }
+    ensures ok { OnOk result ((dd : DdKind) → kind_text dd ≡ kind.now →
+        Puts (S.grants_growth putting.now.job store.old) putting.now.name.now putting.now.text.now here.now dd
+        (S.seen putting.now.job store.old) course.old (S.seen putting.now.job store.new) course.new) }
     ensures err { OnErr result ((store.new ≡ store.old) × (course.new ≡ course.old)) }
-    ensures rest { OnOk result (S.takes job [] (S.rest job store.old) (S.rest job store.new)) }
+    ensures rest { OnOk result (S.takes putting.now.job [] (S.rest putting.now.job store.old) (S.rest putting.now.job store.new)) }
 {
     match kind {
-        DdKind::Sysout(_) => {
-            put_out(alloc, course, name, text, here.d)?;
+        KindText::Sysout(_) => {
+            put_out(alloc, course, putting)?;
             Ok(false)
         }
-        DdKind::Dummy => {
-            say_done(course, JobLine::PutDone { name: *name })?;
+        KindText::Dummy => {
+            let name = *putting.name;
+            say_done(course, JobLine::PutDone { name })?;
             Ok(false)
         }
-        DdKind::Cards(_) => {
+        KindText::Cards(_) => {
             abend(course, &Abend::SFF1)?;
             Ok(false)
         }
-        DdKind::Set(p) => match &here.taken {
+        KindText::Set(p) => match &here.taken {
             None => {
                 abend(course, &Abend::SFF1)?;
                 Ok(false)
             }
-            Some(t) => put_in(alloc, store, job, course, name, text, here, p, t),
+            Some(t) => put_in(alloc, store, course, putting, here, p, t),
         },
     }
 }

@@ -1,14 +1,29 @@
 //! Where a GET reads: which record of which member. (This profile)
-ghost use Rattle.std.specs.Prelude.{◌≡◌, ◌+◌, ◌<◌, ◌^◌, drop, length, slice_get};
-ghost use Rattle.jcl_meaning.specs.Programs.{at_source, located, members_at, source_of, sources_from, taken_at};
+ghost use Rattle.std.specs.Prelude.{◌≡◌, ◌-◌, ◌≤◌, ◌<◌, drop, length, slice_get, take};
+ghost use Rattle.jcl_plan.specs.declared.plan.DdKind.{DdKind};
+ghost use Rattle.jcl_meaning.specs.Programs.{located, members_at, source_of, sources_from, taken_at};
+ghost use Rattle.job_text.specs.Places.{dd_at, step_at};
+ghost use Rattle.job_text.specs.Texts.{kind_text};
 ghost use Rattle.request_core.specs.Requests.{is_read_on};
 
+use crate::here::Here;
 use jcl_meaning::source::FoundRecord;
 use jcl_meaning::state::{DdState, TakenSet};
-use jcl_plan::plan::{DdKind, DdPlan, Record, StepPlan};
+use jcl_plan::plan::Record;
 use jname_core::serial::Serial;
+use job_text::text::JobText;
+use job_text::texts::KindText;
 use store_core::job_store::JobStore;
-use store_core::source::members_at;
+use store_core::source::members_end;
+
+/// The members of a concatenation: the step's DDs from the first on, up to an end, from 0, with the states of those that were taken.
+#[derive(Clone, Copy)]
+struct Members<'a> {
+    step: usize,
+    first: usize,
+    end: usize,
+    states: &'a [DdState],
+}
 
 fn taken_at(states: &[DdState], place: usize) -> Option<TakenSet>
     ensures { result ≡ taken_at states.now place }
@@ -20,14 +35,14 @@ fn taken_at(states: &[DdState], place: usize) -> Option<TakenSet>
 }
 
 /// How many records a member has to read.
-fn records_in<S: JobStore>(store: &S, job: u16, kind: &DdKind, t: &Option<TakenSet>) -> usize
-    ensures { result ≡ length (source_of (S.seen job store.now) kind.now t.now).records }
+fn records_in<S: JobStore>(store: &S, job: u16, kind: &KindText, t: &Option<TakenSet>) -> usize
+    ensures { (dd : DdKind) → kind_text dd ≡ kind.now → result ≡ length (source_of (S.seen job store.now) dd t.now).records }
 {
     match kind {
-        DdKind::Sysout(_) => 0,
-        DdKind::Dummy => 0,
-        DdKind::Cards(cards) => cards.len(),
-        DdKind::Set(_) => match t {
+        KindText::Sysout(_) => 0,
+        KindText::Dummy => 0,
+        KindText::Cards(count) => *count,
+        KindText::Set(_) => match t {
             None => 0,
             Some(t) => match store.set(job, &t.key, t.serial) {
                 None => 0,
@@ -38,32 +53,43 @@ fn records_in<S: JobStore>(store: &S, job: u16, kind: &DdKind, t: &Option<TakenS
 }
 
 /// Whether a member is left for the next at its end.
-fn is_read_past<S: JobStore>(store: &S, job: u16, kind: &DdKind, t: &Option<TakenSet>) -> bool
-    ensures { result ≡ (source_of (S.seen job store.now) kind.now t.now).read_past }
+fn is_read_past<S: JobStore>(store: &S, job: u16, kind: &KindText, t: &Option<TakenSet>) -> bool
+    ensures { (dd : DdKind) → kind_text dd ≡ kind.now → result ≡ (source_of (S.seen job store.now) dd t.now).read_past }
 {
     match kind {
-        DdKind::Sysout(_) => false,
-        DdKind::Dummy => false,
-        DdKind::Cards(_) => true,
-        DdKind::Set(_) => t.is_some(),
+        KindText::Sysout(_) => false,
+        KindText::Dummy => false,
+        KindText::Cards(_) => true,
+        KindText::Set(_) => t.is_some(),
     }
 }
 
-/// The record of a member, if it has so many.
-fn text_at<S: JobStore>(
+/// The record of a member, the n-th DD of its step, from 0, if it has so many.
+fn text_at<T: JobText, S: JobStore>(
+    text: &T,
     store: &S,
     job: u16,
-    kind: &DdKind,
+    step: usize,
+    n: usize,
     t: &Option<TakenSet>,
     position: usize,
 ) -> Option<Record>
-    ensures { result ≡ slice_get (source_of (S.seen job store.now) kind.now t.now).records position }
+    requires reads { T.reads text.now }
+    requires step { step < length (T.plan text.now).steps }
+    requires dd { n < length (step_at (T.plan text.now).steps step).dds }
+    ensures { result ≡ slice_get (source_of (S.seen job store.now) (dd_at (step_at (T.plan text.now).steps step).dds n).kind t.now).records position }
 {
-    match kind {
-        DdKind::Sysout(_) => None,
-        DdKind::Dummy => None,
-        DdKind::Cards(cards) => cards.as_slice().get(position).copied(),
-        DdKind::Set(_) => match t {
+    match text.kind(step, n) {
+        KindText::Sysout(_) => None,
+        KindText::Dummy => None,
+        KindText::Cards(count) => {
+            if position < count {
+                Some(text.card(step, n, position))
+            } else {
+                None
+            }
+        }
+        KindText::Set(_) => match t {
             None => None,
             Some(t) => store.record(job, &t.key, t.serial, position),
         },
@@ -74,116 +100,92 @@ fn text_at<S: JobStore>(
 fn serial_of<S: JobStore>(
     store: &S,
     job: u16,
-    kind: &DdKind,
+    kind: &KindText,
     t: &Option<TakenSet>,
 ) -> Option<Serial>
-    ensures { result ≡ (source_of (S.seen job store.now) kind.now t.now).serial }
+    ensures { (dd : DdKind) → kind_text dd ≡ kind.now → result ≡ (source_of (S.seen job store.now) dd t.now).serial }
 {
     match kind {
-        DdKind::Sysout(_) => None,
-        DdKind::Dummy => None,
-        DdKind::Cards(_) => None,
-        DdKind::Set(_) => match t {
+        KindText::Sysout(_) => None,
+        KindText::Dummy => None,
+        KindText::Cards(_) => None,
+        KindText::Set(_) => match t {
             None => None,
             Some(t) => Some(t.serial),
         },
     }
 }
 
-/// Where a GET reads in a member.
-fn found_at<S: JobStore>(
-    store: &S,
-    job: u16,
-    kind: &DdKind,
-    t: &Option<TakenSet>,
-    member: usize,
-    position: usize,
-) -> FoundRecord
-    ensures { result ≡ at_source (source_of (S.seen job store.now) kind.now t.now) member position }
-{
-    FoundRecord {
-        member,
-        position,
-        text: text_at(store, job, kind, t, position),
-        serial: serial_of(store, job, kind, t),
-    }
-}
-
-/// Whether a GET behind a member's records goes on to the next.
+/// Whether a GET behind a member's records goes on to the next, if there are more members.
 fn is_read_on<S: JobStore>(
     store: &S,
     job: u16,
-    kind: &DdKind,
+    kind: &KindText,
     t: &Option<TakenSet>,
-    rest: &[DdPlan],
+    more: bool,
     position: usize,
 ) -> bool
-    ensures { result ≡ is_read_on (source_of (S.seen job store.now) kind.now t.now) rest.now position }
+    ensures { (dd : DdKind) → kind_text dd ≡ kind.now → result ≡ is_read_on (source_of (S.seen job store.now) dd t.now) more position }
 {
-    !rest.is_empty()
-        && position >= records_in(store, job, kind, t)
-        && is_read_past(store, job, kind, t)
+    more && position >= records_in(store, job, kind, t) && is_read_past(store, job, kind, t)
 }
 
-/// Where a GET reads in these members, the first of which is the member-th, and the n-th DD of its step, from 0.
-fn located<S: JobStore>(
+/// Where a GET reads in the members from the n-th DD of the step on, from 0.
+fn located<T: JobText, S: JobStore>(
+    text: &T,
     store: &S,
     job: u16,
-    dds: &[DdPlan],
-    states: &[DdState],
+    of: &Members<'_>,
     n: usize,
-    member: usize,
     position: usize,
 ) -> FoundRecord
-    requires { (n + length dds.now < 2 ^ 64) × (member + length dds.now < 2 ^ 64) }
-    ensures { result ≡ located (sources_from (S.seen job store.now) dds.now states.now n) member position }
+    requires reads { T.reads text.now }
+    requires step { of.now.step < length (T.plan text.now).steps }
+    requires members { (of.now.first ≤ n) × (n < of.now.end) × (of.now.end ≤ length (step_at (T.plan text.now).steps of.now.step).dds) }
+    ensures { result ≡ located (sources_from (S.seen job store.now) (take (of.now.end - n) (drop n (step_at (T.plan text.now).steps of.now.step).dds))
+        of.now.states.now n) (n - of.now.first) position }
 {
-    match dds.split_first() {
-        None => FoundRecord {
-            member,
-            position,
-            text: None,
-            serial: None,
-        },
-        Some((dd, rest)) => {
-            let t = taken_at(states, n);
-            if is_read_on(store, job, &dd.kind, &t, rest, position) {
-                located(store, job, rest, states, n + 1, member + 1, 0)
-            } else {
-                found_at(store, job, &dd.kind, &t, member, position)
-            }
-        }
+    let t = taken_at(of.states, n);
+    let kind = text.kind(of.step, n);
+    if is_read_on(store, job, &kind, &t, n + 1 < of.end, position) {
+        return located(text, store, job, of, n + 1, 0);
+    }
+    FoundRecord {
+        member: n - of.first,
+        position,
+        text: text_at(text, store, job, of.step, n, &t, position),
+        serial: serial_of(store, job, &kind, &t),
     }
 }
 
-/// Where a GET of a DD, from 0, reads next.
-pub fn reads<S: JobStore>(
+/// Where a GET of a DD of a step, from 0, reads next.
+pub fn reads<T: JobText, S: JobStore>(
+    text: &T,
     store: &S,
     job: u16,
-    step: &StepPlan,
+    step: usize,
     states: &[DdState],
-    d: usize,
-    member: usize,
-    position: usize,
+    here: &Here,
 ) -> FoundRecord
-    requires { d < length step.now.dds }
-    ensures { result ≡ located (drop member (sources_from (S.seen job store.now) (members_at (drop d step.now.dds)) states.now d)) member position }
+    requires reads { T.reads text.now }
+    requires step { step < length (T.plan text.now).steps }
+    requires dd { here.now.d < length (step_at (T.plan text.now).steps step).dds }
+    ensures { result ≡ located (drop here.now.member (sources_from (S.seen job store.now)
+        (members_at (drop here.now.d (step_at (T.plan text.now).steps step).dds)) states.now here.now.d)) here.now.member here.now.position }
 {
-    let members = members_at(&step.dds.as_slice()[d..]);
-    if member < members.len() {
-        located(
-            store,
-            job,
-            &members[member..],
+    let end = members_end(text, step, here.d);
+    if here.member < end - here.d {
+        let of = Members {
+            step,
+            first: here.d,
+            end,
             states,
-            d + member,
-            member,
-            position,
-        )
+        };
+        located(text, store, job, &of, here.d + here.member, here.position)
     } else {
         FoundRecord {
-            member,
-            position,
+            member: here.member,
+            position: here.position,
             text: None,
             serial: None,
         }

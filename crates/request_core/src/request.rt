@@ -3,18 +3,20 @@ ghost use Rattle.std.specs.Prelude.{◌≡◌, ◌+◌, ◌<◌, ◌++◌, ◌�
 ghost use Rattle.jcl_plan.specs.declared.entry.JobLine.TheVariants as line;
 ghost use Rattle.jcl_meaning.specs.RequestActs.{store_appended};
 ghost use Rattle.jcl_meaning.specs.States.{asks_open, wrote};
+ghost use Rattle.job_text.specs.Places.{step_at};
 ghost use Rattle.disp_core.specs.Acting.{Acts};
 ghost use Rattle.request_core.specs.Requests.{Gets, IsReceived, IsReceivedNow, course_abended, got, moved, with_dd};
 
-use crate::here::Here;
+use crate::here::{Asking, Here};
 use crate::read::reads;
 use disp_core::course::Course;
 use jcl_meaning::source::FoundRecord;
 use jcl_meaning::state::{DdState, Due, Own};
 use jcl_plan::entry::JobLine;
 use jcl_plan::outcome::{Abend, Outcome};
-use jcl_plan::plan::{Record, StepPlan};
+use jcl_plan::plan::Record;
 use jname_core::name8::Name8;
+use job_text::text::JobText;
 use plain::listed::Listed;
 use std::alloc::{AllocError, Global};
 use std::mem;
@@ -108,21 +110,23 @@ fn get_at(
 }
 
 /// A GET's first action, at a DD whose state is this. An `Err` changes nothing.
-pub(crate) fn get<S: JobStore>(
+pub(crate) fn get<T: JobText, S: JobStore>(
     alloc: Global,
+    text: &T,
     store: &S,
-    job: u16,
     course: &mut Course,
-    step: &StepPlan,
+    asking: &Asking<'_>,
     name: &Name8,
     here: &Here,
 ) -> Result<(), AllocError>
-    requires { here.now.d < length step.now.dds }
-    ensures ok { OnOk result (Gets step.now name.now here.now (S.seen job store.now) course.old course.new) }
+    requires reads { T.reads text.now }
+    requires step { asking.now.step < length (T.plan text.now).steps }
+    requires dd { here.now.d < length (step_at (T.plan text.now).steps asking.now.step).dds }
+    ensures ok { OnOk result (Gets (step_at (T.plan text.now).steps asking.now.step) name.now here.now (S.seen asking.now.job store.now) course.old course.new) }
     ensures err { OnErr result (course.new ≡ course.old) }
 {
     let states = course.own.dds.as_slice();
-    let found = reads(store, job, step, states, here.d, here.member, here.position);
+    let found = reads(text, store, asking.job, asking.step, states, here);
     get_at(alloc, course, name, here.d, &found)
 }
 

@@ -162,32 +162,6 @@ fn turn_away<Q: RecordStore>(
     }
 }
 
-/// A turn of the job of an initiator. An `Err` changes nothing.
-fn turn_of<Q: RecordStore>(
-    alloc: Global,
-    parts: &mut Parts<Q>,
-    profile: &Profile<'_>,
-    x: &mut Initiator,
-) -> Result<Listed<Entry>, AllocError>
-    requires good { IsGood Q.queue (config_of profile.now (Q.queue parts.old.queue).layout) parts.old }
-    requires runs { (r : Running) × (x.old.running ≡ Some r) × IsReady (config_of profile.now (Q.queue parts.old.queue).layout) parts.old.names r
-        × IsProvided Q.queue (config_of profile.now (Q.queue parts.old.queue).layout) parts.old r }
-    ensures ok { IfOk result (TurnsJob Q.queue (config_of profile.now (Q.queue parts.old.queue).layout) parts.old x.old parts.new x.new) }
-    ensures err { OnErr result ((parts.new ≡ parts.old) × (x.new ≡ x.old)) }
-{
-    let Some(running) = &mut x.running else {
-        unreachable!();
-    };
-    let mut entries = room_for(alloc, profile, running)?;
-    match go_on_in_place(alloc, parts, profile, running)? {
-        Some(from) => {
-            tell(&mut entries, running.job, running.lines_from(from));
-            Ok(Listed::new(entries))
-        }
-        None => turn_away(alloc, parts, profile, x, entries),
-    }
-}
-
 /// A turn of the job of the initiator at a place. An `Err` changes nothing.
 fn turn_at<Q: RecordStore>(
     alloc: Global,
@@ -204,7 +178,17 @@ fn turn_at<Q: RecordStore>(
     ensures err { OnErr result ((parts.new ≡ parts.old) × (initiators.new.items ≡ initiators.old.items)) }
 {
     let x = &mut initiators[place];
-    turn_of(alloc, parts, profile, x)
+    let Some(running) = &mut x.running else {
+        unreachable!();
+    };
+    let mut entries = room_for(alloc, profile, running)?;
+    match go_on_in_place(alloc, parts, profile, running)? {
+        Some(from) => {
+            tell(&mut entries, running.job, running.lines_from(from));
+            Ok(Listed::new(entries))
+        }
+        None => turn_away(alloc, parts, profile, x, entries),
+    }
 }
 
 /// The initiator at a place goes on with its job.

@@ -1,11 +1,12 @@
 -- Actions carried out one after another.
-use Rattle.std.proofs.Common.{◌≡◌, ◌+◌, ◌<◌, ◌==◌, ◌&&◌, ◌++◌, ◌∷◌, ℕ, suc, Bool, true, false, List, [], Option, Some, None, length, map, take, get_or, refl, sym, ap, ◌∙◌, subst, append_assoc, arith}
+use Rattle.std.proofs.Common.{◌≡◌, ◌+◌, ◌-◌, ◌<◌, ◌==◌, ◌&&◌, ◌++◌, ◌∷◌, ℕ, suc, Bool, true, false, List, [], Option, Some, None, length, map, take, get_or, refl, sym, ap, ◌∙◌, subst, append_assoc, arith}
 use Rattle.std.proofs.Math.Dec.{eqb-suc-zero}
 use Rattle.std.proofs.lemmas.List.{append-nil, length-map, length-take-le, take_more}
 use Rattle.jcl_plan.specs.declared.fault.Fault.{Fault}
 use Rattle.jcl_plan.specs.declared.plan.DdPlan.{DdPlan}
 use Rattle.jcl_plan.specs.declared.plan.StepPlan.{StepPlan}
 use Rattle.jcl_meaning.specs.declared.program.Move.{Move}
+use Rattle.job_text.specs.Places.{dd_at, step_at}
 use Rattle.solo_core.specs.declared.runner.Runner.{Runner}
 use Rattle.jcl_meaning.specs.Acts.{act}
 use Rattle.jcl_meaning.specs.Agendas.{Action, Take, Ask, Receive, Dispose, Left, disposes_from, left_by, lefts_from, lefts_in, moves_from, step_actions, steps_from, takes_from}
@@ -125,3 +126,17 @@ front_number xs i h = let e : length (take i xs) ≡ i = length-take-le i xs (om
 -- the length of a front
 pub front_length : {X : Type 0} (xs : List X) (i : ℕ) → i < length xs → length (take i xs) ≡ i
 front_length xs i h = length-take-le i xs (omega arith)
+
+-- the front of a list, one element longer, whatever stands for an element that is not there
+pub front_with : {X : Type 0} (xs : List X) (i : ℕ) (x : X) → i < length xs → take (i + 1) xs ≡ take i xs ++ get_or xs i x ∷ []
+front_with xs i x h = take_more xs i x h
+
+-- a step and a DD by their numbers from 1
+one_less : (k : ℕ) → k + 1 - 1 ≡ k
+one_less k = omega arith
+
+pub same_step : (steps : List StepPlan) (k : ℕ) → step_at steps (k + 1 - 1) ≡ step_at steps k
+same_step steps k = ap (step_at steps) (one_less k)
+
+pub same_dd : (steps : List StepPlan) (k d : ℕ) → dd_at (step_at steps (k + 1 - 1)).dds (d + 1 - 1) ≡ dd_at (step_at steps k).dds d
+same_dd steps k d = ap (λ (s : StepPlan). dd_at s.dds (d + 1 - 1)) (same_step steps k) ∙ ap (dd_at (step_at steps k).dds) (one_less d)

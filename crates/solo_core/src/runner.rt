@@ -1,9 +1,10 @@
 //! A job on its way: each action of its agenda carried out.
-ghost use Rattle.std.specs.Prelude.{◌≡◌, ◌<◌, ◌∷◌, ◌++◌, [], true, OnOk};
+ghost use Rattle.std.specs.Prelude.{◌≡◌, ◌-◌, ◌∷◌, ◌++◌, [], true, OnOk};
 ghost use Rattle.jcl_plan.specs.declared.outcome.Outcome.TheVariants as outcome;
 ghost use Rattle.jcl_meaning.specs.Agendas.{Ask, Dispose, Finish, Left, Over, Receive, Start, Take};
 ghost use Rattle.jcl_meaning.specs.RequestActs.{head_or};
 ghost use Rattle.jcl_meaning.specs.States.{cancel_due, others};
+ghost use Rattle.job_text.specs.Places.{IsDd, IsStep, dd_at, step_at};
 ghost use Rattle.solo_core.specs.Runners.{Does};
 
 use disp_core::course::{Course, Given};
@@ -12,8 +13,9 @@ use disp_core::{dispose, step, take};
 use jcl_meaning::program::Move;
 use jcl_plan::fault::Fault;
 use jcl_plan::outcome::{Code, Outcome};
-use jcl_plan::plan::{DdPlan, StepPlan};
+use job_text::text::JobText;
 use plain::listed::Listed;
+use request_core::here::Asking;
 use request_core::{ask, request};
 use std::alloc::{AllocError, Global};
 use store_core::alone::Alone;
@@ -76,6 +78,20 @@ fn next_grant(grants: &[bool]) -> bool
     }
 }
 
+/// Where a DD stands, with its name.
+fn site<T: JobText>(text: &T, n: usize, dd: usize) -> Site
+    requires reads { T.reads text.now }
+    requires dd { IsDd (T.plan text.now).steps n dd }
+    ensures { result ≡ record { job = JOB; step = n; dd = dd; name = (dd_at (step_at (T.plan text.now).steps (n - 1)).dds (dd - 1)).name } }
+{
+    Site {
+        job: JOB,
+        step: n,
+        dd,
+        name: text.dd_name(n - 1, dd - 1),
+    }
+}
+
 impl<'a> Runner<'a> {
     /// An action is done: enters the fault that it met, if it met one.
     fn met(&mut self, fault: Option<Fault>) -> Result<(), AllocError>
@@ -85,32 +101,37 @@ impl<'a> Runner<'a> {
         Ok(())
     }
 
-    /// A step begins, or is passed over.
-    pub(crate) fn begin(&mut self, n: usize, step: &StepPlan) -> Result<(), AllocError>
-        ensures { OnOk result (Does (Start n step.now) self.old self.new) }
+    /// The n-th step begins, or is passed over.
+    pub(crate) fn begin<T: JobText>(&mut self, text: &T, n: usize) -> Result<(), AllocError>
+        requires reads { T.reads text.now }
+        requires step { IsStep (T.plan text.now).steps n }
+        ensures { OnOk result (Does (Start n (step_at (T.plan text.now).steps (n - 1))) self.old self.new) }
     {
-        step::begin(&self.given, &mut self.course, n, step)?;
+        step::begin(text, &self.given, &mut self.course, n)?;
         self.met(None)?;
         Ok(())
     }
 
     /// A DD taken. A step that does not run passes it over.
-    pub(crate) fn take(&mut self, n: usize, dd: usize, d: &DdPlan) -> Result<(), AllocError>
-        ensures { OnOk result (Does (Take n dd d.now) self.old self.new) }
+    pub(crate) fn take<T: JobText>(
+        &mut self,
+        text: &T,
+        n: usize,
+        dd: usize,
+    ) -> Result<(), AllocError>
+        requires reads { T.reads text.now }
+        requires dd { IsDd (T.plan text.now).steps n dd }
+        ensures { OnOk result (Does (Take n dd (dd_at (step_at (T.plan text.now).steps (n - 1)).dds (dd - 1))) self.old self.new) }
     {
-        let at = Site {
-            job: JOB,
-            step: n,
-            dd,
-            name: d.name,
-        };
+        let at = site(text, n, dd);
+        let kind = text.kind(n - 1, dd - 1);
         let taken = take::take(
             self.alloc,
             &mut self.store,
             &self.given,
             &mut self.course,
             &at,
-            &d.kind,
+            &kind,
         )?;
         self.met(taken.meets)?;
         Ok(())
@@ -130,32 +151,37 @@ impl<'a> Runner<'a> {
     }
 
     /// The disposition of a DD. A step that does not run passes it over.
-    pub(crate) fn dispose(&mut self, n: usize, dd: usize, d: &DdPlan) -> Result<(), AllocError>
-        requires { 0 < dd }
-        ensures { OnOk result (Does (Dispose n dd d.now) self.old self.new) }
+    pub(crate) fn dispose<T: JobText>(
+        &mut self,
+        text: &T,
+        n: usize,
+        dd: usize,
+    ) -> Result<(), AllocError>
+        requires reads { T.reads text.now }
+        requires dd { IsDd (T.plan text.now).steps n dd }
+        ensures { OnOk result (Does (Dispose n dd (dd_at (step_at (T.plan text.now).steps (n - 1)).dds (dd - 1))) self.old self.new) }
     {
-        let at = Site {
-            job: JOB,
-            step: n,
-            dd,
-            name: d.name,
-        };
-        let meets = dispose::dispose(&mut self.store, &self.given, &mut self.course, &at, &d.kind)?;
+        let at = site(text, n, dd);
+        let kind = text.kind(n - 1, dd - 1);
+        let meets = dispose::dispose(&mut self.store, &self.given, &mut self.course, &at, &kind)?;
         self.met(meets)?;
         Ok(())
     }
 
     /// The job's end for what a DD passed and no DD received.
-    pub(crate) fn leave(&mut self, n: usize, dd: usize, d: &DdPlan) -> Result<(), AllocError>
-        ensures { OnOk result (Does (Left n dd d.now) self.old self.new) }
+    pub(crate) fn leave<T: JobText>(
+        &mut self,
+        text: &T,
+        n: usize,
+        dd: usize,
+    ) -> Result<(), AllocError>
+        requires reads { T.reads text.now }
+        requires dd { IsDd (T.plan text.now).steps n dd }
+        ensures { OnOk result (Does (Left n dd (dd_at (step_at (T.plan text.now).steps (n - 1)).dds (dd - 1))) self.old self.new) }
     {
-        let at = Site {
-            job: JOB,
-            step: n,
-            dd,
-            name: d.name,
-        };
-        let meets = dispose::leave(&mut self.store, &self.given, &mut self.course, &at, &d.kind)?;
+        let at = site(text, n, dd);
+        let kind = text.kind(n - 1, dd - 1);
+        let meets = dispose::leave(&mut self.store, &self.given, &mut self.course, &at, &kind)?;
         self.met(meets)?;
         Ok(())
     }
@@ -169,21 +195,25 @@ impl<'a> Runner<'a> {
         Ok(())
     }
 
-    /// A request's first action; where it asks for tracks, an answer is used up.
-    pub(crate) fn ask(&mut self, step: &StepPlan, wants: &Move) -> Result<(), AllocError>
-        ensures { OnOk result (Does (Ask step.now wants.now) self.old self.new) }
+    /// A request's first action, of the n-th step; where it asks for tracks, an answer is used up.
+    pub(crate) fn ask<T: JobText>(
+        &mut self,
+        text: &T,
+        n: usize,
+        wants: &Move,
+    ) -> Result<(), AllocError>
+        requires reads { T.reads text.now }
+        requires step { IsStep (T.plan text.now).steps n }
+        ensures { OnOk result (Does (Ask (step_at (T.plan text.now).steps (n - 1)) wants.now) self.old self.new) }
     {
         self.store.growth = next_grant(self.grants);
-        let cancelled = cancel_due(self.cancels, self.course.own.lines);
-        let asked = ask::ask(
-            self.alloc,
-            &mut self.store,
-            JOB,
-            &mut self.course,
-            step,
+        let asking = Asking {
+            job: JOB,
+            step: n - 1,
             wants,
-            cancelled,
-        )?;
+            cancelled: cancel_due(self.cancels, self.course.own.lines),
+        };
+        let asked = ask::ask(self.alloc, text, &mut self.store, &mut self.course, &asking)?;
         if asked {
             self.grants = others(self.grants);
         }

@@ -1,5 +1,6 @@
 mod Changes
 mod Groups
 mod Keys
+pub mod Members
 mod Placed
 mod StoreLists

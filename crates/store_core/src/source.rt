@@ -1,64 +1,71 @@
 //! The DDs that a request goes to: the first of its name and those that continue a concatenation. (This profile)
-ghost use Rattle.std.specs.Prelude.{◌≡◌, ◌≤◌, length, take};
+ghost use Rattle.std.specs.Prelude.{◌≡◌, ◌≤◌, ◌-◌, ◌<◌, drop, length, take};
 ghost use Rattle.jcl_meaning.specs.Programs.{continuing, dd_of, is_concatenated, is_continued, is_named, members_at};
+ghost use Rattle.jcl_plan.specs.declared.plan.DdPlan.{DdPlan};
+ghost use Rattle.job_text.specs.Places.{step_at};
 
-use jcl_plan::plan::DdPlan;
 use jname_core::name8::Name8;
+use job_text::text::JobText;
 
-fn is_named(dd: &DdPlan, name: &Name8) -> bool
-    ensures { result ≡ is_named name.now dd.now }
+/// Whether a DD with this name, or without one, has the name that is looked for.
+fn is_named(own: &Option<Name8>, name: &Name8) -> bool
+    ensures { (dd : DdPlan) → dd.name ≡ own.now → result ≡ is_named name.now dd }
 {
-    match &dd.name {
+    match own {
         None => false,
         Some(own) => own.as_slice() == name.as_slice(),
     }
 }
 
-/// The first DD of a name, from 0.
-pub fn dd_of(dds: &[DdPlan], name: &Name8) -> Option<usize>
-    ensures { result ≡ dd_of dds.now name.now }
+/// The first DD of a name in a step. Steps and DDs count from 0.
+pub fn dd_of<T: JobText>(text: &T, step: usize, name: &Name8) -> Option<usize>
+    requires reads { T.reads text.now }
+    requires step { step < length (T.plan text.now).steps }
+    ensures { result ≡ dd_of (step_at (T.plan text.now).steps step).dds name.now }
 {
-    dds.iter().position(|dd| is_named(dd, name))
-}
-
-fn is_continued(dd: &DdPlan) -> bool
-    ensures { result ≡ is_continued dd.now.name }
-{
-    dd.name.is_none()
-}
-
-/// How many of the first DDs continue a concatenation.
-fn continuing(dds: &[DdPlan]) -> usize
-    ensures count { result ≡ length (continuing dds.now) }
-    ensures front { take result dds.now ≡ continuing dds.now }
-    ensures within { result ≤ length dds.now }
-{
-    let mut count = 0;
-    for dd in dds {
-        if !is_continued(dd) {
-            return count;
+    for dd in 0..text.dd_count(step) {
+        if is_named(&text.dd_name(step, dd), name) {
+            return Some(dd);
         }
-        count += 1;
+    }
+    None
+}
+
+fn is_continued(name: &Option<Name8>) -> bool
+    ensures { result ≡ is_continued name.now }
+{
+    name.is_none()
+}
+
+/// The first DD behind this one that does not continue its concatenation, or the number of the step's DDs.
+pub fn members_end<T: JobText>(text: &T, step: usize, dd: usize) -> usize
+    requires reads { T.reads text.now }
+    requires step { step < length (T.plan text.now).steps }
+    requires dd { dd < length (step_at (T.plan text.now).steps step).dds }
+    ensures members { take (result - dd) (drop dd (step_at (T.plan text.now).steps step).dds) ≡ members_at (drop dd (step_at (T.plan text.now).steps step).dds) }
+    ensures within { (dd < result) × (result ≤ length (step_at (T.plan text.now).steps step).dds) }
+{
+    let count = text.dd_count(step);
+    for next in dd + 1..count {
+        if !is_continued(&text.dd_name(step, next)) {
+            return next;
+        }
     }
     count
 }
 
-/// A DD and those that continue its concatenation.
-pub fn members_at(dds: &[DdPlan]) -> &[DdPlan]
-    ensures { result.now ≡ members_at dds.now }
+/// Whether a DD and those that continue it are several.
+pub fn is_concatenated<T: JobText>(text: &T, step: usize, dd: usize) -> bool
+    requires reads { T.reads text.now }
+    requires step { step < length (T.plan text.now).steps }
+    requires dd { dd < length (step_at (T.plan text.now).steps step).dds }
+    ensures { result ≡ is_concatenated (drop dd (step_at (T.plan text.now).steps step).dds) }
 {
-    match dds.split_first() {
-        None => dds,
-        Some((_, others)) => &dds[..1 + continuing(others)],
-    }
-}
-
-/// Whether it is a concatenation of several.
-pub fn is_concatenated(dds: &[DdPlan]) -> bool
-    ensures { result ≡ is_concatenated dds.now }
-{
-    match dds.split_first() {
-        None => false,
-        Some((_, others)) => continuing(others) > 0,
+    let count = text.dd_count(step);
+    let next = dd + 1;
+    if next < count {
+        is_continued(&text.dd_name(step, next))
+    } else {
+        false
     }
 }

@@ -13,8 +13,10 @@ use jcl_meaning::words::passes;
 use jcl_plan::outcome::{Code, Outcome};
 use jcl_plan::plan::{DdPlan, JobPlan, StepPlan};
 use jname_core::serial::Serial;
+use job_text::texts::kind_text;
 use plain::listed::Listed;
 use request_core::ask::ask;
+use request_core::here::Asking;
 use request_core::request::receive;
 use row_table::told::Told;
 use shared_core::store::SharedStore;
@@ -166,17 +168,27 @@ impl Way<'_> {
         self.answers.is_cancelled(self.course.own.lines)
     }
 
-    /// A request; where it asks for tracks, an answer is used up.
-    fn ask<S: Growths>(
-        &mut self,
-        store: &mut S,
-        step: &StepPlan,
-        wants: &Move,
-    ) -> Result<(), AllocError> {
-        let cancelled = self.is_cancelled();
+    /// The start of a step.
+    fn begin(&mut self, n: usize) -> Result<(), AllocError> {
+        if n == 0 || n > self.plan.steps.len() {
+            return Ok(());
+        }
+        begin(self.plan, &self.given, &mut self.course, n)
+    }
+
+    /// A request of a step; where it asks for tracks, an answer is used up.
+    fn ask<S: Growths>(&mut self, store: &mut S, n: usize, wants: &Move) -> Result<(), AllocError> {
+        if n == 0 || n > self.plan.steps.len() {
+            return Ok(());
+        }
+        let asking = Asking {
+            job: JOB,
+            step: n - 1,
+            wants,
+            cancelled: self.is_cancelled(),
+        };
         store.next_growth(self.answers.is_granted());
-        let course = &mut self.course;
-        if ask(self.alloc, store, JOB, course, step, wants, cancelled)? {
+        if ask(self.alloc, self.plan, store, &mut self.course, &asking)? {
             self.answers.grants = others(self.answers.grants);
         }
         Ok(())
@@ -192,13 +204,13 @@ impl Way<'_> {
         let given = &self.given;
         let course = &mut self.course;
         match action {
-            Action::Start => begin(given, course, at.n, at.step),
+            Action::Start => self.begin(at.n),
             Action::Take(dd, d) => {
                 let site = at.site(dd, d);
-                take(self.alloc, store, given, course, &site, &d.kind)?;
+                take(self.alloc, store, given, course, &site, &kind_text(&d.kind))?;
                 Ok(())
             }
-            Action::Ask(wants) => self.ask(store, at.step, wants),
+            Action::Ask(wants) => self.ask(store, at.n, wants),
             Action::Receive => {
                 let cancelled = self.answers.is_cancelled(course.own.lines);
                 receive(store, JOB, course, cancelled)
@@ -206,7 +218,7 @@ impl Way<'_> {
             Action::Finish => self.answers.finish(self.alloc, course, at.n),
             Action::Dispose(dd, d) => dispose_of(store, given, course, &at.site(dd, d), d),
             Action::Left(dd, d) => {
-                leave(store, given, course, &at.site(dd, d), &d.kind)?;
+                leave(store, given, course, &at.site(dd, d), &kind_text(&d.kind))?;
                 Ok(())
             }
             Action::Over => end(course),
@@ -223,7 +235,7 @@ fn dispose_of<S: JobStore>(
     d: &DdPlan,
 ) -> Result<(), AllocError> {
     if site.dd > 0 {
-        dispose(store, given, course, site, &d.kind)?;
+        dispose(store, given, course, site, &kind_text(&d.kind))?;
     }
     Ok(())
 }

@@ -25,7 +25,7 @@ use Rattle.disp_core.specs.declared.course.Course.{Course}
 use Rattle.request_core.specs.Requests.{CarriedRequest, CarriedUnless, Grants, Growth, answers_left, growth_asked}
 use Rattle.world_meaning.specs.Turns.{answers_due, end_of, outcomes_due}
 use Rattle.turn_core.specs.Performing.{HasActed, Performs, StoreAnswers, granting_by, growth_granted}
-use Rattle.turn_core.specs.Places.{IsOfStep, action_of}
+use Rattle.turn_core.specs.Places.{action_of}
 use Rattle.turn_core.specs.declared.todo.Task.{Task}
 
 pub has_acted : (done : Done) (seen : Store) (after before : Course) (answers : Answers) (meets : Option Fault) (made : Option Place) →
@@ -113,6 +113,5 @@ module _ (programs : List SoloProgram) (steps : List StepPlan) (grants : StoreAn
       has_acted (left_at fixed n dd d.name d.kind (state_at old before.own a)) new after before a meets None (h a)
 
 -- of the action at hand
-abbrev pub PerformsTask : List SoloProgram → StoreAnswers → Bool → Fixed → Store → Course → Store → Course → Option Place → Task → Type 0
-PerformsTask programs grants cancel fixed old before new after made t =
-    (steps : List StepPlan) → IsOfStep steps t → Performs programs steps grants cancel fixed (action_of t) old before new after made
+abbrev pub PerformsTask : List SoloProgram → List StepPlan → StoreAnswers → Bool → Fixed → Store → Course → Store → Course → Option Place → Task → Type 0
+PerformsTask programs steps grants cancel fixed old before new after made t = Performs programs steps grants cancel fixed (action_of steps t) old before new after made

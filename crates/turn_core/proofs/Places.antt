@@ -1,5 +1,5 @@
 -- What is left of an agenda at each of its places.
-use Rattle.std.proofs.Common.{◌≡◌, ◌+◌, ◌<◌, ◌≤◌, ◌++◌, ◌∷◌, ℕ, suc, true, if◌then◌else◌, List, [], Option, Some, None, drop, length, get_or, slice_get, refl, sym, ap, ◌∙◌, append_assoc, drop-cons, inl, inr, add-one}
+use Rattle.std.proofs.Common.{◌≡◌, ◌+◌, ◌<◌, ◌≤◌, ◌++◌, ◌∷◌, ℕ, suc, true, if◌then◌else◌, List, [], Option, Some, None, drop, length, get_or, slice_get, refl, sym, ap, ◌∙◌, append_assoc, drop-cons, inl, inr, add-one, arith, subst, ◌-◌}
 use Rattle.std.proofs.lemmas.List.{drop_all}
 use Rattle.std.proofs.lemmas.Option.{get_or_from_slice_get, slice_get-get_or, slice_get_cases, slice_get_read, slice_get_within}
 use Rattle.jcl_plan.specs.declared.plan.DdPlan.{DdPlan}
@@ -7,6 +7,7 @@ use Rattle.jcl_plan.specs.declared.plan.StepPlan.{StepPlan}
 use Rattle.jcl_meaning.specs.declared.program.Move.{Move}
 use Rattle.jcl_meaning.specs.Agendas.{Action, Start, Take, Ask, Receive, Finish, Dispose, Left, Over, disposes_from, lefts_from, lefts_in, moves_from, steps_from, takes_from}
 use Rattle.jcl_meaning.specs.Plans.{passes}
+use Rattle.job_text.specs.Places.{IsDd, IsStep, dd_at, no_dd, no_step, step_at}
 use Rattle.turn_core.specs.Places.{IsNext, LeavesFirst, agenda_at, disposes_left, in_step, lefts_left, requests_left, steps_left, takes_left}
 use Rattle.turn_core.specs.declared.todo.Next.{Next}
 use Rattle.turn_core.specs.declared.todo.Next.TheVariants as next
@@ -94,7 +95,7 @@ lefts_at steps k = by_step (slice_get steps k) refl
 -- what stands first at a place stands first where the same is left
 pub next_along : (moves : List ℕ → List Move) (steps : List StepPlan) (r : Next) (from to : Todo) → agenda_at moves steps from ≡ agenda_at moves steps to →
     IsNext moves steps to r → IsNext moves steps from r
-next_along moves steps (next.Does it behind) from to e h = record { first = e ∙ h.first; counted = h.counted; of_step = h.of_step }
+next_along moves steps (next.Does it behind) from to e h = record { first = e ∙ h.first; there = h.there }
 next_along moves steps next.Over from to e h = e ∙ h
 
 -- the first DD that may have passed a set
@@ -105,12 +106,12 @@ leaves_here : (dds : List DdPlan) (i n : ℕ) (d : DdPlan) → slice_get dds i �
     lefts_in n (i + 1) (drop i dds) ≡ Left n (i + 1) d ∷ lefts_in n (i + 1 + 1) (drop (i + 1) dds)
 leaves_here dds i n d e h = ap (lefts_in n (i + 1)) (drop_at dds i d e) ∙ ap (λ b. (if b then Left n (i + 1) d ∷ [] else []) ++ lefts_in n (i + 1 + 1) (drop (i + 1) dds)) h
 
-pub leaves_first : (dds : List DdPlan) (from i : ℕ) (x : DdPlan) → i < length dds → passes (get_or dds i x).kind ≡ true →
+pub leaves_first : (dds : List DdPlan) (from i : ℕ) → i < length dds → passes (dd_at dds i).kind ≡ true →
     ((n : ℕ) → lefts_in n (from + 1) (drop from dds) ≡ lefts_in n (i + 1) (drop i dds)) → LeavesFirst dds from i
-leaves_first dds from i x lt h before = record {
+leaves_first dds from i lt h before = record {
   within = lt;
   first = λ n d e. before n ∙ leaves_here dds i n d e
-      (ap (λ (q : DdPlan). passes q.kind) (some_is d (get_or dds i x) (sym e ∙ slice_get-get_or dds i x lt)) ∙ h);
+      (ap (λ (q : DdPlan). passes q.kind) (some_is d (dd_at dds i) (sym e ∙ slice_get-get_or dds i no_dd lt)) ∙ h);
 }
 
 -- of a step
@@ -132,3 +133,39 @@ pub started_at : (moves : List ℕ → List Move) (steps : List StepPlan) (k : �
 started_at moves steps k h =
     ap (λ l. steps_from moves (k + 1) l ++ (lefts_from 1 steps ++ (Over ∷ []))) (drop_all k steps h)
     ∙ ap (λ l. l ++ (Over ∷ [])) (lefts_at steps 0)
+
+-- the step and the DD of a number that is there
+pub step_is : (steps : List StepPlan) (k : ℕ) → k < length steps → slice_get steps k ≡ Some (step_at steps k)
+step_is steps k h = slice_get-get_or steps k no_step h
+
+pub dd_is : (dds : List DdPlan) (d : ℕ) → d < length dds → slice_get dds d ≡ Some (dd_at dds d)
+dd_is dds d h = slice_get-get_or dds d no_dd h
+
+-- by its number from 1
+pub one_less : (k : ℕ) → k + 1 - 1 ≡ k
+one_less k = omega arith
+
+pub step_of : (steps : List StepPlan) (k : ℕ) → step_at steps k ≡ step_at steps (k + 1 - 1)
+step_of steps k = ap (step_at steps) (sym (one_less k))
+
+pub dd_of : (steps : List StepPlan) (k d : ℕ) → dd_at (step_at steps k).dds d ≡ dd_at (step_at steps (k + 1 - 1)).dds (d + 1 - 1)
+dd_of steps k d = ap (λ (s : StepPlan). dd_at s.dds d) (step_of steps k) ∙ ap (dd_at (step_at steps (k + 1 - 1)).dds) (sym (one_less d))
+
+pub is_step : (steps : List StepPlan) (k : ℕ) → k < length steps → IsStep steps (k + 1)
+is_step steps k h = (omega arith, omega arith)
+
+pub is_dd : (steps : List StepPlan) (k d : ℕ) → k < length steps → d < length (step_at steps k).dds → IsDd steps (k + 1) (d + 1)
+is_dd steps k d h w = (omega arith, omega arith, omega arith, subst (λ (s : StepPlan). d + 1 ≤ length s.dds) (step_of steps k) (omega arith))
+
+-- an action by the numbers of its step and its DD
+pub by_step : (steps : List StepPlan) (act : ℕ → StepPlan → Action) (k : ℕ) (l rest : List Action) → l ≡ act (k + 1) (step_at steps k) ∷ rest →
+    l ≡ act (k + 1) (step_at steps (k + 1 - 1)) ∷ rest
+by_step steps act k l rest e = e ∙ ap (λ s. act (k + 1) s ∷ rest) (step_of steps k)
+
+pub by_dd : (steps : List StepPlan) (act : ℕ → ℕ → DdPlan → Action) (k d : ℕ) (l rest : List Action) →
+    l ≡ act (k + 1) (d + 1) (dd_at (step_at steps k).dds d) ∷ rest →
+    l ≡ act (k + 1) (d + 1) (dd_at (step_at steps (k + 1 - 1)).dds (d + 1 - 1)) ∷ rest
+by_dd steps act k d l rest e = e ∙ ap (λ x. act (k + 1) (d + 1) x ∷ rest) (dd_of steps k d)
+
+pub step_at_is : (steps : List StepPlan) (n : ℕ) → IsStep steps n → slice_get steps (n - 1) ≡ Some (step_at steps (n - 1))
+step_at_is steps n h = step_is steps (n - 1) (omega (arith, h.0, h.1))

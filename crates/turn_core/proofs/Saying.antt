@@ -38,6 +38,7 @@ use Rattle.prog_core.specs.declared.units.Operation.{Operation}
 use Rattle.prog_core.specs.Operations.{has_operation, is_busy}
 use Rattle.turn_core.specs.Ending.{ended_at, number_over}
 use Rattle.turn_core.specs.Passing.{is_idle, is_left}
+use Rattle.request_core.specs.Requests.{here_at}
 use Rattle.turn_core.specs.Waiting.{volume_at, volume_at_dd, volume_by, volume_due, volume_of, volume_put, volume_unless, waits_at}
 
 pub record Says (lines : List JobLine) (a : Action) (own : Own) (volume : Option (List ℕ)) : Type 0 where
@@ -130,7 +131,7 @@ says_put_unless false name text d x kind s a own q = says_put kind name text d x
 
 -- a request
 says_asked_of : (wants : Move) (step : StepPlan) (d : ℕ) (x : DdState) (dd : DdPlan) (s : State) (a : Action) →
-    volume_asked a s.own ≡ volume_taken x.taken → Says (asks_of step wants d x dd s).lines a s.own (volume_of step wants d x dd s.store s.own.dds)
+    volume_asked a s.own ≡ volume_taken x.taken → Says (asks_of step wants d x dd s).lines a s.own (volume_of step wants (here_at d x) dd s.store s.own.dds)
 says_asked_of (From name) step d x dd s a q = says_got (reads step d x s).text (reads step d x s).serial name d x s (reads step d x s).member (reads step d x s).position a s.own
 says_asked_of (To name text) step d x dd s a q = says_put_unless (is_read_only dd.kind || is_concatenated (drop d step.dds)) name text d x dd.kind s a s.own q
 

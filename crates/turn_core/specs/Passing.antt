@@ -11,7 +11,7 @@ use Rattle.jcl_meaning.specs.EndActs.{passed_by}
 use Rattle.jcl_meaning.specs.States.{Answers, Fixed, asks_open}
 use Rattle.jcl_meaning.specs.Stores.{Store}
 use Rattle.world_meaning.specs.Turns.{advance, state_in}
-use Rattle.turn_core.specs.Places.{IsCounted, IsOfStep, action_of, agenda_at}
+use Rattle.turn_core.specs.Places.{IsThere, action_of, agenda_at}
 use Rattle.turn_core.specs.declared.todo.Todo.{Todo}
 use Rattle.turn_core.specs.declared.todo.Task.{Task}
 use Rattle.turn_core.specs.declared.todo.Next.{Next}
@@ -43,10 +43,9 @@ pub record Passes (own : Own) (from to : List Action) : Type 0 where
 
 -- the first action from a place on that is not passed over, and the place behind it
 pub record Finds (moves : List ℕ → List Move) (steps : List StepPlan) (own : Own) (place : Todo) (it : Task) (behind : Todo) : Type 0 where
-  pub passes : Passes own (agenda_at moves steps place) (action_of it ∷ agenda_at moves steps behind)
-  pub acts : is_idle (action_of it) own ≡ false
-  pub counted : IsCounted it
-  pub of_step : IsOfStep steps it
+  pub passes : Passes own (agenda_at moves steps place) (action_of steps it ∷ agenda_at moves steps behind)
+  pub acts : is_idle (action_of steps it) own ≡ false
+  pub there : IsThere steps it
 
 abbrev pub IsFound : (List ℕ → List Move) → List StepPlan → Own → Todo → Next → Type 0
 IsFound moves steps own place (next.Does it behind) = Finds moves steps own place it behind

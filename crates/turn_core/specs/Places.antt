@@ -4,6 +4,7 @@ use Rattle.jcl_plan.specs.declared.plan.DdPlan.{DdPlan}
 use Rattle.jcl_plan.specs.declared.plan.StepPlan.{StepPlan}
 use Rattle.jcl_meaning.specs.declared.program.Move.{Move}
 use Rattle.jcl_meaning.specs.Agendas.{Action, Start, Take, Ask, Receive, Finish, Dispose, Left, Over, disposes_from, lefts_from, lefts_in, moves_from, steps_from, takes_from}
+use Rattle.job_text.specs.Places.{IsDd, IsStep, dd_at, step_at}
 use Rattle.turn_core.specs.declared.todo.Todo.{Todo}
 use Rattle.turn_core.specs.declared.todo.Todo.TheVariants as todo
 use Rattle.turn_core.specs.declared.todo.Task.{Task}
@@ -43,40 +44,29 @@ agenda_at moves steps (todo.Receive k r) = Receive ∷ in_step (slice_get steps 
 agenda_at moves steps (todo.Dispose k d) = in_step (slice_get steps k) (λ step. disposes_left moves steps k d step)
 agenda_at moves steps (todo.Left k d) = lefts_left (slice_get steps k) (drop (k + 1) steps) k d ++ (Over ∷ [])
 
-abbrev pub action_of : Task → Action
-action_of (task.Start n step) = Start n step.now
-action_of (task.Take n dd d) = Take n dd d.now
-action_of (task.Ask step wants) = Ask step.now wants
-action_of task.Receive = Receive
-action_of (task.Finish n step) = Finish n
-action_of (task.Dispose n dd d) = Dispose n dd d.now
-action_of (task.Left n dd d) = Left n dd d.now
+abbrev pub action_of : List StepPlan → Task → Action
+action_of steps (task.Start n) = Start n (step_at steps (n - 1))
+action_of steps (task.Take n dd) = Take n dd (dd_at (step_at steps (n - 1)).dds (dd - 1))
+action_of steps (task.Ask n wants) = Ask (step_at steps (n - 1)) wants
+action_of steps task.Receive = Receive
+action_of steps (task.Finish n) = Finish n
+action_of steps (task.Dispose n dd) = Dispose n dd (dd_at (step_at steps (n - 1)).dds (dd - 1))
+action_of steps (task.Left n dd) = Left n dd (dd_at (step_at steps (n - 1)).dds (dd - 1))
 
--- DDs count from 1
-abbrev pub IsCounted : Task → Type 0
-IsCounted (task.Start n step) = Unit {0}
-IsCounted (task.Take n dd d) = Unit {0}
-IsCounted (task.Ask step wants) = Unit {0}
-IsCounted task.Receive = Unit {0}
-IsCounted (task.Finish n step) = Unit {0}
-IsCounted (task.Dispose n dd d) = 0 < dd
-IsCounted (task.Left n dd d) = Unit {0}
-
--- the step that ends is the step of that number
-abbrev pub IsOfStep : List StepPlan → Task → Type 0
-IsOfStep steps (task.Start n step) = Unit {0}
-IsOfStep steps (task.Take n dd d) = Unit {0}
-IsOfStep steps (task.Ask step wants) = Unit {0}
-IsOfStep steps task.Receive = Unit {0}
-IsOfStep steps (task.Finish n step) = slice_get steps (n - 1) ≡ Some step.now
-IsOfStep steps (task.Dispose n dd d) = Unit {0}
-IsOfStep steps (task.Left n dd d) = Unit {0}
+-- the job has what an action is about
+abbrev pub IsThere : List StepPlan → Task → Type 0
+IsThere steps (task.Start n) = IsStep steps n
+IsThere steps (task.Take n dd) = IsDd steps n dd
+IsThere steps (task.Ask n wants) = IsStep steps n
+IsThere steps task.Receive = Unit {0}
+IsThere steps (task.Finish n) = IsStep steps n
+IsThere steps (task.Dispose n dd) = IsDd steps n dd
+IsThere steps (task.Left n dd) = IsDd steps n dd
 
 -- an action stands first at a place, and behind it what is left at the next
 pub record StandsAt (moves : List ℕ → List Move) (steps : List StepPlan) (place : Todo) (it : Task) (behind : Todo) : Type 0 where
-  pub first : agenda_at moves steps place ≡ action_of it ∷ agenda_at moves steps behind
-  pub counted : IsCounted it
-  pub of_step : IsOfStep steps it
+  pub first : agenda_at moves steps place ≡ action_of steps it ∷ agenda_at moves steps behind
+  pub there : IsThere steps it
 
 abbrev pub IsNext : (List ℕ → List Move) → List StepPlan → Todo → Next → Type 0
 IsNext moves steps place (next.Does it behind) = StandsAt moves steps place it behind

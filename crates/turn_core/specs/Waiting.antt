@@ -16,6 +16,8 @@ use Rattle.jcl_meaning.specs.RequestActs.{dd_name}
 use Rattle.jcl_meaning.specs.Stores.{Store}
 use Rattle.prog_core.specs.declared.units.Operation.{Operation}
 use Rattle.prog_core.specs.Operations.{has_operation, is_busy}
+use Rattle.request_core.specs.Requests.{here_at}
+use Rattle.request_core.specs.declared.here.Here.{Here}
 use Rattle.world_meaning.specs.Turns.{is_result, volume_taken}
 
 -- of a record that a GET reads from a set
@@ -40,14 +42,14 @@ abbrev pub volume_unless : Bool → DdKind → Option TakenSet → Option (List 
 volume_unless true kind t = None
 volume_unless false kind t = volume_put kind t
 
-abbrev pub volume_of : StepPlan → Move → ℕ → DdState → DdPlan → Store → List DdState → Option (List ℕ)
-volume_of step (From name) d x dd seen dds = volume_reads step d x.member x.position seen dds
-volume_of step (To name text) d x dd seen dds = volume_unless (is_read_only dd.kind || is_concatenated (drop d step.dds)) dd.kind x.taken
+abbrev pub volume_of : StepPlan → Move → Here → DdPlan → Store → List DdState → Option (List ℕ)
+volume_of step (From name) here dd seen dds = volume_reads step here.d here.member here.position seen dds
+volume_of step (To name text) here dd seen dds = volume_unless (is_read_only dd.kind || is_concatenated (drop here.d step.dds)) dd.kind here.taken
 
 abbrev pub volume_at_dd : Option DdState → Option DdPlan → StepPlan → Move → ℕ → Store → List DdState → Option (List ℕ)
 volume_at_dd None dd step wants d seen dds = None
 volume_at_dd (Some x) None step wants d seen dds = None
-volume_at_dd (Some x) (Some dd) step wants d seen dds = volume_of step wants d x dd seen dds
+volume_at_dd (Some x) (Some dd) step wants d seen dds = volume_of step wants (here_at d x) dd seen dds
 
 abbrev pub volume_at : Option ℕ → StepPlan → Move → Store → List DdState → Option (List ℕ)
 volume_at None step wants seen dds = None

@@ -1,5 +1,6 @@
 //! The end of a step whose program is over already, and how it is taken back.
-ghost use Rattle.std.specs.Prelude.{◌≡◌, ◌<◌, IfOk, OnErr, OnOk, is_some, length, true};
+ghost use Rattle.std.specs.Prelude.{◌≡◌, ◌<◌, List, IfOk, OnErr, OnOk, is_some, length, true};
+ghost use Rattle.jcl_plan.specs.declared.plan.StepPlan.{StepPlan};
 ghost use Rattle.turn_core.specs.Ending.{course_ended, ended_at, kept_of, own_before};
 ghost use Rattle.turn_core.specs.Places.{action_of};
 
@@ -22,14 +23,14 @@ pub(crate) struct BeforeEnd {
 
 /// The number of the step that an action ends whose program is over already.
 pub(crate) fn ended_step(task: &Task, own: &Own) -> Option<usize>
-    ensures { result ≡ ended_at (action_of task.now) own.now }
+    ensures { (steps : List StepPlan) → result ≡ ended_at (action_of steps task.now) own.now }
 {
     match task {
         Task::Start { .. } => None,
         Task::Take { .. } => None,
         Task::Ask { .. } => None,
         Task::Receive => None,
-        Task::Finish { n, .. } => match own.over {
+        Task::Finish { n } => match own.over {
             None => None,
             Some(_) => Some(*n),
         },

@@ -6,24 +6,20 @@ use crate::idle::is_idle;
 use crate::next::next;
 use crate::todo::{Next, Todo};
 use jcl_meaning::state::Own;
-use jcl_plan::plan::StepPlan;
+use job_text::text::JobText;
 use prog_core::library::ProgramLibrary;
 
 /// The first action from a place of the agenda on that a turn does not pass over.
-pub(crate) fn find<'a>(
-    steps: &'a [StepPlan],
-    programs: &ProgramLibrary,
-    own: &Own,
-    place: Todo,
-) -> Next<'a>
-    ensures { IsFound (moves_of programs.now) steps.now own.now place result }
+pub(crate) fn find<T: JobText>(text: &T, programs: &ProgramLibrary, own: &Own, place: Todo) -> Next
+    requires { T.reads text.now }
+    ensures { IsFound (moves_of programs.now) (T.plan text.now).steps own.now place result }
 {
     let mut todo = place;
     loop {
-        match next(steps, programs, todo) {
+        match next(text, programs, todo) {
             Next::Over => return Next::Over,
             Next::Does(task, behind) => {
-                if !is_idle(&task, own) {
+                if !is_idle(text, &task, own) {
                     return Next::Does(task, behind);
                 }
                 todo = behind;

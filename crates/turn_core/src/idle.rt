@@ -1,13 +1,16 @@
 //! Actions that say nothing and leave the job's own part as it is.
 ghost use Rattle.std.specs.Prelude.{◌≡◌, ◌-◌, is_some, slice_get};
+ghost use Rattle.jcl_plan.specs.declared.plan.DdKind.{DdKind};
 ghost use Rattle.jcl_meaning.specs.EndActs.{passed_by};
 ghost use Rattle.jcl_meaning.specs.States.{asks_open};
+ghost use Rattle.job_text.specs.Texts.{kind_text};
 ghost use Rattle.turn_core.specs.Passing.{is_idle, is_left};
-ghost use Rattle.turn_core.specs.Places.{action_of};
+ghost use Rattle.turn_core.specs.Places.{IsThere, action_of};
 
 use crate::todo::Task;
 use jcl_meaning::state::{DdState, Own, Passed};
-use jcl_plan::plan::DdKind;
+use job_text::text::JobText;
+use job_text::texts::KindText;
 
 /// Whether the program of the step at hand goes on.
 pub(crate) fn is_open(own: &Own) -> bool
@@ -36,20 +39,22 @@ fn passed_by(passed: &[Passed], n: usize, dd: usize) -> Option<Passed>
 }
 
 /// Whether something that a DD passed was not received.
-fn is_left(kind: &DdKind, passed: &[Passed], n: usize, dd: usize) -> bool
-    ensures { result ≡ is_left kind.now (passed_by passed.now n dd) }
+fn is_left(kind: &KindText, passed: &[Passed], n: usize, dd: usize) -> bool
+    ensures { (d : DdKind) → kind_text d ≡ kind.now → result ≡ is_left d (passed_by passed.now n dd) }
 {
     match kind {
-        DdKind::Sysout(_) => false,
-        DdKind::Dummy => false,
-        DdKind::Cards(_) => false,
-        DdKind::Set(_) => passed_by(passed, n, dd).is_some(),
+        KindText::Sysout(_) => false,
+        KindText::Dummy => false,
+        KindText::Cards(_) => false,
+        KindText::Set(_) => passed_by(passed, n, dd).is_some(),
     }
 }
 
 /// Whether a turn passes over an action.
-pub(crate) fn is_idle(task: &Task, own: &Own) -> bool
-    ensures { result ≡ is_idle (action_of task.now) own.now }
+pub(crate) fn is_idle<T: JobText>(text: &T, task: &Task, own: &Own) -> bool
+    requires reads { T.reads text.now }
+    requires there { IsThere (T.plan text.now).steps task.now }
+    ensures { result ≡ is_idle (action_of (T.plan text.now).steps task.now) own.now }
 {
     match task {
         Task::Start { .. } => false,
@@ -58,6 +63,8 @@ pub(crate) fn is_idle(task: &Task, own: &Own) -> bool
         Task::Receive => !(is_open(own) && own.due.is_some()),
         Task::Finish { .. } => !own.runs,
         Task::Dispose { dd, .. } => !(own.runs && is_taken(own.dds.as_slice(), *dd)),
-        Task::Left { n, dd, d } => !is_left(&d.kind, own.passed.as_slice(), *n, *dd),
+        Task::Left { n, dd } => {
+            !is_left(&text.kind(*n - 1, *dd - 1), own.passed.as_slice(), *n, *dd)
+        }
     }
 }

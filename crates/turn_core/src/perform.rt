@@ -1,10 +1,10 @@
 //! An action carried out.
-ghost use Rattle.std.specs.Prelude.{◌≡◌, List, IfOk, OnErr};
-ghost use Rattle.jcl_plan.specs.declared.plan.StepPlan.{StepPlan};
+ghost use Rattle.std.specs.Prelude.{◌≡◌, ◌-◌, IfOk, OnErr};
 ghost use Rattle.disp_core.specs.Courses.{fixed_by};
 ghost use Rattle.disp_core.specs.Grants.{made_of};
+ghost use Rattle.job_text.specs.Places.{IsDd, dd_at, step_at};
 ghost use Rattle.turn_core.specs.Performing.{Performs};
-ghost use Rattle.turn_core.specs.Places.{IsCounted, IsOfStep, action_of};
+ghost use Rattle.turn_core.specs.Places.{IsThere, action_of};
 
 use crate::todo::Task;
 use crate::walk::Setting;
@@ -12,22 +12,40 @@ use disp_core::course::Course;
 use disp_core::site::Site;
 use disp_core::{dispose, step, take};
 use jcl_meaning::state::Place;
+use job_text::text::JobText;
+use request_core::here::Asking;
 use request_core::{ask, request};
 use std::alloc::{AllocError, Global};
 use store_core::job_store::JobStore;
 
+/// Where a DD stands, with its name.
+fn site<T: JobText>(text: &T, job: u16, n: usize, dd: usize) -> Site
+    requires reads { T.reads text.now }
+    requires dd { IsDd (T.plan text.now).steps n dd }
+    ensures { result ≡ record { job = job; step = n; dd = dd; name = (dd_at (step_at (T.plan text.now).steps (n - 1)).dds (dd - 1)).name } }
+{
+    Site {
+        job,
+        step: n,
+        dd,
+        name: text.dd_name(n - 1, dd - 1),
+    }
+}
+
 /// Carries an action out, with the answers of the store; it tells where it made a set. An `Err` changes nothing.
-pub(crate) fn perform<S: JobStore>(
+pub(crate) fn perform<T: JobText, S: JobStore>(
     alloc: Global,
+    text: &T,
     setting: &Setting<'_>,
     store: &mut S,
     course: &mut Course,
     task: &Task,
 ) -> Result<Option<Place>, AllocError>
-    requires { IsCounted task.now }
-    ensures ok { IfOk result (λ made. (steps : List StepPlan) → IsOfStep steps task.now →
-        Performs setting.now.programs.now steps (record { new = S.grants_new setting.now.job store.old; growth = S.grants_growth setting.now.job store.old })
-        setting.now.cancelled (fixed_by setting.now.given) (action_of task.now)
+    requires reads { T.reads text.now }
+    requires there { IsThere (T.plan text.now).steps task.now }
+    ensures ok { IfOk result (λ made.
+        Performs setting.now.programs.now (T.plan text.now).steps (record { new = S.grants_new setting.now.job store.old; growth = S.grants_growth setting.now.job store.old })
+        setting.now.cancelled (fixed_by setting.now.given) (action_of (T.plan text.now).steps task.now)
         (S.seen setting.now.job store.old) course.old (S.seen setting.now.job store.new) course.new made) }
     ensures rest { IfOk result (λ made. S.takes setting.now.job (made_of made) (S.rest setting.now.job store.old) (S.rest setting.now.job store.new)) }
     ensures err { OnErr result ((store.new ≡ store.old) × (course.new ≡ course.old)) }
@@ -36,51 +54,46 @@ pub(crate) fn perform<S: JobStore>(
     let given = &setting.given;
     let cancelled = setting.cancelled;
     match task {
-        Task::Start { n, step } => {
-            step::begin(given, course, *n, step)?;
+        Task::Start { n } => {
+            step::begin(text, given, course, *n)?;
             Ok(None)
         }
-        Task::Take { n, dd, d } => {
-            let at = Site {
-                job,
-                step: *n,
-                dd: *dd,
-                name: d.name,
-            };
-            let taken = take::take(alloc, store, given, course, &at, &d.kind)?;
+        Task::Take { n, dd } => {
+            let at = site(text, job, *n, *dd);
+            let kind = text.kind(*n - 1, *dd - 1);
+            let taken = take::take(alloc, store, given, course, &at, &kind)?;
             Ok(taken.made)
         }
-        Task::Ask { step, wants } => {
-            ask::ask(alloc, store, job, course, step, wants, cancelled)?;
+        Task::Ask { n, wants } => {
+            let asking = Asking {
+                job,
+                step: *n - 1,
+                wants,
+                cancelled,
+            };
+            ask::ask(alloc, text, store, course, &asking)?;
             Ok(None)
         }
         Task::Receive => {
             request::receive(store, job, course, cancelled)?;
             Ok(None)
         }
-        Task::Finish { n, step } => {
+        Task::Finish { n } => {
+            let step = text.step(*n - 1);
             let outcome = setting.programs.ending_of(&step.program);
             step::finish(alloc, course, *n, &outcome, cancelled)?;
             Ok(None)
         }
-        Task::Dispose { n, dd, d } => {
-            let at = Site {
-                job,
-                step: *n,
-                dd: *dd,
-                name: d.name,
-            };
-            dispose::dispose(store, given, course, &at, &d.kind)?;
+        Task::Dispose { n, dd } => {
+            let at = site(text, job, *n, *dd);
+            let kind = text.kind(*n - 1, *dd - 1);
+            dispose::dispose(store, given, course, &at, &kind)?;
             Ok(None)
         }
-        Task::Left { n, dd, d } => {
-            let at = Site {
-                job,
-                step: *n,
-                dd: *dd,
-                name: d.name,
-            };
-            dispose::leave(store, given, course, &at, &d.kind)?;
+        Task::Left { n, dd } => {
+            let at = site(text, job, *n, *dd);
+            let kind = text.kind(*n - 1, *dd - 1);
+            dispose::leave(store, given, course, &at, &kind)?;
             Ok(None)
         }
     }

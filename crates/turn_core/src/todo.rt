@@ -1,6 +1,5 @@
 //! Where a job is in its agenda, and what it does there.
 use jcl_meaning::program::Move;
-use jcl_plan::plan::{DdPlan, StepPlan};
 
 /// Where a job is in its agenda. Steps, DDs and requests count from 0.
 #[derive(Clone, Copy, PartialEq, Eq)]
@@ -21,21 +20,21 @@ pub enum Todo {
 
 /// An action of a job's agenda, but for the last. Steps and DDs count from 1.
 #[derive(Clone, Copy)]
-pub(crate) enum Task<'a> {
-    Start { n: usize, step: &'a StepPlan },
-    Take { n: usize, dd: usize, d: &'a DdPlan },
-    Ask { step: &'a StepPlan, wants: Move },
+pub(crate) enum Task {
+    Start { n: usize },
+    Take { n: usize, dd: usize },
+    Ask { n: usize, wants: Move },
     Receive,
-    Finish { n: usize, step: &'a StepPlan },
-    Dispose { n: usize, dd: usize, d: &'a DdPlan },
-    Left { n: usize, dd: usize, d: &'a DdPlan },
+    Finish { n: usize },
+    Dispose { n: usize, dd: usize },
+    Left { n: usize, dd: usize },
 }
 
 /// What a job does at a place of its agenda.
 #[derive(Clone, Copy)]
-pub(crate) enum Next<'a> {
+pub(crate) enum Next {
     /// An action, and the place behind it.
-    Does(Task<'a>, Todo),
+    Does(Task, Todo),
     /// The job's end.
     Over,
 }

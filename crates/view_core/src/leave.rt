@@ -10,6 +10,7 @@ use disp_core::dispose;
 use disp_core::site::Site;
 use jcl_meaning::words::passes;
 use jcl_plan::plan::{DdPlan, StepPlan};
+use job_text::texts::kind_text;
 use std::alloc::{AllocError, Global};
 use view_domain::crossed::Stop;
 
@@ -83,7 +84,7 @@ pub(crate) fn leave_all(
             given,
             &mut under.course,
             &at,
-            &left.plan.kind,
+            &kind_text(&left.plan.kind),
         )?;
         if let Some(fault) = meets {
             return Ok(Some(Stop {

@@ -6,14 +6,14 @@ use Rattle.disp_core.specs.Acting.{Meets, at_site}
 use Rattle.disp_core.proofs.dispose.dispose.Goals as goal
 
 pub returns-in_default : goal.returns-in_default
-returns-in_default g c =
+returns-in_default g c dd e =
     let at = c.args.at.now in
     let seen = g.S.JobStore.seen at.job c.args.store.now in
     let course = c.args.course.now in record {
       ok = subst
-          (λ b. Meets (λ s. if_runs b s (at_site (disposes (slice_get s.own.dds (at.dd - 1))) c.args.given.now at c.args.kind.now s)) seen course seen course None)
+          (λ b. Meets (λ s. if_runs b s (at_site (disposes (slice_get s.own.dds (at.dd - 1))) c.args.given.now at dd s)) seen course seen course None)
           (sym c.if-not-course.false)
-          (subst (λ o. Meets (λ s. at_site (disposes o) c.args.given.now at c.args.kind.now s) seen course seen course None)
+          (subst (λ o. Meets (λ s. at_site (disposes o) c.args.given.now at dd s) seen course seen course None)
           (sym c.in_default.is ∙ c.in_ok-x.ensures ∙ ap (λ l. slice_get l (at.dd - 1)) c.as_slice.ensures)
           (carried_silently seen course));
       err = tt;
@@ -21,20 +21,20 @@ returns-in_default g c =
     }
 
 pub returns : goal.returns
-returns g c =
+returns g c dd e =
     let at = c.args.at.now in
     let seen = g.S.JobStore.seen at.job c.args.store.now in
     let after = g.S.JobStore.seen at.job c.dispose_at.new.store in
     let course = c.args.course.now in record {
       ok = subst
           (λ b. IfOk c.dispose_at.result (λ meets.
-          Meets (λ s. if_runs b s (at_site (disposes (slice_get s.own.dds (at.dd - 1))) c.args.given.now at c.args.kind.now s)) seen course after c.dispose_at.new.course meets))
+          Meets (λ s. if_runs b s (at_site (disposes (slice_get s.own.dds (at.dd - 1))) c.args.given.now at dd s)) seen course after c.dispose_at.new.course meets))
           (sym c.if-not-course.false)
           (subst
           (λ o. IfOk c.dispose_at.result (λ meets.
-          Meets (λ s. at_site (disposes o) c.args.given.now at c.args.kind.now s) seen course after c.dispose_at.new.course meets))
+          Meets (λ s. at_site (disposes o) c.args.given.now at dd s) seen course after c.dispose_at.new.course meets))
           (sym c.in-Some.is ∙ c.in_ok-x.ensures ∙ ap (λ l. slice_get l (at.dd - 1)) c.as_slice.ensures)
-          c.dispose_at.ensures.ok);
-      err = c.dispose_at.ensures.err;
-      rest = c.dispose_at.ensures.rest;
+          (c.dispose_at.ensures dd e).ok);
+      err = (c.dispose_at.ensures dd e).err;
+      rest = (c.dispose_at.ensures dd e).rest;
     }

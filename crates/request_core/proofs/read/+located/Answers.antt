@@ -1,32 +1,32 @@
-use Rattle.std.proofs.Common.{◌≡◌, ap, sym, true, false, ◌∙◌}
-use Rattle.jcl_meaning.specs.Programs.{at_source, located, source_of, sources_from, taken_at}
+use Rattle.std.proofs.Common.{ap, nat_lt, sym, slice_get, ◌∙◌, ◌+◌, ◌-◌}
+use Rattle.jcl_meaning.specs.Programs.{at_source, source_of, taken_at}
+use Rattle.job_text.specs.Places.{dd_at, step_at}
 use Rattle.request_core.specs.Requests.{is_read_on}
-use Rattle.request_core.proofs.Reading.{reads_here, reads_on}
+use Rattle.request_core.proofs.Reading.{found_is, located_here, located_on}
 use Rattle.request_core.proofs.read.+located.Goals as goal
 
 pub returns-then-is_read_on : goal.returns-then-is_read_on
-returns-then-is_read_on g m c =
+returns-then-is_read_on g t c =
     let seen = g.S.JobStore.seen c.args.job c.args.store.now in
-    let dd = c.in-Some.dd.now in
-    let rest = c.in-Some.rest.now in
-    let states = c.args.states.now in
+    let of = c.args.of.now in
     let n = c.args.n in
-    let on : is_read_on (source_of seen dd.kind (taken_at states n)) rest c.args.position ≡ true =
-    sym (c.is_read_on.ensures ∙ ap (λ t. is_read_on (source_of seen dd.kind t) rest c.args.position) c.taken_at-t.ensures) ∙ c.if-is_read_on.true in
+    let dds = (step_at (g.T.JobText.plan c.args.text.now).steps of.step).dds in
+    let kind = (dd_at dds n).kind in
     c.located.ensures
-    ∙ sym (reads_on seen dd rest states n c.args.member c.args.position on)
-    ∙ ap (λ l. located (sources_from seen l states n) c.args.member c.args.position) (sym c.in-Some.ensures.cases.0)
+    ∙ located_on seen dds of.states.now of.first n of.end c.args.position c.requires.members.0 c.requires.members.1 c.requires.members.2
+    (ap (λ taken. is_read_on (source_of seen kind taken) (nat_lt (n + 1) of.end) c.args.position) (sym c.taken_at-t.ensures)
+    ∙ sym (c.is_read_on.ensures kind (sym c.kind-kind.ensures)) ∙ c.if-is_read_on.true)
 
-pub returns-else-is_read_on : goal.returns-else-is_read_on
-returns-else-is_read_on g m c =
+pub returns : goal.returns
+returns g t c =
     let seen = g.S.JobStore.seen c.args.job c.args.store.now in
-    let dd = c.in-Some.dd.now in
-    let rest = c.in-Some.rest.now in
-    let states = c.args.states.now in
+    let of = c.args.of.now in
     let n = c.args.n in
-    let off : is_read_on (source_of seen dd.kind (taken_at states n)) rest c.args.position ≡ false =
-    sym (c.is_read_on.ensures ∙ ap (λ t. is_read_on (source_of seen dd.kind t) rest c.args.position) c.taken_at-t.ensures) ∙ c.if-is_read_on.false in
-    c.found_at.ensures
-    ∙ ap (λ t. at_source (source_of seen dd.kind t) c.args.member c.args.position) c.taken_at-t.ensures
-    ∙ sym (reads_here seen dd rest states n c.args.member c.args.position off)
-    ∙ ap (λ l. located (sources_from seen l states n) c.args.member c.args.position) (sym c.in-Some.ensures.cases.0)
+    let dds = (step_at (g.T.JobText.plan c.args.text.now).steps of.step).dds in
+    let kind = (dd_at dds n).kind in
+    found_is (source_of seen kind (taken_at of.states.now n)) (n - of.first) c.args.position c.text_at.result c.serial_of.result
+    (c.text_at.ensures ∙ ap (λ taken. slice_get (source_of seen kind taken).records c.args.position) c.taken_at-t.ensures)
+    (c.serial_of.ensures kind (sym c.kind-kind.ensures) ∙ ap (λ taken. (source_of seen kind taken).serial) c.taken_at-t.ensures)
+    ∙ located_here seen dds of.states.now of.first n of.end c.args.position c.requires.members.1 c.requires.members.2
+    (ap (λ taken. is_read_on (source_of seen kind taken) (nat_lt (n + 1) of.end) c.args.position) (sym c.taken_at-t.ensures)
+    ∙ sym (c.is_read_on.ensures kind (sym c.kind-kind.ensures)) ∙ c.if-is_read_on.false)

@@ -1,30 +1,23 @@
-use Rattle.std.proofs.Common.{◌+◌, ap, sym, ◌∙◌, drop}
-use Rattle.jcl_meaning.specs.Programs.{located, members_at, sources_from}
-use Rattle.request_core.proofs.Reading.{sources_drop, sources_past, to_end}
+use Rattle.std.proofs.Common.{ap, sym, ◌∙◌}
+use Rattle.jcl_meaning.specs.Programs.{located}
+use Rattle.job_text.specs.Places.{step_at}
+use Rattle.request_core.proofs.Reading.{read_from, read_past}
 use Rattle.request_core.proofs.read.reads.Goals as goal
 
-pub returns-then-member-members : goal.returns-then-member-members
-returns-then-member-members g c =
+pub returns-then-here-end : goal.returns-then-here-end
+returns-then-here-end g c =
     let seen = g.S.JobStore.seen c.args.job c.args.store.now in
-    let states = c.args.states.now in
-    let d = c.args.d in
-    let member = c.args.member in
-    let position = c.args.position in
-    let here = c.members_at-members.result.now in
-    let is = c.members_at-members.ensures ∙ ap members_at (to_end d c.as_slice.result.now) ∙ ap (λ l. members_at (drop d l)) c.as_slice.ensures in
+    let dds = (step_at (g.T.JobText.plan c.args.text.now).steps c.args.step).dds in
+    let here = c.args.here.now in
     c.located.ensures
-    ∙ ap (λ l. located (sources_from seen l states (d + member)) member position) (to_end member here)
-    ∙ ap (λ xs. located xs member position) (sym (sources_drop seen here states member d))
-    ∙ ap (λ l. located (drop member (sources_from seen l states d)) member position) is
+    ∙ read_from seen dds c.args.states.now here.d here.member c.members_end-end.result here.position c.if-here-end.true
+    c.members_end-end.ensures.within.1 c.members_end-end.ensures.members
 
-pub returns-else-member-members : goal.returns-else-member-members
-returns-else-member-members g c =
+pub returns-else-here-end : goal.returns-else-here-end
+returns-else-here-end g c =
     let seen = g.S.JobStore.seen c.args.job c.args.store.now in
-    let states = c.args.states.now in
-    let d = c.args.d in
-    let member = c.args.member in
-    let position = c.args.position in
-    let here = c.members_at-members.result.now in
-    let is = c.members_at-members.ensures ∙ ap members_at (to_end d c.as_slice.result.now) ∙ ap (λ l. members_at (drop d l)) c.as_slice.ensures in
-    ap (λ xs. located xs member position) (sym (sources_past seen here states member d c.if-member-members.false))
-    ∙ ap (λ l. located (drop member (sources_from seen l states d)) member position) is
+    let dds = (step_at (g.T.JobText.plan c.args.text.now).steps c.args.step).dds in
+    let here = c.args.here.now in
+    ap (λ xs. located xs here.member here.position)
+    (sym (read_past seen dds c.args.states.now here.d here.member c.members_end-end.result here.position c.if-here-end.false
+    c.members_end-end.ensures.within.1 c.members_end-end.ensures.members))

@@ -5,7 +5,7 @@ use Rattle.turn_core.specs.Places.{agenda_at}
 use Rattle.turn_core.proofs.find.find.Given as goal
 
 abbrev pub invariant-loop-task : goal.invariant-loop-task
-invariant-loop-task l = Passes l.own (agenda_at (moves_of l.programs) l.steps l.fn.place) (agenda_at (moves_of l.programs) l.steps l.todo)
+invariant-loop-task g l = Passes l.own (agenda_at (moves_of l.programs) (g.T.JobText.plan l.text).steps l.fn.place) (agenda_at (moves_of l.programs) (g.T.JobText.plan l.text).steps l.todo)
 
 abbrev pub decreases-loop-task : goal.decreases-loop-task
-decreases-loop-task l = length (agenda_at (moves_of l.programs) l.steps l.todo)
+decreases-loop-task g l = length (agenda_at (moves_of l.programs) (g.T.JobText.plan l.text).steps l.todo)

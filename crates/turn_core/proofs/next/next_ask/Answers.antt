@@ -1,30 +1,36 @@
-use Rattle.std.proofs.Common.{◌≡◌, ◌+◌, ◌-◌, ◌<◌, ◌≤◌, ℕ, Some, length, slice_get, ap, sym, ◌∙◌, arith}
+use Rattle.std.proofs.Common.{◌≡◌, ◌+◌, ◌<◌, ◌≤◌, Some, length, slice_get, ap, subst, sym, ◌∙◌}
+use Rattle.jcl_meaning.specs.Agendas.{Ask}
 use Rattle.jcl_meaning.specs.Programs.{moves_of}
-use Rattle.turn_core.proofs.Places.{ask_at, finish_at, read_at}
+use Rattle.job_text.specs.Places.{step_at}
+use Rattle.job_text.specs.declared.texts.StepText.{StepText}
+use Rattle.turn_core.specs.Places.{agenda_at}
+use Rattle.turn_core.specs.declared.todo.Todo.TheVariants as todo
+use Rattle.turn_core.proofs.Places.{ask_at, by_step, finish_at, is_step, step_is}
 use Rattle.turn_core.proofs.next.next_ask.Goals as goal
 
-one_less : (k : ℕ) → k + 1 - 1 ≡ k
-one_less k = omega arith
-
 pub returns-then-request-move_count : goal.returns-then-request-move_count
-returns-then-request-move_count c =
+returns-then-request-move_count g c =
     let moves = moves_of c.args.programs.now in
-    let steps = c.args.steps.now in
-    let step = c.index-steps-k.result in
-    let lt : c.args.k < length steps = omega arith in
-    let is : slice_get (moves step.program) c.args.request ≡ Some c.in-Some.wants = sym c.move_at.ensures ∙ c.in-Some.is in
-    record { first = ask_at moves steps c.args.k c.args.request step c.in-Some.wants (read_at steps c.args.k step lt c.index-steps-k.is) is; counted = tt; of_step = tt }
+    let steps = (g.T.JobText.plan c.args.text.now).steps in
+    let k = c.args.k in
+    let r = c.args.request in
+    let step = step_at steps k in
+    let lt = subst (λ m. k < m) c.step_count.ensures c.if-k-step_count.false in
+    let is : slice_get (moves step.program) r ≡ Some c.in-Some.wants =
+    ap (λ (s : StepText). slice_get (moves s.program) r) (sym c.step-step.ensures) ∙ sym c.move_at.ensures ∙ c.in-Some.is in
+    record {
+      first = by_step steps (λ n s. Ask s c.in-Some.wants) k (agenda_at moves steps (todo.Ask k r)) (agenda_at moves steps (todo.Receive k (r + 1)))
+          (ask_at moves steps k r step c.in-Some.wants (step_is steps k lt) is);
+      there = is_step steps k lt;
+    }
 
 pub returns : goal.returns
-returns c =
+returns g c =
     let moves = moves_of c.args.programs.now in
-    let steps = c.args.steps.now in
-    let step = c.index-steps-k.result in
-    let lt : c.args.k < length steps = omega arith in
-    let there : slice_get steps c.args.k ≡ Some step = read_at steps c.args.k step lt c.index-steps-k.is in
-    let past : length (moves step.program) ≤ c.args.request = omega (arith, c.move_count.ensures, c.if-request-move_count.false) in
-    record {
-      first = finish_at moves steps c.args.k c.args.request step there past;
-      counted = tt;
-      of_step = ap (slice_get steps) (one_less c.args.k) ∙ there;
-    }
+    let steps = (g.T.JobText.plan c.args.text.now).steps in
+    let k = c.args.k in
+    let r = c.args.request in
+    let lt = subst (λ m. k < m) c.step_count.ensures c.if-k-step_count.false in
+    let past : length (moves (step_at steps k).program) ≤ r =
+    subst (λ m. m ≤ r) (c.move_count.ensures ∙ ap (λ (s : StepText). length (moves s.program)) c.step-step.ensures) c.if-request-move_count.false in
+    record { first = finish_at moves steps k r (step_at steps k) (step_is steps k lt) past; there = is_step steps k lt }

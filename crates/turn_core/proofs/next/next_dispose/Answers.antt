@@ -1,27 +1,30 @@
-use Rattle.std.proofs.Common.{◌≡◌, ◌+◌, ◌<◌, ◌≤◌, Some, length, slice_get, ap, sym, ◌∙◌, arith}
-use Rattle.jcl_plan.specs.declared.plan.DdPlan.{DdPlan}
-use Rattle.jcl_plan.specs.declared.plan.StepPlan.{StepPlan}
+use Rattle.std.proofs.Common.{◌+◌, ◌<◌, ◌≤◌, subst}
+use Rattle.jcl_meaning.specs.Agendas.{Dispose}
+use Rattle.job_text.specs.Places.{dd_at, step_at}
+use Rattle.turn_core.specs.Places.{agenda_at}
 use Rattle.turn_core.specs.declared.todo.Todo.TheVariants as todo
-use Rattle.turn_core.proofs.Places.{dispose_at, disposed_at, next_along, read_at}
+use Rattle.turn_core.proofs.Places.{by_dd, dd_is, dispose_at, disposed_at, is_dd, next_along, step_is}
 use Rattle.turn_core.proofs.next.next_dispose.Goals as goal
 
-pub returns-then-d-dds : goal.returns-then-d-dds
-returns-then-d-dds c = λ moves.
-    let steps = c.args.steps.now in
-    let step = c.index-steps-k.result in
-    let x = c.index-dds-d.result in
-    let lt : c.args.k < length steps = omega arith in
-    let dds : c.as_slice-dds.result.now ≡ step.dds = c.as_slice-dds.ensures ∙ ap (λ (s : StepPlan). s.dds) (sym c.index-steps-k.is) in
-    let is : slice_get step.dds c.args.d ≡ Some x =
-    ap (λ l. slice_get l c.args.d) (sym dds) ∙ read_at c.as_slice-dds.result.now c.args.d x c.if-d-dds.true c.index-dds-d.is in
-    record { first = dispose_at moves steps c.args.k c.args.d step x (read_at steps c.args.k step lt c.index-steps-k.is) is; counted = omega arith; of_step = tt }
+pub returns-then-d-dd_count : goal.returns-then-d-dd_count
+returns-then-d-dd_count g c = λ moves.
+    let steps = (g.T.JobText.plan c.args.text.now).steps in
+    let k = c.args.k in
+    let d = c.args.d in
+    let step = step_at steps k in
+    let lt = subst (λ m. k < m) c.step_count.ensures c.if-k-step_count.false in
+    let within = subst (λ m. d < m) c.dd_count.ensures c.if-d-dd_count.true in
+    record {
+      first = by_dd steps Dispose k d (agenda_at moves steps (todo.Dispose k d)) (agenda_at moves steps (todo.Dispose k (d + 1)))
+          (dispose_at moves steps k d step (dd_at step.dds d) (step_is steps k lt) (dd_is step.dds d within));
+      there = is_dd steps k d lt within;
+    }
 
 pub returns : goal.returns
-returns c = λ moves.
-    let steps = c.args.steps.now in
-    let step = c.index-steps-k.result in
-    let lt : c.args.k < length steps = omega arith in
-    let dds : c.as_slice-dds.result.now ≡ step.dds = c.as_slice-dds.ensures ∙ ap (λ (s : StepPlan). s.dds) (sym c.index-steps-k.is) in
-    let past : length step.dds ≤ c.args.d = omega (arith, ap (length {A = DdPlan}) dds, c.if-d-dds.false) in
-    next_along moves steps c.next_start.result (todo.Dispose c.args.k c.args.d) (todo.Start (c.args.k + 1))
-    (disposed_at moves steps c.args.k c.args.d step (read_at steps c.args.k step lt c.index-steps-k.is) past) (c.next_start.ensures moves)
+returns g c = λ moves.
+    let steps = (g.T.JobText.plan c.args.text.now).steps in
+    let k = c.args.k in
+    let d = c.args.d in
+    let lt = subst (λ m. k < m) c.step_count.ensures c.if-k-step_count.false in
+    next_along moves steps c.next_start.result (todo.Dispose k d) (todo.Start (k + 1))
+    (disposed_at moves steps k d (step_at steps k) (step_is steps k lt) (subst (λ m. m ≤ d) c.dd_count.ensures c.if-d-dd_count.false)) (c.next_start.ensures moves)

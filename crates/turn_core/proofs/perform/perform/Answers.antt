@@ -1,8 +1,17 @@
-use Rattle.std.proofs.Common.{None, sym}
+use Rattle.std.proofs.Common.{None, ap, sym, ◌-◌, ◌∙◌}
 use Rattle.jcl_meaning.specs.States.{Fixed}
+use Rattle.jcl_meaning.specs.EndActs.{left_at}
+use Rattle.jcl_meaning.specs.Programs.{ending_of}
+use Rattle.disp_core.specs.Acting.{Meets, MeetsIfGranted, at_site, disposition, taking}
 use Rattle.disp_core.specs.Courses.{fixed_by}
+use Rattle.disp_core.specs.Grants.{primary_granted}
+use Rattle.disp_core.specs.declared.site.Site.{Site}
 use Rattle.std.proofs.Common.{subst}
+use Rattle.job_text.specs.Places.{dd_at, step_at}
+use Rattle.job_text.specs.declared.texts.StepText.{StepText}
+use Rattle.turn_core.specs.Places.{IsThere}
 use Rattle.turn_core.specs.Performing.{StoreAnswers}
+use Rattle.turn_core.proofs.Places.{step_at_is}
 use Rattle.turn_core.proofs.Performing.{PerformsTask, performs_ask, performs_dispose, performs_finish, performs_left, performs_receive, performs_start, performs_take}
 use Rattle.turn_core.proofs.perform.perform.Goals as goal
 
@@ -14,8 +23,9 @@ returns-in_ok-begin-in-Start-clause-ok g c =
     let programs = c.args.setting.now.programs.now in
     let cancel = c.args.setting.now.cancelled in
     let before = c.args.course.now in
-    subst (PerformsTask programs grants cancel fixed seen before seen c.begin.new.course None) (sym c.in-Start.is)
-    (λ steps q. performs_start programs steps grants cancel fixed c.in-Start.n c.in-Start.step.now seen before c.begin.new.course c.in_ok-begin-in-Start.ensures.ok)
+    let steps = (g.T.JobText.plan c.args.text.now).steps in
+    subst (PerformsTask programs steps grants cancel fixed seen before seen c.begin.new.course None) (sym c.in-Start.is)
+    (performs_start programs steps grants cancel fixed c.in-Start.n (step_at steps (c.in-Start.n - 1)) seen before c.begin.new.course c.in_ok-begin-in-Start.ensures.ok)
 
 pub returns-in_ok-taken-in-Take-clause-ok : goal.returns-in_ok-taken-in-Take-clause-ok
 returns-in_ok-taken-in-Take-clause-ok g c =
@@ -25,8 +35,15 @@ returns-in_ok-taken-in-Take-clause-ok g c =
     let programs = c.args.setting.now.programs.now in
     let cancel = c.args.setting.now.cancelled in
     let before = c.args.course.now in
-    subst (PerformsTask programs grants cancel fixed seen before (g.S.JobStore.seen c.args.setting.now.job c.take.new.store) c.take.new.course c.in_ok-taken-in-Take.taken.made) (sym c.in-Take.is)
-    (λ steps q. performs_take programs steps grants cancel fixed c.in-Take.n c.in-Take.dd c.in-Take.d.now seen (g.S.JobStore.seen c.args.setting.now.job c.take.new.store) before c.take.new.course c.in_ok-taken-in-Take.taken.meets c.in_ok-taken-in-Take.taken.made c.in_ok-taken-in-Take.ensures.ok)
+    let steps = (g.T.JobText.plan c.args.text.now).steps in
+    let d = dd_at (step_at steps (c.in-Take.n - 1)).dds (c.in-Take.dd - 1) in
+    let after = c.take.new.course in
+    subst (PerformsTask programs steps grants cancel fixed seen before (g.S.JobStore.seen c.args.setting.now.job c.take.new.store) after c.in_ok-taken-in-Take.taken.made) (sym c.in-Take.is)
+    (performs_take programs steps grants cancel fixed c.in-Take.n c.in-Take.dd d seen (g.S.JobStore.seen c.args.setting.now.job c.take.new.store) before after
+    c.in_ok-taken-in-Take.taken.meets c.in_ok-taken-in-Take.taken.made
+    (subst (λ (at : Site). MeetsIfGranted (primary_granted (g.S.JobStore.grants_new at.job c.args.store.now) fixed at.step at.dd d.kind (g.S.JobStore.seen at.job c.args.store.now) before.own)
+    (taking c.args.setting.now.given at d.kind) (g.S.JobStore.seen at.job c.args.store.now) before (g.S.JobStore.seen at.job c.take.new.store) after c.in_ok-taken-in-Take.taken)
+    c.site-at.ensures (c.in_ok-taken-in-Take.ensures d.kind (sym c.kind-kind.ensures)).ok))
 
 pub returns-in_ok-ask-in-Ask-clause-ok : goal.returns-in_ok-ask-in-Ask-clause-ok
 returns-in_ok-ask-in-Ask-clause-ok g c =
@@ -36,8 +53,9 @@ returns-in_ok-ask-in-Ask-clause-ok g c =
     let programs = c.args.setting.now.programs.now in
     let cancel = c.args.setting.now.cancelled in
     let before = c.args.course.now in
-    subst (PerformsTask programs grants cancel fixed seen before (g.S.JobStore.seen c.args.setting.now.job c.ask.new.store) c.ask.new.course None) (sym c.in-Ask.is)
-    (λ steps q. performs_ask programs steps grants cancel fixed c.in-Ask.step.now c.in-Ask.wants seen (g.S.JobStore.seen c.args.setting.now.job c.ask.new.store) before c.ask.new.course c.in_ok-ask-in-Ask.ensures.ok.its_act)
+    let steps = (g.T.JobText.plan c.args.text.now).steps in
+    subst (PerformsTask programs steps grants cancel fixed seen before (g.S.JobStore.seen c.args.setting.now.job c.ask.new.store) c.ask.new.course None) (sym c.in-Ask.is)
+    (performs_ask programs steps grants cancel fixed (step_at steps (c.in-Ask.n - 1)) c.in-Ask.wants seen (g.S.JobStore.seen c.args.setting.now.job c.ask.new.store) before c.ask.new.course c.in_ok-ask-in-Ask.ensures.ok.its_act)
 
 pub returns-in_ok-receive-in-Receive-clause-ok : goal.returns-in_ok-receive-in-Receive-clause-ok
 returns-in_ok-receive-in-Receive-clause-ok g c =
@@ -47,8 +65,9 @@ returns-in_ok-receive-in-Receive-clause-ok g c =
     let programs = c.args.setting.now.programs.now in
     let cancel = c.args.setting.now.cancelled in
     let before = c.args.course.now in
-    subst (PerformsTask programs grants cancel fixed seen before (g.S.JobStore.seen c.args.setting.now.job c.receive.new.store) c.receive.new.course None) (sym c.in-Receive.is)
-    (λ steps q. performs_receive programs steps grants cancel fixed seen (g.S.JobStore.seen c.args.setting.now.job c.receive.new.store) before c.receive.new.course c.in_ok-receive-in-Receive.ensures.ok)
+    let steps = (g.T.JobText.plan c.args.text.now).steps in
+    subst (PerformsTask programs steps grants cancel fixed seen before (g.S.JobStore.seen c.args.setting.now.job c.receive.new.store) c.receive.new.course None) (sym c.in-Receive.is)
+    (performs_receive programs steps grants cancel fixed seen (g.S.JobStore.seen c.args.setting.now.job c.receive.new.store) before c.receive.new.course c.in_ok-receive-in-Receive.ensures.ok)
 
 pub returns-in_ok-finish-in-Finish-clause-ok : goal.returns-in_ok-finish-in-Finish-clause-ok
 returns-in_ok-finish-in-Finish-clause-ok g c =
@@ -58,8 +77,11 @@ returns-in_ok-finish-in-Finish-clause-ok g c =
     let programs = c.args.setting.now.programs.now in
     let cancel = c.args.setting.now.cancelled in
     let before = c.args.course.now in
-    subst (PerformsTask programs grants cancel fixed seen before seen c.finish.new.course None) (sym c.in-Finish.is)
-    (λ steps q. performs_finish programs steps grants cancel fixed c.in-Finish.n c.in-Finish.step.now c.ending_of-outcome.result seen before c.finish.new.course q c.ending_of-outcome.ensures c.in_ok-finish-in-Finish.ensures.ok)
+    let steps = (g.T.JobText.plan c.args.text.now).steps in
+    subst (PerformsTask programs steps grants cancel fixed seen before seen c.finish.new.course None) (sym c.in-Finish.is)
+    (performs_finish programs steps grants cancel fixed c.in-Finish.n (step_at steps (c.in-Finish.n - 1)) c.ending_of-outcome.result seen before c.finish.new.course
+    (step_at_is steps c.in-Finish.n (subst (IsThere steps) c.in-Finish.is c.requires.there))
+    (c.ending_of-outcome.ensures ∙ ap (λ (s : StepText). ending_of programs s.program) c.step-step.ensures) c.in_ok-finish-in-Finish.ensures.ok)
 
 pub returns-in_ok-dispose-in-Dispose-clause-ok : goal.returns-in_ok-dispose-in-Dispose-clause-ok
 returns-in_ok-dispose-in-Dispose-clause-ok g c =
@@ -69,8 +91,15 @@ returns-in_ok-dispose-in-Dispose-clause-ok g c =
     let programs = c.args.setting.now.programs.now in
     let cancel = c.args.setting.now.cancelled in
     let before = c.args.course.now in
-    subst (PerformsTask programs grants cancel fixed seen before (g.S.JobStore.seen c.args.setting.now.job c.dispose.new.store) c.dispose.new.course None) (sym c.in-Dispose.is)
-    (λ steps q. performs_dispose programs steps grants cancel fixed c.in-Dispose.n c.in-Dispose.dd c.in-Dispose.d.now seen (g.S.JobStore.seen c.args.setting.now.job c.dispose.new.store) before c.dispose.new.course c.in_ok-dispose-in-Dispose.field-0 c.in_ok-dispose-in-Dispose.ensures.ok)
+    let steps = (g.T.JobText.plan c.args.text.now).steps in
+    let d = dd_at (step_at steps (c.in-Dispose.n - 1)).dds (c.in-Dispose.dd - 1) in
+    let after = c.dispose.new.course in
+    subst (PerformsTask programs steps grants cancel fixed seen before (g.S.JobStore.seen c.args.setting.now.job c.dispose.new.store) after None) (sym c.in-Dispose.is)
+    (performs_dispose programs steps grants cancel fixed c.in-Dispose.n c.in-Dispose.dd d seen (g.S.JobStore.seen c.args.setting.now.job c.dispose.new.store) before after
+    c.in_ok-dispose-in-Dispose.field-0
+    (subst (λ (at : Site). Meets (disposition c.args.setting.now.given at d.kind) (g.S.JobStore.seen at.job c.args.store.now) before
+    (g.S.JobStore.seen at.job c.dispose.new.store) after c.in_ok-dispose-in-Dispose.field-0)
+    c.site-at-in-Dispose.ensures (c.in_ok-dispose-in-Dispose.ensures d.kind (sym c.kind-kind-in-Dispose.ensures)).ok))
 
 pub returns-in_ok-leave-in-Left-clause-ok : goal.returns-in_ok-leave-in-Left-clause-ok
 returns-in_ok-leave-in-Left-clause-ok g c =
@@ -80,5 +109,12 @@ returns-in_ok-leave-in-Left-clause-ok g c =
     let programs = c.args.setting.now.programs.now in
     let cancel = c.args.setting.now.cancelled in
     let before = c.args.course.now in
-    subst (PerformsTask programs grants cancel fixed seen before (g.S.JobStore.seen c.args.setting.now.job c.leave.new.store) c.leave.new.course None) (sym c.in-Left.is)
-    (λ steps q. performs_left programs steps grants cancel fixed c.in-Left.n c.in-Left.dd c.in-Left.d.now seen (g.S.JobStore.seen c.args.setting.now.job c.leave.new.store) before c.leave.new.course c.in_ok-leave-in-Left.field-0 c.in_ok-leave-in-Left.ensures.ok)
+    let steps = (g.T.JobText.plan c.args.text.now).steps in
+    let d = dd_at (step_at steps (c.in-Left.n - 1)).dds (c.in-Left.dd - 1) in
+    let after = c.leave.new.course in
+    subst (PerformsTask programs steps grants cancel fixed seen before (g.S.JobStore.seen c.args.setting.now.job c.leave.new.store) after None) (sym c.in-Left.is)
+    (performs_left programs steps grants cancel fixed c.in-Left.n c.in-Left.dd d seen (g.S.JobStore.seen c.args.setting.now.job c.leave.new.store) before after
+    c.in_ok-leave-in-Left.field-0
+    (subst (λ (at : Site). Meets (at_site left_at c.args.setting.now.given at d.kind) (g.S.JobStore.seen at.job c.args.store.now) before
+    (g.S.JobStore.seen at.job c.leave.new.store) after c.in_ok-leave-in-Left.field-0)
+    c.site-at-in-Left.ensures (c.in_ok-leave-in-Left.ensures d.kind (sym c.kind-kind-in-Left.ensures)).ok))

@@ -15,20 +15,20 @@ use Rattle.turn_core.proofs.turn.+turn_from.Goals as goal
 pub turn_from-requires : goal.turn_from-requires
 turn_from-requires g t c =
     let moves = moves_of c.args.setting.now.programs.now in
-    let steps = c.args.plan.now.steps in
+    let steps = (g.T.JobText.plan c.args.text.now).steps in
     let before = c.args.walk.now.course in
     let from = agenda_at moves steps c.args.walk.now.todo in
     let found : Finds moves steps before.own c.args.walk.now.todo c.in-Does.task c.in-Does.behind =
-    subst (λ (l : List StepPlan). Finds moves l before.own c.args.walk.now.todo c.in-Does.task c.in-Does.behind) c.as_slice.ensures c.in-Does.ensures in
-    let a = action_of c.in-Does.task in
+    c.in-Does.ensures in
+    let a = action_of steps c.in-Does.task in
     let rest = agenda_at moves steps c.in-Does.behind in
-    λ κs h. (below _ _ t (fewer found.passes.passed from rest a found.passes.left) c.decreases, h)
+    λ κs h. (below _ _ t (fewer found.passes.passed from rest a found.passes.left) c.decreases, (h.0, (h.1, c.requires)))
 
 pub returns-in-Over-clause-ok : goal.returns-in-Over-clause-ok
 returns-in-Over-clause-ok g t c = λ count.
     let w : Around = record {
       programs = c.args.setting.now.programs.now;
-      steps = c.args.plan.now.steps;
+      steps = (g.T.JobText.plan c.args.text.now).steps;
       fixed = fixed_by c.args.setting.now.given;
       operations = c.args.setting.now.units.now;
       job = c.args.setting.now.job;
@@ -36,18 +36,18 @@ returns-in-Over-clause-ok g t c = λ count.
       grants = record { new = g.S.JobStore.grants_new c.args.setting.now.job c.args.store.now; growth = g.S.JobStore.grants_growth c.args.setting.now.job c.args.store.now };
     } in
     let moves = moves_of c.args.setting.now.programs.now in
-    let steps = c.args.plan.now.steps in
+    let steps = (g.T.JobText.plan c.args.text.now).steps in
     let seen = g.S.JobStore.seen c.args.setting.now.job c.args.store.now in
     let before = c.args.walk.now.course in
     let from = agenda_at moves steps c.args.walk.now.todo in
     ends_here w from seen before.own count
-    (subst (λ (l : List StepPlan). IsFound moves l before.own c.args.walk.now.todo next.Over) c.as_slice.ensures c.in-Over.ensures)
+    c.in-Over.ensures
 
 pub returns-in-None-clause-ok : goal.returns-in-None-clause-ok
 returns-in-None-clause-ok g t c =
     let w : Around = record {
       programs = c.args.setting.now.programs.now;
-      steps = c.args.plan.now.steps;
+      steps = (g.T.JobText.plan c.args.text.now).steps;
       fixed = fixed_by c.args.setting.now.given;
       operations = c.args.setting.now.units.now;
       job = c.args.setting.now.job;
@@ -55,26 +55,26 @@ returns-in-None-clause-ok g t c =
       grants = record { new = g.S.JobStore.grants_new c.args.setting.now.job c.args.store.now; growth = g.S.JobStore.grants_growth c.args.setting.now.job c.args.store.now };
     } in
     let moves = moves_of c.args.setting.now.programs.now in
-    let steps = c.args.plan.now.steps in
+    let steps = (g.T.JobText.plan c.args.text.now).steps in
     let seen = g.S.JobStore.seen c.args.setting.now.job c.args.store.now in
     let before = c.args.walk.now.course in
     let from = agenda_at moves steps c.args.walk.now.todo in
     let found : Finds moves steps before.own c.args.walk.now.todo c.in-Does.task c.in-Does.behind =
-    subst (λ (l : List StepPlan). Finds moves l before.own c.args.walk.now.todo c.in-Does.task c.in-Does.behind) c.as_slice.ensures c.in-Does.ensures in
-    let a = action_of c.in-Does.task in
+    c.in-Does.ensures in
+    let a = action_of steps c.in-Does.task in
     let rest = agenda_at moves steps c.in-Does.behind in
     let new = g.S.JobStore.seen c.args.setting.now.job c.turn_at.new.store in
     let after = c.turn_at.new.walk.course in
     if_ok_both c.turn_at.result (λ told h e.
     tells_to told w from (agenda_at moves steps) seen new before after c.turn_at.new.walk.todo c.in-Does.behind e
-    (tells_on told w from (a ∷ rest) rest seen new before after found.passes (h steps rest found.of_step)))
+    (tells_on told w from (a ∷ rest) rest seen new before after found.passes (h rest)))
     c.turn_at.ensures.ok c.turn_at.ensures.place
 
 pub returns-in-Ok-Acts-clause-ok : goal.returns-in-Ok-Acts-clause-ok
 returns-in-Ok-Acts-clause-ok g t c =
     let w : Around = record {
       programs = c.args.setting.now.programs.now;
-      steps = c.args.plan.now.steps;
+      steps = (g.T.JobText.plan c.args.text.now).steps;
       fixed = fixed_by c.args.setting.now.given;
       operations = c.args.setting.now.units.now;
       job = c.args.setting.now.job;
@@ -82,15 +82,15 @@ returns-in-Ok-Acts-clause-ok g t c =
       grants = record { new = g.S.JobStore.grants_new c.args.setting.now.job c.args.store.now; growth = g.S.JobStore.grants_growth c.args.setting.now.job c.args.store.now };
     } in
     let moves = moves_of c.args.setting.now.programs.now in
-    let steps = c.args.plan.now.steps in
+    let steps = (g.T.JobText.plan c.args.text.now).steps in
     let seen = g.S.JobStore.seen c.args.setting.now.job c.args.store.now in
     let before = c.args.walk.now.course in
     let from = agenda_at moves steps c.args.walk.now.todo in
     let found : Finds moves steps before.own c.args.walk.now.todo c.in-Does.task c.in-Does.behind =
-    subst (λ (l : List StepPlan). Finds moves l before.own c.args.walk.now.todo c.in-Does.task c.in-Does.behind) c.as_slice.ensures c.in-Does.ensures in
-    let a = action_of c.in-Does.task in
+    c.in-Does.ensures in
+    let a = action_of steps c.in-Does.task in
     let rest = agenda_at moves steps c.in-Does.behind in
-    let ended : ended_at a before.own ≡ Some c.in-Some.n = sym c.in-Some.ensures in
+    let ended : ended_at a before.own ≡ Some c.in-Some.n = sym (c.in-Some.ensures steps) in
     let new = g.S.JobStore.seen c.args.setting.now.job c.turn_from.new.store in
     let after = c.turn_from.new.walk.course in
     let behind = agenda_at moves steps c.turn_from.new.walk.todo in
@@ -104,7 +104,7 @@ pub returns-in-Ok-Waits-clause-ok : goal.returns-in-Ok-Waits-clause-ok
 returns-in-Ok-Waits-clause-ok g t c =
     let w : Around = record {
       programs = c.args.setting.now.programs.now;
-      steps = c.args.plan.now.steps;
+      steps = (g.T.JobText.plan c.args.text.now).steps;
       fixed = fixed_by c.args.setting.now.given;
       operations = c.args.setting.now.units.now;
       job = c.args.setting.now.job;
@@ -112,15 +112,15 @@ returns-in-Ok-Waits-clause-ok g t c =
       grants = record { new = g.S.JobStore.grants_new c.args.setting.now.job c.args.store.now; growth = g.S.JobStore.grants_growth c.args.setting.now.job c.args.store.now };
     } in
     let moves = moves_of c.args.setting.now.programs.now in
-    let steps = c.args.plan.now.steps in
+    let steps = (g.T.JobText.plan c.args.text.now).steps in
     let seen = g.S.JobStore.seen c.args.setting.now.job c.args.store.now in
     let before = c.args.walk.now.course in
     let from = agenda_at moves steps c.args.walk.now.todo in
     let found : Finds moves steps before.own c.args.walk.now.todo c.in-Does.task c.in-Does.behind =
-    subst (λ (l : List StepPlan). Finds moves l before.own c.args.walk.now.todo c.in-Does.task c.in-Does.behind) c.as_slice.ensures c.in-Does.ensures in
-    let a = action_of c.in-Does.task in
+    c.in-Does.ensures in
+    let a = action_of steps c.in-Does.task in
     let rest = agenda_at moves steps c.in-Does.behind in
-    let ended : ended_at a before.own ≡ Some c.in-Some.n = sym c.in-Some.ensures in
+    let ended : ended_at a before.own ≡ Some c.in-Some.n = sym (c.in-Some.ensures steps) in
     let new = g.S.JobStore.seen c.args.setting.now.job c.turn_from.new.store in
     let after = c.turn_from.new.walk.course in
     let behind = agenda_at moves steps c.turn_from.new.walk.todo in
@@ -134,7 +134,7 @@ pub returns-in-Ok-Ends-clause-ok : goal.returns-in-Ok-Ends-clause-ok
 returns-in-Ok-Ends-clause-ok g t c =
     let w : Around = record {
       programs = c.args.setting.now.programs.now;
-      steps = c.args.plan.now.steps;
+      steps = (g.T.JobText.plan c.args.text.now).steps;
       fixed = fixed_by c.args.setting.now.given;
       operations = c.args.setting.now.units.now;
       job = c.args.setting.now.job;
@@ -142,15 +142,15 @@ returns-in-Ok-Ends-clause-ok g t c =
       grants = record { new = g.S.JobStore.grants_new c.args.setting.now.job c.args.store.now; growth = g.S.JobStore.grants_growth c.args.setting.now.job c.args.store.now };
     } in
     let moves = moves_of c.args.setting.now.programs.now in
-    let steps = c.args.plan.now.steps in
+    let steps = (g.T.JobText.plan c.args.text.now).steps in
     let seen = g.S.JobStore.seen c.args.setting.now.job c.args.store.now in
     let before = c.args.walk.now.course in
     let from = agenda_at moves steps c.args.walk.now.todo in
     let found : Finds moves steps before.own c.args.walk.now.todo c.in-Does.task c.in-Does.behind =
-    subst (λ (l : List StepPlan). Finds moves l before.own c.args.walk.now.todo c.in-Does.task c.in-Does.behind) c.as_slice.ensures c.in-Does.ensures in
-    let a = action_of c.in-Does.task in
+    c.in-Does.ensures in
+    let a = action_of steps c.in-Does.task in
     let rest = agenda_at moves steps c.in-Does.behind in
-    let ended : ended_at a before.own ≡ Some c.in-Some.n = sym c.in-Some.ensures in
+    let ended : ended_at a before.own ≡ Some c.in-Some.n = sym (c.in-Some.ensures steps) in
     let new = g.S.JobStore.seen c.args.setting.now.job c.turn_from.new.store in
     let after = c.turn_from.new.walk.course in
     let behind = agenda_at moves steps c.turn_from.new.walk.todo in

@@ -1,13 +1,23 @@
-use Rattle.std.proofs.Common.{[], refl}
+use Rattle.std.proofs.Common.{◌-◌, [], refl, subst, sym}
 use Rattle.jcl_meaning.specs.Acts.{act}
 use Rattle.jcl_meaning.specs.Agendas.{Dispose}
-use Rattle.solo_core.specs.Runners.{answers_by}
+use Rattle.jcl_meaning.specs.Stores.{store_of}
+use Rattle.job_text.specs.Places.{dd_at, step_at}
+use Rattle.disp_core.specs.Acting.{disposition}
+use Rattle.disp_core.specs.Courses as course
+use Rattle.disp_core.specs.declared.site.Site.{Site}
+use Rattle.solo_core.specs.Runners.{answers_by, state_by}
 use Rattle.solo_core.proofs.Carried.{does_told}
 use Rattle.solo_core.proofs.runner.Runner.dispose.Goals as goal
 
 pub returns : goal.returns
 unfolding act
-returns c =
+returns g c =
     let old = c.args.self.now in
-    does_told (Dispose c.args.n c.args.dd c.args.d.now) old (record old { store = c.dispose.new.store; course = c.dispose.new.course }) c.met.new.self c.in_ok-meets.meets []
-    (c.in_ok-meets.ensures.ok (answers_by old)) (record { given = refl; volumes = c.in_ok-meets.ensures.rest }) refl c.in_ok-met.ensures
+    let d = dd_at (step_at (g.T.JobText.plan c.args.text.now).steps (c.args.n - 1)).dds (c.args.dd - 1) in
+    let new = record old { store = c.dispose.new.store; course = c.dispose.new.course } in
+    let told = c.in_ok-meets.ensures d.kind (sym c.kind-kind.ensures) in
+    does_told (Dispose c.args.n c.args.dd d) old new c.met.new.self c.in_ok-meets.meets []
+    (subst (λ (at : Site). course.Does (disposition old.given at d.kind (state_by old)) (store_of new.store.store) new.course old.course (answers_by old) c.in_ok-meets.meets [])
+    c.site-at.ensures (told.ok (answers_by old)))
+    (record { given = refl; volumes = told.rest }) refl c.in_ok-met.ensures

@@ -1,7 +1,8 @@
-use Rattle.std.proofs.Common.{take}
+use Rattle.std.proofs.Common.{◌+◌, take}
 use Rattle.jcl_meaning.specs.Agendas.{lefts_in}
 use Rattle.solo_core.specs.Runners.{Acts}
 use Rattle.solo_core.proofs.runner.Runner.run_lefts_in.Given as goal
+use Rattle.job_text.specs.Places.{step_at}
 
 abbrev pub invariant-loop-i : goal.invariant-loop-i
-invariant-loop-i l = Acts (lefts_in l.n 1 (take l.i l.dds)) l.fn.self l.self
+invariant-loop-i g l = Acts (lefts_in (l.step + 1) 1 (take l.i (step_at (g.T.JobText.plan l.text).steps l.step).dds)) l.fn.self l.self
