@@ -1,5 +1,6 @@
 -- An action of a job over any store, as one fact: what it did, what want of memory leaves, and what becomes of all else in the store.
 use Rattle.std.specs.Prelude.{◌≡◌, ◌-◌, ℕ, Bool, List, [], ◌∷◌, ◌++◌, length, slice_get, Option, Result, IfOk, OnErr, OnOk}
+use Rattle.jname_core.specs.declared.key.Key.{Key}
 use Rattle.jcl_plan.specs.declared.fault.Fault.{Fault}
 use Rattle.jcl_plan.specs.declared.entry.JobLine.TheVariants as line
 use Rattle.jcl_plan.specs.declared.outcome.Outcome.{Outcome}
@@ -7,8 +8,12 @@ use Rattle.jcl_plan.specs.declared.plan.DdKind.{DdKind}
 use Rattle.jcl_plan.specs.declared.plan.SetPlan.{SetPlan}
 use Rattle.jcl_plan.specs.declared.plan.Word.{Word}
 use Rattle.jcl_plan.specs.declared.words.DispWord.TheVariants as disp
+use Rattle.job_text.specs.Texts.{kind_text}
+use Rattle.job_text.specs.declared.texts.KindText.{KindText}
 use Rattle.jcl_meaning.specs.declared.state.TakenSet.{TakenSet}
-use Rattle.jcl_meaning.specs.EndActs.{after_abend, disposes}
+use Rattle.jcl_meaning.specs.declared.state.Disposed.{Disposed}
+use Rattle.jcl_meaning.specs.declared.state.Place.{Place}
+use Rattle.jcl_meaning.specs.EndActs.{after_abend, disposes, set_disposed}
 use Rattle.jcl_meaning.specs.Names.{is_temporary}
 use Rattle.jcl_meaning.specs.Plans.{conditional_meaning, normal_meaning, word_done}
 use Rattle.jcl_meaning.specs.States.{Done, Fixed, State, if_runs}
@@ -36,6 +41,10 @@ disposition given at kind s = if_runs s.own.runs s (at_site (disposes (slice_get
 -- the word done on a set at the end of its step
 abbrev pub word_in : Option Outcome → SetPlan → TakenSet → Word
 word_in over p t = word_done (normal_meaning (is_temporary t.key) p.normal) (conditional_meaning (is_temporary t.key) p.conditional) (after_abend over) t.made
+
+-- a set of which this was decided
+abbrev pub disposed_as : Given → Site → SetPlan → TakenSet → Disposed → State → Done
+disposed_as given at p t disposed s = at_site set_disposed given at p t s disposed
 
 -- the records of a SYSOUT DD stand for the writers
 abbrev pub course_put_out : Site → ℕ → List (List ℕ) → Course → Course
@@ -70,6 +79,20 @@ pub record Makes {S E : Type 0} (store : Ghosts S) (job : ℕ) (does : Store →
   pub ok : IfOk result (λ told. does (store.seen job old) before (store.seen job new) after told)
   pub err : OnErr result ((new ≡ old) × (after ≡ before))
   pub rest : IfOk result (λ told. store.takes job (made_of told.made) (store.rest job old) (store.rest job new))
+
+-- An action of each DD that reads as this.
+abbrev pub ActsAs : {S T E : Type 0} → Ghosts S → ℕ → KindText → (DdKind → Store → Course → Store → Course → T → Type 0) →
+    Result T E → S → Course → S → Course → Type 0
+ActsAs store job kind does result old before new after = (dd : DdKind) → kind_text dd ≡ kind → Acts store job (does dd) result old before new after
+
+-- The same, where what it does goes by the store's own answer to its primary.
+abbrev pub MakesWith : {S E : Type 0} → Ghosts S → ℕ → ((Key → Place → ℕ → Bool) → Store → Course → Store → Course → Taken → Type 0) →
+    Result Taken E → S → Course → S → Course → Type 0
+MakesWith store job does result old before new after = Makes store job (does (store.grants_new job old)) result old before new after
+
+abbrev pub MakesAs : {S E : Type 0} → Ghosts S → ℕ → KindText → (DdKind → (Key → Place → ℕ → Bool) → Store → Course → Store → Course → Taken → Type 0) →
+    Result Taken E → S → Course → S → Course → Type 0
+MakesAs store job kind does result old before new after = (dd : DdKind) → kind_text dd ≡ kind → MakesWith store job (does dd) result old before new after
 
 -- An action that touches no store.
 pub record ActsAside {E : Type 0} (does : Course → Course → Type 0) (result : Result Unit E) (before after : Course) : Type 0 where

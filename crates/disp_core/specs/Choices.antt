@@ -1,5 +1,5 @@
 -- What a take does with the set on which it decided.
-use Rattle.std.specs.Prelude.{ℕ, Bool, List, [], ◌∷◌, ◌++◌, Some, None}
+use Rattle.std.specs.Prelude.{◌≡◌, ℕ, Bool, false, List, [], ◌∷◌, ◌++◌, Some, None}
 use Rattle.jname_core.specs.declared.key.Key.{Key}
 use Rattle.jcl_plan.specs.declared.entry.JobLine.{JobLine}
 use Rattle.jcl_plan.specs.declared.entry.JobLine.TheVariants as line
@@ -12,6 +12,8 @@ use Rattle.jcl_meaning.specs.declared.state.Place.{Place}
 use Rattle.jcl_meaning.specs.declared.state.Resolution.{Resolution}
 use Rattle.jcl_meaning.specs.declared.state.Resolution.TheVariants.{Means}
 use Rattle.jcl_meaning.specs.declared.take.Decision.TheVariants.{Takes}
+use Rattle.jcl_meaning.specs.declared.take.How.TheVariants.{Made}
+use Rattle.store_core.specs.declared.job_store.JobStore.{Ghosts}
 use Rattle.jcl_meaning.specs.Resolutions.{meaning_at}
 use Rattle.jcl_meaning.specs.States.{Fixed}
 use Rattle.jcl_meaning.specs.Stores.{Store}
@@ -29,6 +31,10 @@ use Rattle.disp_core.specs.declared.take.Taken.{Taken}
 -- whether its primary is granted, if it is to be made
 abbrev pub granted_at : (Key → Place → ℕ → Bool) → Site → SetPlan → Chosen → Bool
 granted_at grants at p chosen = granted_on (grants chosen.key) at.step at.dd p (Some chosen.serial)
+
+-- it is to be made, and its primary is not granted
+abbrev pub IsNotGranted : {S : Type 0} → Ghosts S → Site → SetPlan → Chosen → S → Type 0
+IsNotGranted store at p chosen old = (chosen.how ≡ Made) × (granted_at (store.grants_new at.job old) at p chosen ≡ false)
 
 -- where it is made
 abbrev pub made_at : Site → Chosen → List Place

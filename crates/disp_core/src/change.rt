@@ -1,18 +1,18 @@
 //! What a word does to a set, and what it changes.
-ghost use Rattle.std.specs.Prelude.{◌≡◌, ◌<◌, ◌≤◌, Ok, Some, IfSome, OnErr, OnOk, OnSome, is_some, length};
+ghost use Rattle.std.specs.Prelude.{◌≡◌, ◌<◌, ◌≤◌, ◌∷◌, ◌++◌, [], IfSome, OnErr, OnOk, OnSome, is_some, length};
 ghost use Rattle.group_core.specs.Entries.{volume_in};
-ghost use Rattle.group_core.specs.Groups.{GroupState, RollsInRange};
-ghost use Rattle.jname_core.specs.Generations.{base_of, generation_name};
-ghost use Rattle.jname_core.specs.declared.key.Key.TheVariants as key;
+ghost use Rattle.jname_core.specs.Generations.{base_of};
 ghost use Rattle.jcl_meaning.specs.Dispositions.{catalogs, catalogs_by, catalogs_in_group, changed, disposed_by, is_entered_on};
 ghost use Rattle.jcl_meaning.specs.Lists.{member_copied};
-ghost use Rattle.jcl_meaning.specs.Stores.{after_rolling, catalogued, generation_entered, generation_entered_by, group_of, is_unexpired, member_of, name_entered, rolled_off, uncatalogued};
+ghost use Rattle.jcl_meaning.specs.Stores.{catalogued, generation_entered, group_of, is_unexpired, member_of, name_entered, uncatalogued};
 ghost use Rattle.store_core.specs.EnteredNumbers.{TakesNumber};
 ghost use Rattle.disp_core.specs.Entering.{EntersNumber};
 
+use crate::course::Course;
 use group_core::group::{Group, GroupFault, Rolled};
 use jcl_meaning::state::{Change, Disposed, TakenSet};
 use jcl_plan::day::Day;
+use jcl_plan::entry::JobLine;
 use jcl_plan::plan::Word;
 use jcl_plan::words::DispWord;
 use jname_core::ds_name::DsName;
@@ -162,53 +162,6 @@ fn uncatalog<S: JobStore>(store: &mut S, job: u16, key: &Key)
     }
 }
 
-/// Scratches the set of a generation that rolled off, where its group says so and it is expired.
-fn roll_off<S: JobStore>(
-    store: &mut S,
-    job: u16,
-    base: &DsName,
-    number: u16,
-    serial: Serial,
-    scratches: bool,
-    date: Day,
-)
-    requires { (length base.now ≤ 35) × (0 < number) × (number ≤ 9999) }
-    ensures seen { S.seen job store.new ≡ rolled_off scratches date (S.seen job store.old) (key.Named (generation_name base.now number)) serial }
-    ensures rest { S.gives_up (S.rest job store.old) (S.rest job store.new) }
-{
-    let Some(name) = base.generation(number) else {
-        return;
-    };
-    let key = Key::Named(name);
-    if scratches && !is_unexpired(store, job, &key, serial, date) {
-        store.scratch(job, &key, serial);
-    }
-}
-
-/// Deals with the generation that rolled off, if one did.
-fn after_rolling<S: JobStore>(
-    store: &mut S,
-    job: u16,
-    base: &DsName,
-    rolled: Rolled,
-    scratches: bool,
-    date: Day,
-)
-    requires base { length base.now ≤ 35 }
-    requires range { RollsInRange rolled }
-    ensures seen { (g : GroupState) → g.scratch ≡ scratches → S.seen job store.new ≡ after_rolling (Ok rolled) g base.now date (S.seen job store.old) }
-    ensures rest { S.gives_up (S.rest job store.old) (S.rest job store.new) }
-{
-    match rolled {
-        Rolled::Removed { number, serial } => {
-            roll_off(store, job, base, number, serial, scratches, date);
-        }
-        Rolled::Entered => {}
-        Rolled::Lowest => {}
-        Rolled::Same => {}
-    }
-}
-
 /// Enters a number in a group that takes it; the set of one that rolls off is scratched where the group says so and it is expired.
 fn enter_number<S: JobStore>(
     store: &mut S,
@@ -225,8 +178,20 @@ fn enter_number<S: JobStore>(
     ensures seen { EntersNumber base.now number serial scratches date (S.seen job store.old) (S.seen job store.new) }
     ensures rest { S.gives_up (S.rest job store.old) (S.rest job store.new) }
 {
-    let rolled = store.enter_number(job, base, number, serial);
-    after_rolling(store, job, base, rolled, scratches, date);
+    let Rolled::Removed {
+        number: low,
+        serial: its,
+    } = store.enter_number(job, base, number, serial)
+    else {
+        return;
+    };
+    let Some(name) = base.generation(low) else {
+        return;
+    };
+    let key = Key::Named(name);
+    if scratches && !is_unexpired(store, job, &key, its, date) {
+        store.scratch(job, &key, its);
+    }
 }
 
 /// Enters a generation in its group.
@@ -266,37 +231,46 @@ fn catalog<S: JobStore>(
     }
 }
 
-/// Carries a change out. An `Err` is want of memory and changes nothing.
-pub fn change<S: JobStore>(
+/// Writes a line and carries a change out on a set. An `Err` is want of memory and changes nothing.
+pub(crate) fn change<S: JobStore>(
     store: &mut S,
     job: u16,
-    change: Change,
-    key: &Key,
-    serial: Serial,
     date: Day,
+    course: &mut Course,
+    line: JobLine,
+    what: Change,
+    t: &TakenSet,
 ) -> Result<(), AllocError>
-    ensures ok { OnOk result (S.seen job store.new ≡ changed change (S.seen job store.old) key.now serial date) }
-    ensures err { OnErr result (store.new ≡ store.old) }
+    ensures seen { OnOk result (S.seen job store.new ≡ changed what (S.seen job store.old) t.now.key t.now.serial date) }
+    ensures said { OnOk result (course.new ≡ record course.old { lines = course.old.lines ++ line ∷ [] }) }
+    ensures err { OnErr result ((store.new ≡ store.old) × (course.new ≡ course.old)) }
     ensures rest { S.gives_up (S.rest job store.old) (S.rest job store.new) }
 {
-    match change {
+    course.say(line)?;
+    match what {
         Change::Nothing => Ok(()),
         Change::Scratch => {
-            store.scratch(job, key, serial);
+            store.scratch(job, &t.key, t.serial);
             Ok(())
         }
         Change::ScratchAndUncatalog => {
-            store.scratch(job, key, serial);
-            uncatalog(store, job, key);
+            store.scratch(job, &t.key, t.serial);
+            uncatalog(store, job, &t.key);
             Ok(())
         }
-        Change::Catalog => catalog(store, job, key, serial),
+        Change::Catalog => match catalog(store, job, &t.key, t.serial) {
+            Ok(()) => Ok(()),
+            Err(error) => {
+                course.unsay();
+                Err(error)
+            }
+        },
         Change::Uncatalog => {
-            uncatalog(store, job, key);
+            uncatalog(store, job, &t.key);
             Ok(())
         }
         Change::EnterGeneration => {
-            enter_generation(store, job, key, serial, date);
+            enter_generation(store, job, &t.key, t.serial, date);
             Ok(())
         }
     }

@@ -2,20 +2,19 @@
 //! this profile's)
 ghost use Rattle.std.specs.Prelude.{◌≡◌, ◌<◌, ◌==◌, ◌&&◌, ◌∷◌, ◌++◌, [], IfNone, IfOk, IfSome, None, OnErr, OnOk, Some, length, remove, slice_get};
 ghost use Rattle.jcl_plan.specs.declared.entry.JobLine.TheVariants as line;
-ghost use Rattle.jcl_plan.specs.declared.plan.DdKind.{DdKind};
 ghost use Rattle.jcl_plan.specs.declared.words.DispWord.TheVariants as disp;
-ghost use Rattle.jcl_meaning.specs.Dispositions.{changed};
-ghost use Rattle.jcl_meaning.specs.EndActs.{after_abend, disposes_at, leaves, left_at, left_disposed, passed_by, passed_with, tracks_released, set_disposed, set_disposes, without_pass};
+ghost use Rattle.jcl_meaning.specs.Dispositions.{disposed_by};
+ghost use Rattle.jcl_meaning.specs.EndActs.{after_abend, disposes_at, leaves, left_at, left_disposed, passed_by, passed_with};
+ghost use Rattle.jcl_meaning.specs.EndActs.{tracks_released, without_pass};
 ghost use Rattle.jcl_meaning.specs.Takes.{releases};
-ghost use Rattle.job_text.specs.Texts.{kind_text};
-ghost use Rattle.disp_core.specs.Acting.{Acts, Meets, at_site, course_put_out, disposition, word_in};
+ghost use Rattle.disp_core.specs.Acting.{Acts, ActsAs, Meets, at_site, course_put_out, disposed_as, disposition, word_in};
 
 use crate::change::{change, disposed_by};
 use crate::course::{Course, Given, drop_last};
 use crate::site::Site;
 use jcl_meaning::history::is_abend;
 use jcl_meaning::names::is_temporary;
-use jcl_meaning::state::{Change, DdState, Disposed, Output, Passed, TakenSet};
+use jcl_meaning::state::{DdState, Disposed, Output, Passed, TakenSet};
 use jcl_meaning::words::{conditional_meaning, normal_meaning, word_done};
 use jcl_plan::day::Day;
 use jcl_plan::entry::JobLine;
@@ -44,31 +43,6 @@ fn releases(space: &Option<Space>) -> bool
     match space {
         None => false,
         Some(space) => space.release,
-    }
-}
-
-/// Writes a line and carries a change out on a set. An `Err` changes nothing.
-fn say_and_change<S: JobStore>(
-    store: &mut S,
-    job: u16,
-    date: Day,
-    course: &mut Course,
-    line: JobLine,
-    what: Change,
-    t: &TakenSet,
-) -> Result<(), AllocError>
-    ensures seen { OnOk result (S.seen job store.new ≡ changed what (S.seen job store.old) t.now.key t.now.serial date) }
-    ensures said { OnOk result (course.new ≡ record course.old { lines = course.old.lines ++ line ∷ [] }) }
-    ensures err { OnErr result ((store.new ≡ store.old) × (course.new ≡ course.old)) }
-    ensures rest { S.gives_up (S.rest job store.old) (S.rest job store.new) }
-{
-    course.say(line)?;
-    match change(store, job, what, &t.key, t.serial, date) {
-        Ok(()) => Ok(()),
-        Err(error) => {
-            course.unsay();
-            Err(error)
-        }
     }
 }
 
@@ -116,7 +90,7 @@ fn set_disposed<S: JobStore>(
     t: &TakenSet,
     disposed: Disposed,
 ) -> Result<Option<Fault>, AllocError>
-    ensures { Acts S.JobStore at.now.job (Meets (λ s. at_site set_disposed given.now at.now p.now t.now s disposed))
+    ensures { Acts S.JobStore at.now.job (Meets (disposed_as given.now at.now p.now t.now disposed))
         result store.old course.old store.new course.new }
 {
     pass(&mut course.own.passed, disposed.passes, at, t)?;
@@ -125,7 +99,7 @@ fn set_disposed<S: JobStore>(
         name: at.name,
         word: disposed.word,
     };
-    match say_and_change(store, at.job, given.date, course, line, disposed.change, t) {
+    match change(store, at.job, given.date, course, line, disposed.change, t) {
         Ok(()) => {
             release(store, at.job, &p.space, t);
             Ok(fault_in(disposed.word))
@@ -152,20 +126,18 @@ fn word_at(over: &Option<Outcome>, p: &SetPlan, t: &TakenSet) -> Word
     )
 }
 
-fn dispose_set<S: JobStore>(
-    store: &mut S,
-    given: &Given,
-    course: &mut Course,
-    at: &Site,
+/// What the disposition of a set decides.
+fn disposal<S: JobStore>(
+    store: &S,
+    job: u16,
+    date: Day,
+    over: &Option<Outcome>,
     p: &SetPlan,
     t: &TakenSet,
-) -> Result<Option<Fault>, AllocError>
-    ensures { Acts S.JobStore at.now.job (Meets (at_site set_disposes given.now at.now p.now (Some t.now)))
-        result store.old course.old store.new course.new }
+) -> Disposed
+    ensures { result ≡ disposed_by (word_in over.now p.now t.now) (S.seen job store.now) t.now date }
 {
-    let word = word_at(&course.own.over, p, t);
-    let disposed = disposed_by(store, at.job, word, t, given.date);
-    set_disposed(store, given, course, at, p, t, disposed)
+    disposed_by(store, job, word_at(over, p, t), t, date)
 }
 
 /// Says that nothing becomes of a DD. An `Err` changes nothing.
@@ -214,24 +186,6 @@ fn put_out(
     }
 }
 
-/// The disposition of the set of a DD, which has none where it took none. An `Err` changes nothing.
-fn dispose_taken<S: JobStore>(
-    store: &mut S,
-    given: &Given,
-    course: &mut Course,
-    at: &Site,
-    p: &SetPlan,
-    taken: &Option<TakenSet>,
-) -> Result<Option<Fault>, AllocError>
-    ensures { Acts S.JobStore at.now.job (Meets (at_site set_disposes given.now at.now p.now taken.now))
-        result store.old course.old store.new course.new }
-{
-    match taken {
-        None => say_nothing(course, at),
-        Some(t) => dispose_set(store, given, course, at, p, t),
-    }
-}
-
 /// A copy of the state of a DD, from 0.
 fn dd_state(dds: &[DdState], d: usize) -> Result<Option<DdState>, AllocError>
     ensures { IfOk result (λ x. x ≡ slice_get dds.now d) }
@@ -251,14 +205,19 @@ fn dispose_at<S: JobStore>(
     kind: &KindText,
     x: DdState,
 ) -> Result<Option<Fault>, AllocError>
-    ensures { (dd : DdKind) → kind_text dd ≡ kind.now →
-        Acts S.JobStore at.now.job (Meets (at_site disposes_at given.now at.now dd x)) result store.old course.old store.new course.new }
+    ensures { ActsAs S.JobStore at.now.job kind.now (λ dd. Meets (at_site disposes_at given.now at.now dd x)) result store.old course.old store.new course.new }
 {
     match kind {
         KindText::Sysout(class) => put_out(course, at, *class, x.spooled),
         KindText::Dummy => say_nothing(course, at),
         KindText::Cards(_) => say_nothing(course, at),
-        KindText::Set(p) => dispose_taken(store, given, course, at, p, &x.taken),
+        KindText::Set(p) => match &x.taken {
+            None => say_nothing(course, at),
+            Some(t) => {
+                let disposed = disposal(store, at.job, given.date, &course.own.over, p, t);
+                set_disposed(store, given, course, at, p, t, disposed)
+            }
+        },
     }
 }
 
@@ -271,8 +230,7 @@ pub fn dispose<S: JobStore>(
     kind: &KindText,
 ) -> Result<Option<Fault>, AllocError>
     requires { 0 < at.now.dd }
-    ensures { (dd : DdKind) → kind_text dd ≡ kind.now →
-        Acts S.JobStore at.now.job (Meets (disposition given.now at.now dd)) result store.old course.old store.new course.new }
+    ensures { ActsAs S.JobStore at.now.job kind.now (λ dd. Meets (disposition given.now at.now dd)) result store.old course.old store.new course.new }
 {
     if !course.own.runs {
         return Ok(None);
@@ -341,7 +299,7 @@ fn left_disposed<S: JobStore>(
         word: disposed.word,
     };
     let t = as_taken(q);
-    say_and_change(store, at.job, given.date, course, line, disposed.change, &t)?;
+    change(store, at.job, given.date, course, line, disposed.change, &t)?;
     drop_pass(&mut course.own.passed, at.step, at.dd);
     Ok(fault_in(disposed.word))
 }
@@ -373,8 +331,7 @@ pub fn leave<S: JobStore>(
     at: &Site,
     kind: &KindText,
 ) -> Result<Option<Fault>, AllocError>
-    ensures { (dd : DdKind) → kind_text dd ≡ kind.now →
-        Acts S.JobStore at.now.job (Meets (at_site left_at given.now at.now dd)) result store.old course.old store.new course.new }
+    ensures { ActsAs S.JobStore at.now.job kind.now (λ dd. Meets (at_site left_at given.now at.now dd)) result store.old course.old store.new course.new }
 {
     let KindText::Set(p) = kind else {
         return Ok(None);

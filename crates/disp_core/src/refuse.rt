@@ -1,13 +1,14 @@
 //! A fault that ends a job's running: the sets that the step had taken are given back. (This profile)
-ghost use Rattle.std.specs.Prelude.{◌≡◌, ◌++◌, ◌∷◌, [], List, OnErr, OnOk, Some, take};
+ghost use Rattle.std.specs.Prelude.{◌≡◌, ◌++◌, ◌∷◌, List, OnErr, OnOk, take};
 ghost use Rattle.jcl_plan.specs.declared.entry.JobLine.{JobLine};
 ghost use Rattle.jcl_plan.specs.declared.entry.JobLine.TheVariants as line;
-ghost use Rattle.jcl_meaning.specs.TakeActs.{all_given_back, back_line, back_lines, set_given_back, refused};
-ghost use Rattle.disp_core.specs.Acting.{Acts, Meets};
+ghost use Rattle.jcl_meaning.specs.TakeActs.{all_given_back, back_line, back_lines, refused};
+ghost use Rattle.disp_core.specs.Acting.{Makes, MeetsAndMakes};
 
 use crate::course::Course;
 use crate::site::Site;
-use jcl_meaning::state::{DdState, TakenSet};
+use crate::take::Taken;
+use jcl_meaning::state::DdState;
 use jcl_plan::entry::JobLine;
 use jcl_plan::fault::Fault;
 use plain::listed::Listed;
@@ -77,28 +78,17 @@ fn say_refusal(
     }
 }
 
-/// Gives back what a DD had taken, if it took a set.
-fn give_back<S: JobStore>(store: &mut S, job: u16, taken: &Option<TakenSet>)
-    ensures seen { S.seen job store.new ≡ set_given_back taken.now (S.seen job store.old) }
-    ensures rest { S.gives_up (S.rest job store.old) (S.rest job store.new) }
-{
-    match taken {
-        None => {}
-        Some(t) => {
-            if is_deleted_back(t) {
-                store.scratch(job, &t.key, t.serial);
-            }
-        }
-    }
-}
-
-/// Gives back what these DDs had taken.
-fn give_all_back<S: JobStore>(store: &mut S, job: u16, dds: &[DdState])
+/// Gives back what these DDs had taken, where they took a set.
+fn give_back<S: JobStore>(store: &mut S, job: u16, dds: &[DdState])
     ensures seen { S.seen job store.new ≡ all_given_back dds.now (S.seen job store.old) }
     ensures rest { S.gives_up (S.rest job store.old) (S.rest job store.new) }
 {
     for x in dds {
-        give_back(store, job, &x.taken);
+        if let Some(t) = &x.taken {
+            if is_deleted_back(t) {
+                store.scratch(job, &t.key, t.serial);
+            }
+        }
     }
 }
 
@@ -109,8 +99,8 @@ pub(crate) fn refuse<S: JobStore>(
     course: &mut Course,
     at: &Site,
     fault: Fault,
-) -> Result<Option<Fault>, AllocError>
-    ensures { Acts S.JobStore at.now.job (Meets (refused at.now.step at.now.dd fault)) result store.old course.old store.new course.new }
+) -> Result<Taken, AllocError>
+    ensures { Makes S.JobStore at.now.job (MeetsAndMakes (refused at.now.step at.now.dd fault)) result store.old course.old store.new course.new }
 {
     say_refusal(
         alloc,
@@ -119,9 +109,12 @@ pub(crate) fn refuse<S: JobStore>(
         at,
         fault,
     )?;
-    give_all_back(store, at.job, course.own.dds.as_slice());
+    give_back(store, at.job, course.own.dds.as_slice());
     course.own.dds.clear();
     course.own.faulted = true;
     course.own.runs = false;
-    Ok(Some(fault))
+    Ok(Taken {
+        meets: Some(fault),
+        made: None,
+    })
 }

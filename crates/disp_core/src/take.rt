@@ -1,19 +1,18 @@
 //! The taking of a DD. (GC28-6704, DISP parameter)
-ghost use Rattle.std.specs.Prelude.{◌≡◌, ◌<◌, Err, IfNone, IfOk, IfSome, None, OnErr, OnOk, Some, false, is_some, length, remove, true};
+ghost use Rattle.std.specs.Prelude.{◌≡◌, ◌<◌, Err, IfNone, IfOk, IfSome, None, OnErr, OnOk, Some, length, remove, true};
 ghost use Rattle.jcl_plan.specs.declared.entry.JobLine.{JobLine};
-ghost use Rattle.jcl_plan.specs.declared.plan.DdKind.{DdKind};
 ghost use Rattle.jcl_meaning.specs.Resolutions.{place_of};
-ghost use Rattle.jcl_meaning.specs.TakeActs.{new_dd, passed_left, refused, take_word};
+ghost use Rattle.jcl_meaning.specs.TakeActs.{new_dd, passed_left, take_word};
 ghost use Rattle.jcl_meaning.specs.Takes.{is_there, primary_of, where_of, without_passed};
-ghost use Rattle.disp_core.specs.Acting.{Makes, MeetsAndMakes};
-ghost use Rattle.disp_core.specs.Choices.{Took, TookChosen, TookKey, TookSet, course_kept, course_taken, course_taken_without, granted_at, made_at, store_taken};
+ghost use Rattle.disp_core.specs.Acting.{MakesAs, MakesWith};
+ghost use Rattle.disp_core.specs.Choices.{IsNotGranted, Took, TookChosen, TookKey, TookSet, course_kept, course_taken, course_taken_without};
+ghost use Rattle.disp_core.specs.Choices.{granted_at, made_at, store_taken};
 ghost use Rattle.disp_core.specs.Courses.{fixed_by};
 ghost use Rattle.disp_core.specs.Grants.{made_of};
 ghost use Rattle.disp_core.specs.Takings.{decision_in, target_in};
 ghost use Rattle.disp_core.specs.declared.course.Course.{Course};
 ghost use Rattle.jcl_meaning.specs.declared.state.DdState.{DdState};
 ghost use Rattle.jcl_meaning.specs.declared.state.DdVolume.{DdVolume};
-ghost use Rattle.job_text.specs.Texts.{kind_text};
 
 use crate::change::{catalogued, is_on};
 use crate::course::{Course, Given, drop_last};
@@ -254,7 +253,7 @@ fn make_for<S: JobStore>(
     ensures seen { OnOk result (S.seen at.now.job store.new ≡ store_taken (fixed_by given.now) p.now chosen.now (S.seen at.now.job store.old)) }
     ensures rest { OnOk result (S.takes at.now.job (made_at at.now chosen.now) (S.rest at.now.job store.old) (S.rest at.now.job store.new)) }
     ensures granted { OnOk result (chosen.now.how ≡ How.Made → granted_at (S.grants_new at.now.job store.old) at.now p.now chosen.now ≡ true) }
-    ensures refused { result ≡ Err RoomFault.NotGranted → (chosen.now.how ≡ How.Made) × (granted_at (S.grants_new at.now.job store.old) at.now p.now chosen.now ≡ false) }
+    ensures refused { result ≡ Err RoomFault.NotGranted → IsNotGranted S.JobStore at.now p.now chosen.now store.old }
     ensures err { OnErr result (store.new ≡ store.old) }
 {
     match chosen.how {
@@ -288,7 +287,7 @@ fn accept<S: JobStore>(
     ensures course { OnOk result (course.new ≡ course_taken at.now chosen.now course.old) }
     ensures rest { OnOk result (S.takes at.now.job (made_at at.now chosen.now) (S.rest at.now.job store.old) (S.rest at.now.job store.new)) }
     ensures granted { OnOk result (chosen.now.how ≡ How.Made → granted_at (S.grants_new at.now.job store.old) at.now p.now chosen.now ≡ true) }
-    ensures refused { result ≡ Err RoomFault.NotGranted → (chosen.now.how ≡ How.Made) × (granted_at (S.grants_new at.now.job store.old) at.now p.now chosen.now ≡ false) }
+    ensures refused { result ≡ Err RoomFault.NotGranted → IsNotGranted S.JobStore at.now p.now chosen.now store.old }
     ensures err { OnErr result ((store.new ≡ store.old) × (course.new ≡ course.old)) }
 {
     let volume = DdVolume {
@@ -367,20 +366,6 @@ fn decision<S: JobStore>(
     decide(target, known, there, space, true)
 }
 
-/// A fault met by the taking of a DD. An `Err` changes nothing.
-fn take_refused<S: JobStore>(
-    alloc: Global,
-    store: &mut S,
-    course: &mut Course,
-    at: &Site,
-    fault: Fault,
-) -> Result<Taken, AllocError>
-    ensures { Makes S.JobStore at.now.job (MeetsAndMakes (refused at.now.step at.now.dd fault)) result store.old course.old store.new course.new }
-{
-    let meets = refuse(alloc, store, course, at, fault)?;
-    Ok(Taken { meets, made: None })
-}
-
 /// Takes a set, where its primary is granted if it is to be made; else the fault is F6. An `Err` changes nothing.
 fn accept_or_refuse<S: JobStore>(
     alloc: Global,
@@ -392,7 +377,7 @@ fn accept_or_refuse<S: JobStore>(
     chosen: &Chosen,
 ) -> Result<Taken, AllocError>
     requires { chosen.now.how ≡ How.Made → (S.seen at.now.job store.old).set chosen.now.key chosen.now.serial ≡ None }
-    ensures { Makes S.JobStore at.now.job (TookChosen (S.grants_new at.now.job store.old) given.now at.now p.now chosen.now)
+    ensures { MakesWith S.JobStore at.now.job (λ grants. TookChosen grants given.now at.now p.now chosen.now)
         result store.old course.old store.new course.new }
 {
     match accept(alloc, store, given, course, at, p, chosen) {
@@ -400,7 +385,7 @@ fn accept_or_refuse<S: JobStore>(
             meets: None,
             made: place_made(at, chosen),
         }),
-        Err(RoomFault::NotGranted) => take_refused(alloc, store, course, at, Fault::F6),
+        Err(RoomFault::NotGranted) => refuse(alloc, store, course, at, Fault::F6),
         Err(RoomFault::Memory) => Err(AllocError),
     }
 }
@@ -415,12 +400,12 @@ fn take_key<S: JobStore>(
     p: &SetPlan,
     key: &Key,
 ) -> Result<Taken, AllocError>
-    ensures { Makes S.JobStore at.now.job (TookKey (S.grants_new at.now.job store.old) given.now at.now p.now key.now)
+    ensures { MakesWith S.JobStore at.now.job (λ grants. TookKey grants given.now at.now p.now key.now)
         result store.old course.old store.new course.new }
 {
     let target = target(store, given, &course.own, at, p, key);
     match decision(store, at.job, given, p, key, &target) {
-        Decision::Refuses(fault) => take_refused(alloc, store, course, at, fault),
+        Decision::Refuses(fault) => refuse(alloc, store, course, at, fault),
         Decision::Takes(serial, how) => {
             let chosen = Chosen {
                 key: *key,
@@ -441,11 +426,10 @@ fn take_set<S: JobStore>(
     at: &Site,
     p: &SetPlan,
 ) -> Result<Taken, AllocError>
-    ensures { Makes S.JobStore at.now.job (TookSet (S.grants_new at.now.job store.old) given.now at.now p.now)
-        result store.old course.old store.new course.new }
+    ensures { MakesWith S.JobStore at.now.job (λ grants. TookSet grants given.now at.now p.now) result store.old course.old store.new course.new }
 {
     match given.meanings.at(at.step, at.dd) {
-        Resolution::Fails(fault) => take_refused(alloc, store, course, at, fault),
+        Resolution::Fails(fault) => refuse(alloc, store, course, at, fault),
         Resolution::Means(key) => take_key(alloc, store, given, course, at, p, &key),
     }
 }
@@ -460,8 +444,7 @@ pub fn take<S: JobStore>(
     at: &Site,
     kind: &KindText,
 ) -> Result<Taken, AllocError>
-    ensures { (dd : DdKind) → kind_text dd ≡ kind.now →
-        Makes S.JobStore at.now.job (Took (S.grants_new at.now.job store.old) given.now at.now dd) result store.old course.old store.new course.new }
+    ensures { MakesAs S.JobStore at.now.job kind.now (λ dd grants. Took grants given.now at.now dd) result store.old course.old store.new course.new }
 {
     if !course.own.runs {
         return Ok(Taken {

@@ -11,6 +11,7 @@ use Rattle.cb_queue.specs.RecordQueues.{RecordQueue}
 use Rattle.prog_core.specs.declared.units.Operation.{Operation}
 use Rattle.prog_core.specs.Operations.{IsRoomFor, OneEach, is_owner, without_owner}
 use Rattle.jcl_meaning.specs.Names.{names_of}
+use Rattle.jcl_meaning.specs.Programs.{moves_of}
 use Rattle.jcl_meaning.specs.States.{Fixed}
 use Rattle.machine_meaning.specs.Spools.{sets_of, with_sets}
 use Rattle.world_meaning.specs.Choices.{choice_of_advance}
@@ -28,13 +29,15 @@ use Rattle.shared_core.specs.Tracks.{free_on}
 use Rattle.shared_core.specs.declared.store.SharedStore.{SharedStore}
 use Rattle.shared_core.proofs.Following.{stays_follow}
 use Rattle.turn_core.specs.MachineTurns.{ActsAdvance, EndsAdvance, WaitsAdvance, shared_ended, shared_told}
-use Rattle.turn_core.specs.Standing.{JobActs, JobEnds, TellsJob, count_at, undone}
+use Rattle.turn_core.specs.Places.{agenda_at}
+use Rattle.turn_core.specs.Standing.{JobActs, JobEnds, Stands, TellsJob, count_at, undone}
 use Rattle.turn_core.specs.Performing.{StoreAnswers, primary_by}
 use Rattle.turn_core.specs.TurnLaws.{FewLines}
-use Rattle.turn_core.specs.Turning.{Around, Waits, made_in, operations_by}
+use Rattle.turn_core.specs.Turning.{Around, Tells, Waits, made_in, operations_by}
 use Rattle.turn_core.specs.declared.walk.Acted.{Acted}
 use Rattle.turn_core.specs.declared.walk.Turned.{Turned}
 use Rattle.turn_core.specs.declared.walk.Walk.{Walk}
+use Rattle.turn_core.proofs.Standing.{tells_job}
 use Rattle.disp_core.specs.Grants.{made_of}
 use Rattle.grant_laws.specs.Granted.{GrantedTurns, GrantsAll, with_primaries}
 use Rattle.admit_core.specs.Admissions.{fixed_for, given_to, is_assured, named_of}
@@ -121,14 +124,18 @@ module _ {Q : Type 0} (queue_of : Q → RecordQueue) (profile : Profile) (p : Pa
 
   pub told_as : (st : SharedStore) (after : Walk) (n : ℕ) (fixed : Fixed) (its_plan : JobPlan) (cancelled : Bool) (told same : Turned) → n ≡ job →
       fixed ≡ fixed_for profile.volumes.now plan (given_to a) → its_plan ≡ plan → cancelled ≡ has_cancel p.cancels job → told ≡ same →
-      TellsJob (record its_around { steps = its_plan.steps; fixed = fixed; job = n; cancel = cancelled; grants = answers_of n p.store }) its_plan
-      (seen n (world_store_of p.store)) walk (seen n (world_store_of st)) after told →
+      Stands plan profile.programs.now walk.todo →
+      Tells (record its_around { steps = its_plan.steps; fixed = fixed; job = n; cancel = cancelled; grants = answers_of n p.store })
+      (agenda_at (moves_of profile.programs.now) its_plan.steps walk.todo) (seen n (world_store_of p.store)) walk.course (seen n (world_store_of st)) after.course
+      (agenda_at (moves_of profile.programs.now) its_plan.steps after.todo) told →
       TellsJob its_around plan (seen job (world_store_of p.store)) walk (seen job (world_store_of st)) after same
-  told_as st after n fixed its_plan cancelled told same own for planned due is t =
-      subst (λ (x : ℕ × Fixed × JobPlan × Bool × Turned).
-      TellsJob (record its_around { steps = x.2.steps; fixed = x.1; job = x.0; cancel = x.3; grants = answers_of x.0 p.store }) x.2
-      (seen x.0 (world_store_of p.store)) walk (seen x.0 (world_store_of st)) after x.4)
-      (λ i. (own i, for i, planned i, due i, is i)) t
+  told_as st after n fixed its_plan cancelled told same own for planned due is stands t =
+      tells_job same its_around plan (seen job (world_store_of p.store)) (seen job (world_store_of st)) walk after stands
+      (subst (λ (x : ℕ × Fixed × JobPlan × Bool × Turned).
+      Tells (record its_around { steps = x.2.steps; fixed = x.1; job = x.0; cancel = x.3; grants = answers_of x.0 p.store })
+      (agenda_at (moves_of profile.programs.now) x.2.steps walk.todo) (seen x.0 (world_store_of p.store)) walk.course (seen x.0 (world_store_of st)) after.course
+      (agenda_at (moves_of profile.programs.now) x.2.steps after.todo) x.4)
+      (λ i. (own i, for i, planned i, due i, is i)) t)
 
   pub written_as : (st : SharedStore) (n : ℕ) (told same : Turned) → n ≡ job → told ≡ same → IsWritten n (made_of (made_in told)) p.store st →
       IsWritten job (made_of (made_in same)) p.store st

@@ -4,7 +4,8 @@ ghost use Rattle.job_text.specs.Places.{card_at};
 ghost use Rattle.job_text.specs.Texts.{cards_in};
 
 use crate::text::JobText;
-use crate::texts::{KindText, StepText, kind_text, step_text};
+use crate::texts::{KindText, SourceText, StepText, kind_text, source_text, step_text};
+use jcl_meaning::words::passes;
 use jcl_plan::plan::{DdKind, JobPlan, Record, Test};
 use jname_core::name8::Name8;
 
@@ -52,6 +53,14 @@ impl JobText for JobPlan {
 
     fn kind(&self, step: usize, dd: usize) -> KindText {
         kind_text(&self.steps.as_slice()[step].dds.as_slice()[dd].kind)
+    }
+
+    fn source(&self, step: usize, dd: usize) -> SourceText {
+        source_text(&self.steps.as_slice()[step].dds.as_slice()[dd].kind)
+    }
+
+    fn passes(&self, step: usize, dd: usize) -> bool {
+        passes(&self.steps.as_slice()[step].dds.as_slice()[dd].kind)
     }
 
     fn card(&self, step: usize, dd: usize, card: usize) -> Record {

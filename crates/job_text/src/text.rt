@@ -1,10 +1,11 @@
 //! A job as its actions read it.
 ghost use Rattle.std.specs.Prelude.{◌≡◌, ◌<◌, length};
 ghost use Rattle.jcl_plan.specs.declared.plan.JobPlan.{JobPlan};
+ghost use Rattle.jcl_meaning.specs.Plans.{passes};
 ghost use Rattle.job_text.specs.Places.{card_at, dd_at, step_at, test_at};
-ghost use Rattle.job_text.specs.Texts.{cards_in, kind_text, step_text};
+ghost use Rattle.job_text.specs.Texts.{cards_in, kind_text, source_text, step_text};
 
-use crate::texts::{KindText, StepText};
+use crate::texts::{KindText, SourceText, StepText};
 use jcl_plan::plan::{Record, Test};
 use jname_core::name8::Name8;
 
@@ -59,6 +60,20 @@ pub trait JobText {
         requires step { step < length (plan self.now).steps }
         requires dd { dd < length (step_at (plan self.now).steps step).dds }
         ensures { result ≡ kind_text (dd_at (step_at (plan self.now).steps step).dds dd).kind };
+
+    /// What a GET may read of a DD. It is less than what the DD is, and costs less.
+    fn source(&self, step: usize, dd: usize) -> SourceText
+        requires reads { reads self.now }
+        requires step { step < length (plan self.now).steps }
+        requires dd { dd < length (step_at (plan self.now).steps step).dds }
+        ensures { result ≡ source_text (dd_at (step_at (plan self.now).steps step).dds dd).kind };
+
+    /// Whether a DD may pass the set that it takes.
+    fn passes(&self, step: usize, dd: usize) -> bool
+        requires reads { reads self.now }
+        requires step { step < length (plan self.now).steps }
+        requires dd { dd < length (step_at (plan self.now).steps step).dds }
+        ensures { result ≡ passes (dd_at (step_at (plan self.now).steps step).dds dd).kind };
 
     /// A card of a DD.
     fn card(&self, step: usize, dd: usize, card: usize) -> Record

@@ -1,6 +1,6 @@
 //! What an action reads of a step and of a DD, by value: all but tests, DDs and cards, which are read one at a time.
 ghost use Rattle.std.specs.Prelude.{◌≡◌};
-ghost use Rattle.job_text.specs.Texts.{kind_text, step_text};
+ghost use Rattle.job_text.specs.Texts.{kind_text, source_text, step_text};
 
 use jcl_plan::plan::{AfterAbend, DdKind, SetPlan, StepPlan};
 use jname_core::name8::Name8;
@@ -14,6 +14,14 @@ pub enum KindText {
     /// So many cards.
     Cards(usize),
     Set(SetPlan),
+}
+
+/// What a program's GET may read of a DD: nothing, so many cards, or the records of a set. (DD statement)
+#[derive(Clone, Copy)]
+pub enum SourceText {
+    Nothing,
+    Cards(usize),
+    Set,
 }
 
 /// A step, but for its tests and its DDs. (EXEC statement)
@@ -35,6 +43,18 @@ pub fn kind_text(kind: &DdKind) -> KindText
         DdKind::Dummy => KindText::Dummy,
         DdKind::Cards(cards) => KindText::Cards(cards.len()),
         DdKind::Set(p) => KindText::Set(*p),
+    }
+}
+
+/// What a GET may read of a DD of a plan.
+pub(crate) fn source_text(kind: &DdKind) -> SourceText
+    ensures { result ≡ source_text kind.now }
+{
+    match kind {
+        DdKind::Sysout(_) => SourceText::Nothing,
+        DdKind::Dummy => SourceText::Nothing,
+        DdKind::Cards(cards) => SourceText::Cards(cards.len()),
+        DdKind::Set(_) => SourceText::Set,
     }
 }
 

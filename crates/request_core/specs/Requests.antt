@@ -1,5 +1,5 @@
 -- A program's request carried out, with the answers that it takes.
-use Rattle.std.specs.Prelude.{◌≡◌, ℕ, ◌+◌, Bool, true, false, not, ◌&&◌, ◌||◌, ◌==◌, nat_lt, length, List, [], ◌∷◌, ◌++◌, drop, slice_get, slice_set, Option, Some, None, is_some, if◌then◌else◌}
+use Rattle.std.specs.Prelude.{◌≡◌, ℕ, ◌+◌, ◌-◌, Bool, true, false, not, ◌&&◌, ◌||◌, ◌==◌, nat_lt, length, List, [], ◌∷◌, ◌++◌, drop, take, slice_get, slice_set, Option, Some, None, Result, is_some, if◌then◌else◌}
 use Rattle.jname_core.specs.declared.key.Key.{Key}
 use Rattle.jcl_plan.specs.declared.entry.JobLine.{JobLine}
 use Rattle.jcl_plan.specs.declared.entry.JobLine.TheVariants as line
@@ -21,15 +21,22 @@ use Rattle.jcl_meaning.specs.declared.state.Due.TheVariants as due
 use Rattle.jcl_meaning.specs.declared.state.Own.{Own}
 use Rattle.jcl_meaning.specs.declared.state.TakenSet.{TakenSet}
 use Rattle.jcl_meaning.specs.declared.store.DataSet.{DataSet}
-use Rattle.jcl_meaning.specs.Programs.{dd_of, emptied, empties, grown_by, is_concatenated, is_full, is_read_only, or_nothing}
+use Rattle.jcl_meaning.specs.Programs.{dd_of, emptied, empties, grown_by, is_concatenated, is_full, is_read_only, located, members_at, or_nothing, sources_from}
 use Rattle.jcl_meaning.specs.RequestActs.{asked, asks_at, asks_of, dd_name, gets, head_or, puts, puts_in, reads, received, received_now}
 use Rattle.jcl_meaning.specs.States.{Answers, Done, State, asks_open, cancel_due, others}
 use Rattle.jcl_meaning.specs.Takes.{secondary_of}
 use Rattle.jcl_meaning.specs.Stores.{Store}
 use Rattle.store_core.specs.Actions.{changed_at, state_at}
+use Rattle.disp_core.specs.Acting.{Acts}
 use Rattle.disp_core.specs.Courses.{Carried, Does}
 use Rattle.disp_core.specs.declared.course.Course.{Course}
+use Rattle.job_text.specs.Places.{dd_at, step_at}
+use Rattle.job_text.specs.Texts.{kind_text}
+use Rattle.job_text.specs.declared.texts.KindText.{KindText}
+use Rattle.store_core.specs.declared.job_store.JobStore.{Ghosts}
+use Rattle.request_core.specs.declared.here.Asking.{Asking}
 use Rattle.request_core.specs.declared.here.Here.{Here}
+use Rattle.request_core.specs.declared.put.Putting.{Putting}
 
 -- the state of a DD changed, where it was taken
 abbrev pub with_dd_by : (DdState → DdState) → List DdState → ℕ → Option DdState → List DdState
@@ -207,3 +214,73 @@ course_put c name text d t grown = course_with c with_mark d (Some (due.Put name
 abbrev pub course_grown : Bool → Course → List ℕ → List ℕ → ℕ → TakenSet → ℕ → Course
 course_grown true c name text d t tracks = course_put c name text d t (Some tracks)
 course_grown false c name text d t tracks = course_abended c abend.SB37
+
+-- The same for a request of a job's program: its step, and its DD.
+abbrev pub step_asked : List StepPlan → Asking → StepPlan
+step_asked steps asking = step_at steps asking.step
+
+abbrev pub dd_asked : List StepPlan → Asking → Here → DdPlan
+dd_asked steps asking here = dd_at (step_asked steps asking).dds here.d
+
+-- whether it asks for tracks, at a DD that was taken, and at the d-th of its step
+abbrev pub asks_growth_of : List StepPlan → Asking → Here → Store → Bool
+asks_growth_of steps asking here seen = is_some (growth_of (step_asked steps asking) asking.wants.now here (dd_asked steps asking here) seen)
+
+abbrev pub asks_growth_at : List StepPlan → Asking → ℕ → List DdState → Store → Bool
+asks_growth_at steps asking d dds seen = is_some (growth_at (Some d) (step_asked steps asking) asking.wants.now dds seen)
+
+-- it was carried out over a store
+abbrev pub AsksOfOver : {S : Type 0} → Ghosts S → List StepPlan → Asking → Here → S → Course → S → Course → Type 0
+AsksOfOver store steps asking here old before new after =
+    AsksOf (store.grants_growth asking.job old) (step_asked steps asking) asking.wants.now here (dd_asked steps asking here)
+    (store.seen asking.job old) before (store.seen asking.job new) after
+
+abbrev pub AsksAtOver : {S : Type 0} → Ghosts S → List StepPlan → Asking → ℕ → S → Course → S → Course → Type 0
+AsksAtOver store steps asking d old before new after =
+    CarriedAt (store.grants_growth asking.job old) (step_asked steps asking) asking.wants.now d
+    (store.seen asking.job old) before (store.seen asking.job new) after
+
+abbrev pub AsksOver : {S E : Type 0} → Ghosts S → List StepPlan → Asking → Result Bool E → S → Course → S → Course → Type 0
+AsksOver store steps asking result old before new after =
+    Acts store asking.job (IsAsked asking.cancelled (store.grants_growth asking.job old) (step_asked steps asking) asking.wants.now)
+    result old before new after
+
+abbrev pub GetsOver : List StepPlan → Asking → List ℕ → Here → Store → Course → Course → Type 0
+GetsOver steps asking name here seen before after = Gets (step_asked steps asking) name here seen before after
+
+-- a PUT: whether it asks for tracks, and that it was carried out over a store
+abbrev pub AsksGrowthAs : KindText → Here → Store → Bool → Type 0
+AsksGrowthAs kind here seen told = (dd : DdKind) → kind_text dd ≡ kind → told ≡ is_some (growth_of_kind here dd seen)
+
+abbrev pub PutsAs : {S : Type 0} → Ghosts S → KindText → Putting → Here → S → Course → S → Course → Type 0
+PutsAs store kind putting here old before new after =
+    (dd : DdKind) → kind_text dd ≡ kind → Puts (store.grants_growth putting.job old) putting.name.now putting.text.now here dd
+    (store.seen putting.job old) before (store.seen putting.job new) after
+
+abbrev pub PutsInOver : {S : Type 0} → Ghosts S → Putting → Here → SetPlan → TakenSet → S → Course → S → Course → Type 0
+PutsInOver store putting here p t old before new after =
+    PutsIn (store.grants_growth putting.job old) putting.name.now putting.text.now here p t
+    (store.seen putting.job old) before (store.seen putting.job new) after
+
+-- whether its set may grow, and what then becomes of the store and of the course
+abbrev pub is_granted : {S : Type 0} → Ghosts S → Putting → TakenSet → ℕ → S → Bool
+is_granted store putting t tracks old = store.grants_growth putting.job old t.key t.serial tracks
+
+abbrev pub GrowsStore : {S : Type 0} → Ghosts S → Putting → TakenSet → ℕ → Bool → S → S → Type 0
+GrowsStore store putting t tracks wipes old new =
+    store.seen putting.job new ≡ store_grown (is_granted store putting t tracks old) wipes tracks (store.seen putting.job old) t
+
+abbrev pub GrowsCourse : {S : Type 0} → Ghosts S → Putting → TakenSet → ℕ → S → Course → Course → Type 0
+GrowsCourse store putting t tracks old before after =
+    after ≡ course_grown (is_granted store putting t tracks old) before putting.name.now putting.text.now putting.d t tracks
+
+-- the operation of a PUT is due
+abbrev pub course_due : ℕ → Due → ℕ → Course → Course
+course_due d waits lines c = record { own = record c.own { dds = with_dd with_mark c.own.dds d; due = Some waits; lines = lines }; lines = c.lines }
+
+-- where a GET reads: in the members from a DD on up to an end, which begin at the first; and of a DD, by what is needed of its state
+abbrev pub located_from : Store → List DdPlan → List DdState → ℕ → ℕ → ℕ → ℕ → FoundRecord
+located_from seen dds states first end n position = located (sources_from seen (take (end - n) (drop n dds)) states n) (n - first) position
+
+abbrev pub located_at : Store → List DdPlan → List DdState → Here → FoundRecord
+located_at seen dds states here = located (drop here.member (sources_from seen (members_at (drop here.d dds)) states here.d)) here.member here.position

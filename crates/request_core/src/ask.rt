@@ -1,12 +1,11 @@
 //! A request of a program. (This profile)
-ghost use Rattle.std.specs.Prelude.{◌≡◌, [], ◌<◌, IfOk, OnErr, OnOk, Some, is_some, length};
+ghost use Rattle.std.specs.Prelude.{◌≡◌, [], ◌<◌, IfOk, OnErr, OnOk, length};
 ghost use Rattle.jcl_plan.specs.declared.plan.DdKind.{DdKind};
 ghost use Rattle.jcl_meaning.specs.Programs.{is_read_only};
 ghost use Rattle.jcl_meaning.specs.RequestActs.{dd_name};
-ghost use Rattle.job_text.specs.Places.{dd_at, step_at};
+ghost use Rattle.job_text.specs.Places.{step_at};
 ghost use Rattle.job_text.specs.Texts.{kind_text};
-ghost use Rattle.disp_core.specs.Acting.{Acts};
-ghost use Rattle.request_core.specs.Requests.{AsksOf, CarriedAt, IsAsked, growth_at, growth_of};
+ghost use Rattle.request_core.specs.Requests.{AsksAtOver, AsksOfOver, AsksOver, asks_growth_at, asks_growth_of};
 
 use crate::here::{Asking, Here, here_at};
 use crate::put::{Putting, put};
@@ -56,11 +55,8 @@ fn ask_of<T: JobText, S: JobStore>(
     requires reads { T.reads text.now }
     requires step { asking.now.step < length (T.plan text.now).steps }
     requires dd { here.now.d < length (step_at (T.plan text.now).steps asking.now.step).dds }
-    ensures asked { IfOk result (λ asked. asked ≡ is_some (growth_of (step_at (T.plan text.now).steps asking.now.step) asking.now.wants.now here.now
-        (dd_at (step_at (T.plan text.now).steps asking.now.step).dds here.now.d) (S.seen asking.now.job store.old))) }
-    ensures ok { OnOk result (AsksOf (S.grants_growth asking.now.job store.old) (step_at (T.plan text.now).steps asking.now.step) asking.now.wants.now here.now
-        (dd_at (step_at (T.plan text.now).steps asking.now.step).dds here.now.d)
-        (S.seen asking.now.job store.old) course.old (S.seen asking.now.job store.new) course.new) }
+    ensures asked { IfOk result (λ asked. asked ≡ asks_growth_of (T.plan text.now).steps asking.now here.now (S.seen asking.now.job store.old)) }
+    ensures ok { OnOk result (AsksOfOver S.JobStore (T.plan text.now).steps asking.now here.now store.old course.old store.new course.new) }
     ensures err { OnErr result ((store.new ≡ store.old) × (course.new ≡ course.old)) }
     ensures rest { OnOk result (S.takes asking.now.job [] (S.rest asking.now.job store.old) (S.rest asking.now.job store.new)) }
 {
@@ -99,10 +95,9 @@ fn ask_at<T: JobText, S: JobStore>(
     requires reads { T.reads text.now }
     requires step { asking.now.step < length (T.plan text.now).steps }
     requires dd { d < length (step_at (T.plan text.now).steps asking.now.step).dds }
-    ensures asked { IfOk result (λ asked. asked ≡ is_some (growth_at (Some d) (step_at (T.plan text.now).steps asking.now.step) asking.now.wants.now
-        course.old.own.dds (S.seen asking.now.job store.old))) }
-    ensures ok { OnOk result (CarriedAt (S.grants_growth asking.now.job store.old) (step_at (T.plan text.now).steps asking.now.step) asking.now.wants.now d
-        (S.seen asking.now.job store.old) course.old (S.seen asking.now.job store.new) course.new) }
+    ensures asked { IfOk result (λ asked. asked ≡
+        asks_growth_at (T.plan text.now).steps asking.now d course.old.own.dds (S.seen asking.now.job store.old)) }
+    ensures ok { OnOk result (AsksAtOver S.JobStore (T.plan text.now).steps asking.now d store.old course.old store.new course.new) }
     ensures err { OnErr result ((store.new ≡ store.old) × (course.new ≡ course.old)) }
     ensures rest { OnOk result (S.takes asking.now.job [] (S.rest asking.now.job store.old) (S.rest asking.now.job store.new)) }
 {
@@ -123,9 +118,7 @@ pub fn ask<T: JobText, S: JobStore>(
 ) -> Result<bool, AllocError>
     requires reads { T.reads text.now }
     requires step { asking.now.step < length (T.plan text.now).steps }
-    ensures { Acts S.JobStore asking.now.job
-        (IsAsked asking.now.cancelled (S.grants_growth asking.now.job store.old) (step_at (T.plan text.now).steps asking.now.step) asking.now.wants.now)
-        result store.old course.old store.new course.new }
+    ensures { AsksOver S.JobStore (T.plan text.now).steps asking.now result store.old course.old store.new course.new }
 {
     if !is_open(&course.own) {
         return Ok(false);

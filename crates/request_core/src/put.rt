@@ -1,13 +1,12 @@
 //! PUT. (This profile)
 ghost use Rattle.std.specs.Prelude.{◌≡◌, [], IfOk, None, OnErr, OnOk, Some, is_some};
 ghost use Rattle.jcl_plan.specs.declared.entry.JobLine.TheVariants as line;
-ghost use Rattle.jcl_plan.specs.declared.plan.DdKind.{DdKind};
 ghost use Rattle.jcl_meaning.specs.Programs.{emptied, empties, is_full, or_nothing};
 ghost use Rattle.jcl_meaning.specs.Takes.{secondary_of};
 ghost use Rattle.jcl_meaning.specs.declared.state.Due.TheVariants as due;
-ghost use Rattle.job_text.specs.Texts.{kind_text};
 ghost use Rattle.store_core.specs.Actions.{changed_at};
-ghost use Rattle.request_core.specs.Requests.{Puts, PutsIn, course_grown, course_put, course_with, growth_in, growth_of_kind, store_grown, with_dd, with_mark, with_spooled};
+ghost use Rattle.request_core.specs.Requests.{AsksGrowthAs, GrowsCourse, GrowsStore, PutsAs, PutsInOver, course_due, course_put};
+ghost use Rattle.request_core.specs.Requests.{course_with, growth_in, with_dd, with_mark, with_spooled};
 
 use crate::here::Here;
 use crate::request::{abend, one_more, say_done};
@@ -110,10 +109,7 @@ fn wipe<S: JobStore>(store: &mut S, job: u16, t: &TakenSet, wipes: bool)
 
 /// The operation of a PUT is due, behind its line.
 fn begin_put(alloc: Global, course: &mut Course, d: usize, due: Due, lines: usize)
-    ensures { course.new ≡ record {
-      own = record course.old.own { dds = with_dd with_mark course.old.own.dds d; due = Some due; lines = lines };
-      lines = course.old.lines;
-    } }
+    ensures { course.new ≡ course_due d due lines course.old }
 {
     mark(alloc, &mut course.own.dds, d);
     course.own.due = Some(due);
@@ -160,10 +156,8 @@ fn put_grows<S: JobStore>(
     secondary: u16,
     wipes: bool,
 ) -> Result<(), AllocError>
-    ensures seen { OnOk result (S.seen putting.now.job store.new ≡
-        store_grown (S.grants_growth putting.now.job store.old t.now.key t.now.serial secondary) wipes secondary (S.seen putting.now.job store.old) t.now) }
-    ensures course { OnOk result (course.new ≡ course_grown (S.grants_growth putting.now.job store.old t.now.key t.now.serial secondary)
-        course.old putting.now.name.now putting.now.text.now putting.now.d t.now secondary) }
+    ensures seen { OnOk result (GrowsStore S.JobStore putting.now t.now secondary wipes store.old store.new) }
+    ensures course { OnOk result (GrowsCourse S.JobStore putting.now t.now secondary store.old course.old course.new) }
     ensures err { OnErr result ((store.new ≡ store.old) × (course.new ≡ course.old)) }
     ensures rest { OnOk result (S.takes putting.now.job [] (S.rest putting.now.job store.old) (S.rest putting.now.job store.new)) }
 {
@@ -206,8 +200,7 @@ fn put_in<S: JobStore>(
 ) -> Result<bool, AllocError>
     requires { here.now.d ≡ putting.now.d }
     ensures asked { IfOk result (λ asked. asked ≡ is_some (growth_in p.now here.now.written (Some t.now) (S.seen putting.now.job store.old))) }
-    ensures ok { OnOk result (PutsIn (S.grants_growth putting.now.job store.old) putting.now.name.now putting.now.text.now here.now p.now t.now
-        (S.seen putting.now.job store.old) course.old (S.seen putting.now.job store.new) course.new) }
+    ensures ok { OnOk result (PutsInOver S.JobStore putting.now here.now p.now t.now store.old course.old store.new course.new) }
     ensures err { OnErr result ((store.new ≡ store.old) × (course.new ≡ course.old)) }
     ensures rest { OnOk result (S.takes putting.now.job [] (S.rest putting.now.job store.old) (S.rest putting.now.job store.new)) }
 {
@@ -258,11 +251,8 @@ pub(crate) fn put<S: JobStore>(
     kind: &KindText,
 ) -> Result<bool, AllocError>
     requires { here.now.d ≡ putting.now.d }
-    ensures asked { IfOk result (λ asked. (dd : DdKind) → kind_text dd ≡ kind.now →
-        asked ≡ is_some (growth_of_kind here.now dd (S.seen putting.now.job store.old))) }
-    ensures ok { OnOk result ((dd : DdKind) → kind_text dd ≡ kind.now →
-        Puts (S.grants_growth putting.now.job store.old) putting.now.name.now putting.now.text.now here.now dd
-        (S.seen putting.now.job store.old) course.old (S.seen putting.now.job store.new) course.new) }
+    ensures asked { IfOk result (AsksGrowthAs kind.now here.now (S.seen putting.now.job store.old)) }
+    ensures ok { OnOk result (PutsAs S.JobStore kind.now putting.now here.now store.old course.old store.new course.new) }
     ensures err { OnErr result ((store.new ≡ store.old) × (course.new ≡ course.old)) }
     ensures rest { OnOk result (S.takes putting.now.job [] (S.rest putting.now.job store.old) (S.rest putting.now.job store.new)) }
 {

@@ -1,10 +1,10 @@
 //! Where a GET reads: which record of which member. (This profile)
-ghost use Rattle.std.specs.Prelude.{◌≡◌, ◌-◌, ◌≤◌, ◌<◌, drop, length, slice_get, take};
+ghost use Rattle.std.specs.Prelude.{◌≡◌, ◌≤◌, ◌<◌, length, slice_get};
 ghost use Rattle.jcl_plan.specs.declared.plan.DdKind.{DdKind};
-ghost use Rattle.jcl_meaning.specs.Programs.{located, members_at, source_of, sources_from, taken_at};
+ghost use Rattle.jcl_meaning.specs.Programs.{source_of, taken_at};
 ghost use Rattle.job_text.specs.Places.{dd_at, step_at};
-ghost use Rattle.job_text.specs.Texts.{kind_text};
-ghost use Rattle.request_core.specs.Requests.{is_read_on};
+ghost use Rattle.job_text.specs.Texts.{source_text};
+ghost use Rattle.request_core.specs.Requests.{is_read_on, located_at, located_from};
 
 use crate::here::Here;
 use jcl_meaning::source::FoundRecord;
@@ -12,7 +12,7 @@ use jcl_meaning::state::{DdState, TakenSet};
 use jcl_plan::plan::Record;
 use jname_core::serial::Serial;
 use job_text::text::JobText;
-use job_text::texts::KindText;
+use job_text::texts::SourceText;
 use store_core::job_store::JobStore;
 use store_core::source::members_end;
 
@@ -35,14 +35,13 @@ fn taken_at(states: &[DdState], place: usize) -> Option<TakenSet>
 }
 
 /// How many records a member has to read.
-fn records_in<S: JobStore>(store: &S, job: u16, kind: &KindText, t: &Option<TakenSet>) -> usize
-    ensures { (dd : DdKind) → kind_text dd ≡ kind.now → result ≡ length (source_of (S.seen job store.now) dd t.now).records }
+fn records_in<S: JobStore>(store: &S, job: u16, source: &SourceText, t: &Option<TakenSet>) -> usize
+    ensures { (dd : DdKind) → source_text dd ≡ source.now → result ≡ length (source_of (S.seen job store.now) dd t.now).records }
 {
-    match kind {
-        KindText::Sysout(_) => 0,
-        KindText::Dummy => 0,
-        KindText::Cards(count) => *count,
-        KindText::Set(_) => match t {
+    match source {
+        SourceText::Nothing => 0,
+        SourceText::Cards(count) => *count,
+        SourceText::Set => match t {
             None => 0,
             Some(t) => match store.set(job, &t.key, t.serial) {
                 None => 0,
@@ -53,14 +52,13 @@ fn records_in<S: JobStore>(store: &S, job: u16, kind: &KindText, t: &Option<Take
 }
 
 /// Whether a member is left for the next at its end.
-fn is_read_past<S: JobStore>(store: &S, job: u16, kind: &KindText, t: &Option<TakenSet>) -> bool
-    ensures { (dd : DdKind) → kind_text dd ≡ kind.now → result ≡ (source_of (S.seen job store.now) dd t.now).read_past }
+fn is_read_past<S: JobStore>(store: &S, job: u16, source: &SourceText, t: &Option<TakenSet>) -> bool
+    ensures { (dd : DdKind) → source_text dd ≡ source.now → result ≡ (source_of (S.seen job store.now) dd t.now).read_past }
 {
-    match kind {
-        KindText::Sysout(_) => false,
-        KindText::Dummy => false,
-        KindText::Cards(_) => true,
-        KindText::Set(_) => t.is_some(),
+    match source {
+        SourceText::Nothing => false,
+        SourceText::Cards(_) => true,
+        SourceText::Set => t.is_some(),
     }
 }
 
@@ -79,17 +77,16 @@ fn text_at<T: JobText, S: JobStore>(
     requires dd { n < length (step_at (T.plan text.now).steps step).dds }
     ensures { result ≡ slice_get (source_of (S.seen job store.now) (dd_at (step_at (T.plan text.now).steps step).dds n).kind t.now).records position }
 {
-    match text.kind(step, n) {
-        KindText::Sysout(_) => None,
-        KindText::Dummy => None,
-        KindText::Cards(count) => {
+    match text.source(step, n) {
+        SourceText::Nothing => None,
+        SourceText::Cards(count) => {
             if position < count {
                 Some(text.card(step, n, position))
             } else {
                 None
             }
         }
-        KindText::Set(_) => match t {
+        SourceText::Set => match t {
             None => None,
             Some(t) => store.record(job, &t.key, t.serial, position),
         },
@@ -100,16 +97,15 @@ fn text_at<T: JobText, S: JobStore>(
 fn serial_of<S: JobStore>(
     store: &S,
     job: u16,
-    kind: &KindText,
+    source: &SourceText,
     t: &Option<TakenSet>,
 ) -> Option<Serial>
-    ensures { (dd : DdKind) → kind_text dd ≡ kind.now → result ≡ (source_of (S.seen job store.now) dd t.now).serial }
+    ensures { (dd : DdKind) → source_text dd ≡ source.now → result ≡ (source_of (S.seen job store.now) dd t.now).serial }
 {
-    match kind {
-        KindText::Sysout(_) => None,
-        KindText::Dummy => None,
-        KindText::Cards(_) => None,
-        KindText::Set(_) => match t {
+    match source {
+        SourceText::Nothing => None,
+        SourceText::Cards(_) => None,
+        SourceText::Set => match t {
             None => None,
             Some(t) => Some(t.serial),
         },
@@ -120,14 +116,14 @@ fn serial_of<S: JobStore>(
 fn is_read_on<S: JobStore>(
     store: &S,
     job: u16,
-    kind: &KindText,
+    source: &SourceText,
     t: &Option<TakenSet>,
     more: bool,
     position: usize,
 ) -> bool
-    ensures { (dd : DdKind) → kind_text dd ≡ kind.now → result ≡ is_read_on (source_of (S.seen job store.now) dd t.now) more position }
+    ensures { (dd : DdKind) → source_text dd ≡ source.now → result ≡ is_read_on (source_of (S.seen job store.now) dd t.now) more position }
 {
-    more && position >= records_in(store, job, kind, t) && is_read_past(store, job, kind, t)
+    more && position >= records_in(store, job, source, t) && is_read_past(store, job, source, t)
 }
 
 /// Where a GET reads in the members from the n-th DD of the step on, from 0.
@@ -142,19 +138,19 @@ fn located<T: JobText, S: JobStore>(
     requires reads { T.reads text.now }
     requires step { of.now.step < length (T.plan text.now).steps }
     requires members { (of.now.first ≤ n) × (n < of.now.end) × (of.now.end ≤ length (step_at (T.plan text.now).steps of.now.step).dds) }
-    ensures { result ≡ located (sources_from (S.seen job store.now) (take (of.now.end - n) (drop n (step_at (T.plan text.now).steps of.now.step).dds))
-        of.now.states.now n) (n - of.now.first) position }
+    ensures { result ≡ located_from (S.seen job store.now) (step_at (T.plan text.now).steps of.now.step).dds of.now.states.now
+        of.now.first of.now.end n position }
 {
     let t = taken_at(of.states, n);
-    let kind = text.kind(of.step, n);
-    if is_read_on(store, job, &kind, &t, n + 1 < of.end, position) {
+    let source = text.source(of.step, n);
+    if is_read_on(store, job, &source, &t, n + 1 < of.end, position) {
         return located(text, store, job, of, n + 1, 0);
     }
     FoundRecord {
         member: n - of.first,
         position,
         text: text_at(text, store, job, of.step, n, &t, position),
-        serial: serial_of(store, job, &kind, &t),
+        serial: serial_of(store, job, &source, &t),
     }
 }
 
@@ -170,8 +166,7 @@ pub fn reads<T: JobText, S: JobStore>(
     requires reads { T.reads text.now }
     requires step { step < length (T.plan text.now).steps }
     requires dd { here.now.d < length (step_at (T.plan text.now).steps step).dds }
-    ensures { result ≡ located (drop here.now.member (sources_from (S.seen job store.now)
-        (members_at (drop here.now.d (step_at (T.plan text.now).steps step).dds)) states.now here.now.d)) here.now.member here.now.position }
+    ensures { result ≡ located_at (S.seen job store.now) (step_at (T.plan text.now).steps step).dds states.now here.now }
 {
     let end = members_end(text, step, here.d);
     if here.member < end - here.d {

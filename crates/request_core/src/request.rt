@@ -5,7 +5,7 @@ ghost use Rattle.jcl_meaning.specs.RequestActs.{store_appended};
 ghost use Rattle.jcl_meaning.specs.States.{asks_open, wrote};
 ghost use Rattle.job_text.specs.Places.{step_at};
 ghost use Rattle.disp_core.specs.Acting.{Acts};
-ghost use Rattle.request_core.specs.Requests.{Gets, IsReceived, IsReceivedNow, course_abended, got, moved, with_dd};
+ghost use Rattle.request_core.specs.Requests.{GetsOver, IsReceived, IsReceivedNow, course_abended, got, moved, with_dd};
 
 use crate::here::{Asking, Here};
 use crate::read::reads;
@@ -122,7 +122,7 @@ pub(crate) fn get<T: JobText, S: JobStore>(
     requires reads { T.reads text.now }
     requires step { asking.now.step < length (T.plan text.now).steps }
     requires dd { here.now.d < length (step_at (T.plan text.now).steps asking.now.step).dds }
-    ensures ok { OnOk result (Gets (step_at (T.plan text.now).steps asking.now.step) name.now here.now (S.seen asking.now.job store.now) course.old course.new) }
+    ensures ok { OnOk result (GetsOver (T.plan text.now).steps asking.now name.now here.now (S.seen asking.now.job store.now) course.old course.new) }
     ensures err { OnErr result (course.new ≡ course.old) }
 {
     let states = course.own.dds.as_slice();

@@ -6,6 +6,7 @@ pub mod Waits
 pub mod Explained
 pub mod Turning
 pub mod Providing
+pub mod GoingOn
 pub mod Selected
 pub mod Entered
 pub mod Cancelled

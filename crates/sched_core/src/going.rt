@@ -1,5 +1,5 @@
 //! An initiator goes on with its job.
-ghost use Rattle.std.specs.Prelude.{◌≡◌, ◌≢◌, ◌+◌, ◌<◌, ◌≤◌, ◌++◌, ◌∷◌, [], All, Err, IfOk, None, OnErr, Some, length, map, slice_get, slice_set, OnOk};
+ghost use Rattle.std.specs.Prelude.{◌≡◌, ◌≢◌, ◌+◌, ◌<◌, ◌≤◌, ◌++◌, ◌∷◌, [], All, Err, IfOk, None, OnErr, Some, length, map, OnOk};
 ghost use Rattle.std.specs.Vec.{vec_capacity, vec_len};
 ghost use Rattle.jcl_plan.specs.declared.entry.Entry.TheVariants as entry;
 ghost use Rattle.jcl_plan.specs.declared.fault.Cause.{Cause};
@@ -13,7 +13,7 @@ ghost use Rattle.sched_core.specs.Copies.{unless_risk};
 ghost use Rattle.sched_core.specs.Events.{ActsAt, Answers};
 ghost use Rattle.sched_core.specs.Explaining.{most_explained};
 ghost use Rattle.sched_core.specs.Fits.{IsFit, IsKept};
-ghost use Rattle.sched_core.specs.Going.{HasRoomFor, TurnsAt, TurnsJob};
+ghost use Rattle.sched_core.specs.Going.{HasRoomFor, TurnsJob};
 ghost use Rattle.sched_core.specs.Machines.{RunsIn, config_in, world_in};
 ghost use Rattle.sched_core.specs.Systems.{IsSameMachine};
 ghost use Rattle.sched_core.specs.declared.fault.ApplyFault.TheVariants.{Refused};
@@ -162,35 +162,6 @@ fn turn_away<Q: RecordStore>(
     }
 }
 
-/// A turn of the job of the initiator at a place. An `Err` changes nothing.
-fn turn_at<Q: RecordStore>(
-    alloc: Global,
-    parts: &mut Parts<Q>,
-    profile: &Profile<'_>,
-    initiators: &mut Vec<Initiator>,
-    place: usize,
-) -> Result<Listed<Entry>, AllocError>
-    requires good { IsGood Q.queue (config_of profile.now (Q.queue parts.old.queue).layout) parts.old }
-    requires runs { (r : Running) × RunsIn initiators.old.items place r × IsReady (config_of profile.now (Q.queue parts.old.queue).layout) parts.old.names r
-        × IsProvided Q.queue (config_of profile.now (Q.queue parts.old.queue).layout) parts.old r }
-    ensures ok { IfOk result (TurnsAt Q.queue (config_of profile.now (Q.queue parts.old.queue).layout) place parts.old initiators.old.items
-        parts.new initiators.new.items) }
-    ensures err { OnErr result ((parts.new ≡ parts.old) × (initiators.new.items ≡ initiators.old.items)) }
-{
-    let x = &mut initiators[place];
-    let Some(running) = &mut x.running else {
-        unreachable!();
-    };
-    let mut entries = room_for(alloc, profile, running)?;
-    match go_on_in_place(alloc, parts, profile, running)? {
-        Some(from) => {
-            tell(&mut entries, running.job, running.lines_from(from));
-            Ok(Listed::new(entries))
-        }
-        None => turn_away(alloc, parts, profile, x, entries),
-    }
-}
-
 /// The initiator at a place goes on with its job.
 pub(crate) fn go_on_at<Q: RecordStore>(
     alloc: Global,
@@ -201,20 +172,29 @@ pub(crate) fn go_on_at<Q: RecordStore>(
     requires kept { IsKept Q.queue (config_in Q.queue profile.now state.old) state.old }
     requires runs { (r : Running) × RunsIn state.old.initiators.items place r }
     ensures answer { Answers result (world_in Q.queue (config_in Q.queue profile.now state.old) state.old)
-        (world_in Q.queue (config_in Q.queue profile.now state.old) state.new) (ActsAt state.old.parts.store (world_in Q.queue (config_in Q.queue profile.now state.old) state.old) place) }
+        (world_in Q.queue (config_in Q.queue profile.now state.old) state.new)
+        (ActsAt state.old.parts.store (world_in Q.queue (config_in Q.queue profile.now state.old) state.old) place) }
     ensures never_refused { (cause : Cause) → result ≢ Err (Refused cause) }
     ensures fit { IsFit Q.queue (config_in Q.queue profile.now state.old) state.new }
     ensures same { OnErr result (IsSameMachine Q.queue profile.now state.old state.new) }
     ensures extents { OnOk result (ExtentsFollow state.old.parts.store state.new.parts.store) }
 {
-    match turn_at(
-        alloc,
-        &mut state.parts,
-        profile,
-        &mut state.initiators,
-        place,
-    ) {
-        Ok(lines) => Ok(lines),
+    let x = &mut state.initiators[place];
+    let Some(running) = &mut x.running else {
+        unreachable!();
+    };
+    let Ok(mut entries) = room_for(alloc, profile, running) else {
+        return Err(ApplyFault::Memory);
+    };
+    match go_on_in_place(alloc, &mut state.parts, profile, running) {
+        Ok(Some(from)) => {
+            tell(&mut entries, running.job, running.lines_from(from));
+            Ok(Listed::new(entries))
+        }
+        Ok(None) => match turn_away(alloc, &mut state.parts, profile, x, entries) {
+            Ok(lines) => Ok(lines),
+            Err(_) => Err(ApplyFault::Memory),
+        },
         Err(_) => Err(ApplyFault::Memory),
     }
 }

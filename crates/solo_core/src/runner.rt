@@ -8,7 +8,7 @@ ghost use Rattle.job_text.specs.Places.{IsDd, IsStep, dd_at, step_at};
 ghost use Rattle.solo_core.specs.Runners.{Does};
 
 use disp_core::course::{Course, Given};
-use disp_core::site::Site;
+use disp_core::site::site_of;
 use disp_core::{dispose, step, take};
 use jcl_meaning::program::Move;
 use jcl_plan::fault::Fault;
@@ -78,20 +78,6 @@ fn next_grant(grants: &[bool]) -> bool
     }
 }
 
-/// Where a DD stands, with its name.
-fn site<T: JobText>(text: &T, n: usize, dd: usize) -> Site
-    requires reads { T.reads text.now }
-    requires dd { IsDd (T.plan text.now).steps n dd }
-    ensures { result ≡ record { job = JOB; step = n; dd = dd; name = (dd_at (step_at (T.plan text.now).steps (n - 1)).dds (dd - 1)).name } }
-{
-    Site {
-        job: JOB,
-        step: n,
-        dd,
-        name: text.dd_name(n - 1, dd - 1),
-    }
-}
-
 impl<'a> Runner<'a> {
     /// An action is done: enters the fault that it met, if it met one.
     fn met(&mut self, fault: Option<Fault>) -> Result<(), AllocError>
@@ -123,7 +109,7 @@ impl<'a> Runner<'a> {
         requires dd { IsDd (T.plan text.now).steps n dd }
         ensures { OnOk result (Does (Take n dd (dd_at (step_at (T.plan text.now).steps (n - 1)).dds (dd - 1))) self.old self.new) }
     {
-        let at = site(text, n, dd);
+        let at = site_of(text, JOB, n, dd);
         let kind = text.kind(n - 1, dd - 1);
         let taken = take::take(
             self.alloc,
@@ -161,7 +147,7 @@ impl<'a> Runner<'a> {
         requires dd { IsDd (T.plan text.now).steps n dd }
         ensures { OnOk result (Does (Dispose n dd (dd_at (step_at (T.plan text.now).steps (n - 1)).dds (dd - 1))) self.old self.new) }
     {
-        let at = site(text, n, dd);
+        let at = site_of(text, JOB, n, dd);
         let kind = text.kind(n - 1, dd - 1);
         let meets = dispose::dispose(&mut self.store, &self.given, &mut self.course, &at, &kind)?;
         self.met(meets)?;
@@ -179,7 +165,7 @@ impl<'a> Runner<'a> {
         requires dd { IsDd (T.plan text.now).steps n dd }
         ensures { OnOk result (Does (Left n dd (dd_at (step_at (T.plan text.now).steps (n - 1)).dds (dd - 1))) self.old self.new) }
     {
-        let at = site(text, n, dd);
+        let at = site_of(text, JOB, n, dd);
         let kind = text.kind(n - 1, dd - 1);
         let meets = dispose::leave(&mut self.store, &self.given, &mut self.course, &at, &kind)?;
         self.met(meets)?;

@@ -9,7 +9,6 @@ use crate::runner::Runner;
 use jcl_meaning::program::{Move, SoloProgram, moves_of};
 use job_text::text::JobText;
 use std::alloc::AllocError;
-use store_core::disposition::passes;
 
 impl<'a> Runner<'a> {
     fn run_takes<T: JobText>(&mut self, text: &T, step: usize) -> Result<(), AllocError>
@@ -97,7 +96,7 @@ impl<'a> Runner<'a> {
         requires fits { (step < usize.MAX) × (i < usize.MAX) }
         ensures { OnOk result (Acts (left_by (step + 1) (i + 1) (dd_at (step_at (T.plan text.now).steps step).dds i)) self.old self.new) }
     {
-        if !passes(&text.kind(step, i)) {
+        if !text.passes(step, i) {
             return Ok(());
         }
         self.leave(text, step + 1, i + 1)?;

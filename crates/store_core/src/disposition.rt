@@ -1,43 +1,14 @@
 //! What becomes of a set at its disposition and at the job's end. (DISP parameter; LEFT and BACK are this profile's)
 ghost use Rattle.std.specs.Prelude.{◌≡◌};
-ghost use Rattle.jcl_plan.specs.declared.plan.DdKind.{DdKind};
 ghost use Rattle.jcl_meaning.specs.Dispositions.{as_taken, back_word, catalogs_name, deletes, does, fault_in, is_deleted_back, is_entered_on, left_word, left_word_after, uncatalogs};
-ghost use Rattle.jcl_meaning.specs.Plans.{is_pass, passes};
-ghost use Rattle.job_text.specs.Texts.{kind_text};
 
 use jcl_meaning::names::is_temporary;
 use jcl_meaning::state::{Change, Disposed, Passed, TakenSet};
-use jcl_meaning::words::{normal_meaning, omitted};
+use jcl_meaning::words::omitted;
 use jcl_plan::fault::Fault;
 use jcl_plan::plan::Word;
 use jcl_plan::words::{BackWord, DispWord};
 use jname_core::serial::Serial;
-use job_text::texts::KindText;
-
-fn is_pass(word: Option<Word>) -> bool
-    ensures { result ≡ is_pass word }
-{
-    match word {
-        Some(Word::Pass) => true,
-        Some(Word::Delete) => false,
-        Some(Word::Keep) => false,
-        Some(Word::Catlg) => false,
-        Some(Word::Uncatlg) => false,
-        None => false,
-    }
-}
-
-/// Whether a DD may pass the set that it takes.
-pub fn passes(kind: &KindText) -> bool
-    ensures { (dd : DdKind) → kind_text dd ≡ kind.now → result ≡ passes dd }
-{
-    match kind {
-        KindText::Sysout(_) => false,
-        KindText::Dummy => false,
-        KindText::Cards(_) => false,
-        KindText::Set(p) => is_pass(normal_meaning(is_temporary(&p.key), p.normal)),
-    }
-}
 
 /// A word that passes nothing, and what it changes.
 pub fn does(word: DispWord, change: Change) -> Disposed

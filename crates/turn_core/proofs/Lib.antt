@@ -5,7 +5,7 @@ mod Passing
 mod Performing
 mod Places
 mod Saying
-mod Standing
+pub mod Standing
 mod Starting
 mod StepEnds
 mod Turning

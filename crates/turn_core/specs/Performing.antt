@@ -13,7 +13,12 @@ use Rattle.store_core.specs.Actions.{state_at}
 use Rattle.disp_core.specs.Grants.{made_of, primary_granted}
 use Rattle.disp_core.specs.declared.course.Course.{Course}
 use Rattle.request_core.specs.Requests.{Growth, growth_asked}
+use Rattle.store_core.specs.declared.job_store.JobStore.{Ghosts}
+use Rattle.disp_core.specs.Courses.{fixed_by}
 use Rattle.world_meaning.specs.Turns.{Granting, answers_due}
+use Rattle.turn_core.specs.Places.{action_of}
+use Rattle.turn_core.specs.declared.todo.Task.{Task}
+use Rattle.turn_core.specs.declared.walk.Setting.{Setting}
 
 -- whether the store grants the primary of the set that an action makes, and the growth that it asks for
 abbrev pub primary_by : (Key → Place → ℕ → Bool) → Fixed → Action → Store → Own → Bool
@@ -32,6 +37,9 @@ growth_by grants cancel other seen own = true
 pub record StoreAnswers : Type 0 where
   pub new : Key → Place → ℕ → Bool
   pub growth : Key → List ℕ → ℕ → Bool
+
+abbrev pub answers_from : {S : Type 0} → Ghosts S → ℕ → S → StoreAnswers
+answers_from store job old = record { new = store.grants_new job old; growth = store.grants_growth job old }
 
 abbrev pub granting_by : StoreAnswers → Bool → Fixed → Action → Store → Own → Granting
 granting_by grants cancel fixed a seen own = record {
@@ -54,3 +62,9 @@ pub record HasActed (done : Done) (seen : Store) (after before : Course) (made :
 abbrev pub Performs : List SoloProgram → List StepPlan → StoreAnswers → Bool → Fixed → Action → Store → Course → Store → Course → Option Place → Type 0
 Performs programs steps grants cancel fixed a old before new after made =
     HasActed (done_by programs steps (granting_by grants cancel fixed a old before.own) fixed a old before.own) new after before made
+
+-- over a store, with its answers
+abbrev pub PerformsOver : {S : Type 0} → Ghosts S → Setting → List StepPlan → Task → S → Course → S → Course → Option Place → Type 0
+PerformsOver store s steps task old before new after made =
+    Performs s.programs.now steps (answers_from store s.job old) s.cancelled (fixed_by s.given) (action_of steps task)
+    (store.seen s.job old) before (store.seen s.job new) after made

@@ -8,6 +8,7 @@ use Rattle.jcl_meaning.specs.declared.state.Own.{Own}
 use Rattle.jcl_meaning.specs.declared.state.Place.{Place}
 use Rattle.jcl_meaning.specs.Acts.{act}
 use Rattle.jcl_meaning.specs.Agendas.{Action}
+use Rattle.jcl_meaning.specs.Programs.{moves_of}
 use Rattle.jcl_meaning.specs.States.{Answers, Fixed}
 use Rattle.jcl_meaning.specs.Stores.{Store}
 use Rattle.prog_core.specs.declared.units.Operation.{Operation}
@@ -15,14 +16,17 @@ use Rattle.prog_core.specs.Operations.{is_busy, without_owner}
 use Rattle.disp_core.specs.Courses.{fixed_by}
 use Rattle.disp_core.specs.Grants.{made_of}
 use Rattle.disp_core.specs.declared.course.Course.{Course}
+use Rattle.store_core.specs.declared.job_store.JobStore.{Ghosts}
 use Rattle.world_meaning.specs.Turns.{Advanced, advance, answers_due, is_cancelled, must_wait, operations_after, state_in}
 use Rattle.turn_core.specs.Ending.{ended_at}
 use Rattle.turn_core.specs.Passing.{is_idle}
-use Rattle.turn_core.specs.Performing.{StoreAnswers, growth_by, primary_by}
+use Rattle.turn_core.specs.Places.{agenda_at}
+use Rattle.turn_core.specs.Performing.{StoreAnswers, answers_from, growth_by, primary_by}
 use Rattle.turn_core.specs.declared.walk.Acted.{Acted}
 use Rattle.turn_core.specs.declared.walk.Setting.{Setting}
 use Rattle.turn_core.specs.declared.walk.Turned.{Turned}
 use Rattle.turn_core.specs.declared.walk.Turned.TheVariants as turned
+use Rattle.turn_core.specs.declared.walk.Walk.{Walk}
 
 -- What a job's turn goes by: the programs, the steps of its plan, what is fixed for it, the operations under way, its number, whether a cancel is
 -- to act, and what its store answers.
@@ -45,6 +49,10 @@ around_of s steps grants = record {
   cancel = s.cancelled;
   grants = grants;
 }
+
+-- over a store, with its answers
+abbrev pub around_over : {S : Type 0} → Ghosts S → Setting → List StepPlan → S → Around
+around_over store s steps old = around_of s steps (answers_from store s.job old)
 
 abbrev pub answers_in : Around → Bool → Bool → Action → Own → Answers
 answers_in w growth primary = answers_due w.programs w.steps (record { cancel = w.cancel; growth = growth; primary = primary })
@@ -118,6 +126,12 @@ abbrev pub Tells : Around → List Action → Store → Course → Store → Cou
 Tells w actions seen before new after behind turned.Waits = (count : ℕ) → Waits w actions seen before.own count
 Tells w actions seen before new after behind (turned.Acts told) = (count : ℕ) → Acts w actions seen before new after behind count told
 Tells w actions seen before new after behind turned.Ends = (count : ℕ) → Ends w actions seen before.own count
+
+-- over a store, from a place of the agenda on
+abbrev pub TellsFrom : {S : Type 0} → Ghosts S → Setting → List StepPlan → S → Walk → S → Walk → Turned → Type 0
+TellsFrom store s steps old before new after told =
+    Tells (around_over store s steps old) (agenda_at (moves_of s.programs.now) steps before.todo)
+    (store.seen s.job old) before.course (store.seen s.job new) after.course (agenda_at (moves_of s.programs.now) steps after.todo) told
 
 abbrev pub acts : Turned → Bool
 acts turned.Waits = false

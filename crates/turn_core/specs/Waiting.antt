@@ -18,6 +18,8 @@ use Rattle.prog_core.specs.declared.units.Operation.{Operation}
 use Rattle.prog_core.specs.Operations.{has_operation, is_busy}
 use Rattle.request_core.specs.Requests.{here_at}
 use Rattle.request_core.specs.declared.here.Here.{Here}
+use Rattle.job_text.specs.Places.{dd_at}
+use Rattle.turn_core.specs.declared.walk.Setting.{Setting}
 use Rattle.world_meaning.specs.Turns.{is_result, volume_taken}
 
 -- of a record that a GET reads from a set
@@ -46,6 +48,9 @@ abbrev pub volume_of : StepPlan → Move → Here → DdPlan → Store → List 
 volume_of step (From name) here dd seen dds = volume_reads step here.d here.member here.position seen dds
 volume_of step (To name text) here dd seen dds = volume_unless (is_read_only dd.kind || is_concatenated (drop here.d step.dds)) dd.kind here.taken
 
+abbrev pub volume_here : StepPlan → Move → Here → Store → List DdState → Option (List ℕ)
+volume_here step wants here seen dds = volume_of step wants here (dd_at step.dds here.d) seen dds
+
 abbrev pub volume_at_dd : Option DdState → Option DdPlan → StepPlan → Move → ℕ → Store → List DdState → Option (List ℕ)
 volume_at_dd None dd step wants d seen dds = None
 volume_at_dd (Some x) None step wants d seen dds = None
@@ -66,3 +71,6 @@ volume_due cancelled other seen own = None
 abbrev pub waits_at : List Operation → ℕ → Bool → Action → Store → Own → Bool
 waits_at operations job cancelled a seen own =
     is_busy operations (volume_due cancelled a seen own) || (is_result a && not cancelled && has_operation operations job)
+
+abbrev pub waits_in : Setting → Action → Store → Own → Bool
+waits_in s a seen own = waits_at s.units.now s.job s.cancelled a seen own

@@ -3,14 +3,14 @@ ghost use Rattle.std.specs.Prelude.{◌≡◌, ◌-◌, is_some, slice_get};
 ghost use Rattle.jcl_plan.specs.declared.plan.DdKind.{DdKind};
 ghost use Rattle.jcl_meaning.specs.EndActs.{passed_by};
 ghost use Rattle.jcl_meaning.specs.States.{asks_open};
-ghost use Rattle.job_text.specs.Texts.{kind_text};
+ghost use Rattle.job_text.specs.Texts.{source_text};
 ghost use Rattle.turn_core.specs.Passing.{is_idle, is_left};
 ghost use Rattle.turn_core.specs.Places.{IsThere, action_of};
 
 use crate::todo::Task;
 use jcl_meaning::state::{DdState, Own, Passed};
 use job_text::text::JobText;
-use job_text::texts::KindText;
+use job_text::texts::SourceText;
 
 /// Whether the program of the step at hand goes on.
 pub(crate) fn is_open(own: &Own) -> bool
@@ -39,14 +39,13 @@ fn passed_by(passed: &[Passed], n: usize, dd: usize) -> Option<Passed>
 }
 
 /// Whether something that a DD passed was not received.
-fn is_left(kind: &KindText, passed: &[Passed], n: usize, dd: usize) -> bool
-    ensures { (d : DdKind) → kind_text d ≡ kind.now → result ≡ is_left d (passed_by passed.now n dd) }
+fn is_left(source: &SourceText, passed: &[Passed], n: usize, dd: usize) -> bool
+    ensures { (d : DdKind) → source_text d ≡ source.now → result ≡ is_left d (passed_by passed.now n dd) }
 {
-    match kind {
-        KindText::Sysout(_) => false,
-        KindText::Dummy => false,
-        KindText::Cards(_) => false,
-        KindText::Set(_) => passed_by(passed, n, dd).is_some(),
+    match source {
+        SourceText::Nothing => false,
+        SourceText::Cards(_) => false,
+        SourceText::Set => passed_by(passed, n, dd).is_some(),
     }
 }
 
@@ -64,7 +63,12 @@ pub(crate) fn is_idle<T: JobText>(text: &T, task: &Task, own: &Own) -> bool
         Task::Finish { .. } => !own.runs,
         Task::Dispose { dd, .. } => !(own.runs && is_taken(own.dds.as_slice(), *dd)),
         Task::Left { n, dd } => {
-            !is_left(&text.kind(*n - 1, *dd - 1), own.passed.as_slice(), *n, *dd)
+            !is_left(
+                &text.source(*n - 1, *dd - 1),
+                own.passed.as_slice(),
+                *n,
+                *dd,
+            )
         }
     }
 }

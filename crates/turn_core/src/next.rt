@@ -10,7 +10,6 @@ ghost use Rattle.turn_core.specs.declared.todo.Todo.TheVariants as todo;
 use crate::todo::{Next, Task, Todo};
 use job_text::text::JobText;
 use prog_core::library::ProgramLibrary;
-use store_core::disposition::passes;
 
 /// The first DD of a step from this one on, from 0, that may have passed a set.
 fn passing_from<T: JobText>(text: &T, step: usize, from: usize) -> Option<usize>
@@ -21,7 +20,7 @@ fn passing_from<T: JobText>(text: &T, step: usize, from: usize) -> Option<usize>
     ensures none { IfNone result ((n : ℕ) → lefts_in n (from + 1) (drop from (step_at (T.plan text.now).steps step).dds) ≡ []) }
 {
     for i in from..text.dd_count(step) {
-        if passes(&text.kind(step, i)) {
+        if text.passes(step, i) {
             return Some(i);
         }
     }

@@ -1,15 +1,13 @@
 //! An action carried out.
-ghost use Rattle.std.specs.Prelude.{◌≡◌, ◌-◌, IfOk, OnErr};
-ghost use Rattle.disp_core.specs.Courses.{fixed_by};
+ghost use Rattle.std.specs.Prelude.{◌≡◌, IfOk, OnErr};
 ghost use Rattle.disp_core.specs.Grants.{made_of};
-ghost use Rattle.job_text.specs.Places.{IsDd, dd_at, step_at};
-ghost use Rattle.turn_core.specs.Performing.{Performs};
-ghost use Rattle.turn_core.specs.Places.{IsThere, action_of};
+ghost use Rattle.turn_core.specs.Performing.{PerformsOver};
+ghost use Rattle.turn_core.specs.Places.{IsThere};
 
 use crate::todo::Task;
 use crate::walk::Setting;
 use disp_core::course::Course;
-use disp_core::site::Site;
+use disp_core::site::site_of;
 use disp_core::{dispose, step, take};
 use jcl_meaning::state::Place;
 use job_text::text::JobText;
@@ -17,20 +15,6 @@ use request_core::here::Asking;
 use request_core::{ask, request};
 use std::alloc::{AllocError, Global};
 use store_core::job_store::JobStore;
-
-/// Where a DD stands, with its name.
-fn site<T: JobText>(text: &T, job: u16, n: usize, dd: usize) -> Site
-    requires reads { T.reads text.now }
-    requires dd { IsDd (T.plan text.now).steps n dd }
-    ensures { result ≡ record { job = job; step = n; dd = dd; name = (dd_at (step_at (T.plan text.now).steps (n - 1)).dds (dd - 1)).name } }
-{
-    Site {
-        job,
-        step: n,
-        dd,
-        name: text.dd_name(n - 1, dd - 1),
-    }
-}
 
 /// Carries an action out, with the answers of the store; it tells where it made a set. An `Err` changes nothing.
 pub(crate) fn perform<T: JobText, S: JobStore>(
@@ -43,10 +27,7 @@ pub(crate) fn perform<T: JobText, S: JobStore>(
 ) -> Result<Option<Place>, AllocError>
     requires reads { T.reads text.now }
     requires there { IsThere (T.plan text.now).steps task.now }
-    ensures ok { IfOk result (λ made.
-        Performs setting.now.programs.now (T.plan text.now).steps (record { new = S.grants_new setting.now.job store.old; growth = S.grants_growth setting.now.job store.old })
-        setting.now.cancelled (fixed_by setting.now.given) (action_of (T.plan text.now).steps task.now)
-        (S.seen setting.now.job store.old) course.old (S.seen setting.now.job store.new) course.new made) }
+    ensures ok { IfOk result (PerformsOver S.JobStore setting.now (T.plan text.now).steps task.now store.old course.old store.new course.new) }
     ensures rest { IfOk result (λ made. S.takes setting.now.job (made_of made) (S.rest setting.now.job store.old) (S.rest setting.now.job store.new)) }
     ensures err { OnErr result ((store.new ≡ store.old) × (course.new ≡ course.old)) }
 {
@@ -59,7 +40,7 @@ pub(crate) fn perform<T: JobText, S: JobStore>(
             Ok(None)
         }
         Task::Take { n, dd } => {
-            let at = site(text, job, *n, *dd);
+            let at = site_of(text, job, *n, *dd);
             let kind = text.kind(*n - 1, *dd - 1);
             let taken = take::take(alloc, store, given, course, &at, &kind)?;
             Ok(taken.made)
@@ -85,13 +66,13 @@ pub(crate) fn perform<T: JobText, S: JobStore>(
             Ok(None)
         }
         Task::Dispose { n, dd } => {
-            let at = site(text, job, *n, *dd);
+            let at = site_of(text, job, *n, *dd);
             let kind = text.kind(*n - 1, *dd - 1);
             dispose::dispose(store, given, course, &at, &kind)?;
             Ok(None)
         }
         Task::Left { n, dd } => {
-            let at = site(text, job, *n, *dd);
+            let at = site_of(text, job, *n, *dd);
             let kind = text.kind(*n - 1, *dd - 1);
             dispose::leave(store, given, course, &at, &kind)?;
             Ok(None)

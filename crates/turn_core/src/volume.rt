@@ -1,9 +1,9 @@
 //! The volume that a request needs idle. (This profile)
 ghost use Rattle.std.specs.Prelude.{◌≡◌, ◌<◌, Some, length};
 ghost use Rattle.jcl_plan.specs.declared.plan.DdKind.{DdKind};
-ghost use Rattle.job_text.specs.Places.{dd_at, step_at};
+ghost use Rattle.job_text.specs.Places.{step_at};
 ghost use Rattle.job_text.specs.Texts.{kind_text};
-ghost use Rattle.turn_core.specs.Waiting.{volume_at, volume_asked_for, volume_found, volume_of, volume_put};
+ghost use Rattle.turn_core.specs.Waiting.{volume_asked_for, volume_at, volume_found, volume_here, volume_put};
 
 use jcl_meaning::program::Move;
 use jcl_meaning::source::FoundRecord;
@@ -55,8 +55,7 @@ fn volume_of<T: JobText, S: JobStore>(
     requires reads { T.reads text.now }
     requires step { step < length (T.plan text.now).steps }
     requires dd { here.now.d < length (step_at (T.plan text.now).steps step).dds }
-    ensures { result ≡ volume_of (step_at (T.plan text.now).steps step) wants.now here.now (dd_at (step_at (T.plan text.now).steps step).dds here.now.d)
-        (S.seen job store.now) states.now }
+    ensures { result ≡ volume_here (step_at (T.plan text.now).steps step) wants.now here.now (S.seen job store.now) states.now }
 {
     match wants {
         Move::From(_) => {

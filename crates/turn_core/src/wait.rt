@@ -4,7 +4,7 @@ ghost use Rattle.jcl_meaning.specs.Agendas.{Ask};
 ghost use Rattle.job_text.specs.Places.{step_at};
 ghost use Rattle.prog_core.specs.Operations.{has_operation, is_busy};
 ghost use Rattle.turn_core.specs.Places.{IsThere, action_of};
-ghost use Rattle.turn_core.specs.Waiting.{waits_at};
+ghost use Rattle.turn_core.specs.Waiting.{waits_in};
 
 use crate::todo::Task;
 use crate::volume::volume_asked_for;
@@ -37,8 +37,7 @@ fn asks_of_busy<T: JobText, S: JobStore>(
 ) -> bool
     requires reads { T.reads text.now }
     requires step { step < length (T.plan text.now).steps }
-    ensures { result ≡ waits_at setting.now.units.now setting.now.job setting.now.cancelled (Ask (step_at (T.plan text.now).steps step) wants.now)
-        (S.seen setting.now.job store.now) own.now }
+    ensures { result ≡ waits_in setting.now (Ask (step_at (T.plan text.now).steps step) wants.now) (S.seen setting.now.job store.now) own.now }
 {
     if setting.cancelled {
         return false;
@@ -64,8 +63,7 @@ pub(crate) fn must_wait<T: JobText, S: JobStore>(
 ) -> bool
     requires reads { T.reads text.now }
     requires there { IsThere (T.plan text.now).steps task.now }
-    ensures { result ≡ waits_at setting.now.units.now setting.now.job setting.now.cancelled (action_of (T.plan text.now).steps task.now)
-        (S.seen setting.now.job store.now) own.now }
+    ensures { result ≡ waits_in setting.now (action_of (T.plan text.now).steps task.now) (S.seen setting.now.job store.now) own.now }
 {
     match task {
         Task::Start { .. } => false,

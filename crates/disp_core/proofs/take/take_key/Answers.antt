@@ -17,21 +17,21 @@ returns-in-Refuses g c =
     let at = c.args.at.now in
     let fixed = fixed_by c.args.given.now in
     let seen = g.S.JobStore.seen at.job c.args.store.now in
-    let after = g.S.JobStore.seen at.job c.take_refused.new.store in
+    let after = g.S.JobStore.seen at.job c.refuse.new.store in
     let before = c.args.course.now in
     let p = c.args.p.now in
     let key = c.args.key.now in
     let granted = granted_on (g.S.JobStore.grants_new at.job c.args.store.now key) at.step at.dd p (looked_at (target_in fixed at.step at.dd p key seen before.own)) in
     let is = sym c.in-Refuses.is ∙ c.decision.ensures ∙ ap (λ t. decision_in fixed p key seen t true) c.target-target.ensures in record {
       ok = if_ok_then
-          (λ (told : Taken). MeetsAndMakes (refused at.step at.dd c.in-Refuses.fault) seen before after c.take_refused.new.course told)
-          (λ (told : Taken). MeetsIfGranted granted (λ s. at_site takes_set c.args.given.now at p s (Means key)) seen before after c.take_refused.new.course told)
-          c.take_refused.result
-          (λ told h. taken_with fixed at.step at.dd at.name p key seen before after c.take_refused.new.course told.meets (made_of told.made)
+          (λ (told : Taken). MeetsAndMakes (refused at.step at.dd c.in-Refuses.fault) seen before after c.refuse.new.course told)
+          (λ (told : Taken). MeetsIfGranted granted (λ s. at_site takes_set c.args.given.now at p s (Means key)) seen before after c.refuse.new.course told)
+          c.refuse.result
+          (λ told h. taken_with fixed at.step at.dd at.name p key seen before after c.refuse.new.course told.meets (made_of told.made)
           granted (Refuses c.in-Refuses.fault) is h)
-          c.take_refused.ensures.ok;
-      err = c.take_refused.ensures.err;
-      rest = c.take_refused.ensures.rest;
+          c.refuse.ensures.ok;
+      err = c.refuse.ensures.err;
+      rest = c.refuse.ensures.rest;
     }
 
 pub accept_or_refuse-requires : goal.accept_or_refuse-requires

@@ -13,20 +13,20 @@ returns-in-Fails g c =
     let at = c.args.at.now in
     let fixed = fixed_by c.args.given.now in
     let seen = g.S.JobStore.seen at.job c.args.store.now in
-    let after = g.S.JobStore.seen at.job c.take_refused.new.store in
+    let after = g.S.JobStore.seen at.job c.refuse.new.store in
     let before = c.args.course.now in
     let p = c.args.p.now in
     let granted = granted_by (g.S.JobStore.grants_new at.job c.args.store.now) fixed at.step at.dd p seen before.own in record {
       ok = subst
-          (λ m. IfOk c.take_refused.result (λ told.
-          MeetsIfGranted (granted m) (λ s. at_site takes_set c.args.given.now at p s m) seen before after c.take_refused.new.course told))
+          (λ m. IfOk c.refuse.result (λ told.
+          MeetsIfGranted (granted m) (λ s. at_site takes_set c.args.given.now at p s m) seen before after c.refuse.new.course told))
           (sym c.in-Fails.is ∙ c.at.ensures)
           (if_ok_then
-          (λ (told : Taken). MeetsAndMakes (refused at.step at.dd c.in-Fails.fault) seen before after c.take_refused.new.course told)
+          (λ (told : Taken). MeetsAndMakes (refused at.step at.dd c.in-Fails.fault) seen before after c.refuse.new.course told)
           (λ (told : Taken).
           MeetsIfGranted (granted (Fails c.in-Fails.fault)) (λ s. at_site takes_set c.args.given.now at p s (Fails c.in-Fails.fault))
-          seen before after c.take_refused.new.course told)
-          c.take_refused.result (λ told h answers e. h answers) c.take_refused.ensures.ok);
-      err = c.take_refused.ensures.err;
-      rest = c.take_refused.ensures.rest;
+          seen before after c.refuse.new.course told)
+          c.refuse.result (λ told h answers e. h answers) c.refuse.ensures.ok);
+      err = c.refuse.ensures.err;
+      rest = c.refuse.ensures.rest;
     }

@@ -1,7 +1,5 @@
 use Rattle.std.proofs.Common.{ℕ, ◌∙◌, ap, subst, sym}
-use Rattle.jcl_plan.specs.declared.plan.JobPlan.{JobPlan}
 use Rattle.disp_core.specs.Courses.{fixed_by}
-use Rattle.turn_core.specs.Standing.{Stands}
 use Rattle.turn_core.specs.Turning.{acts}
 use Rattle.turn_core.specs.declared.walk.Turned.TheVariants as turned
 use Rattle.init_core.specs.Going.{Went}
@@ -12,9 +10,6 @@ use Rattle.init_core.proofs.Advancing.{acted_so, room, told_as, waits, written_a
 use Rattle.init_core.proofs.Turning.{written_by}
 use Rattle.init_core.proofs.turn.act.Goals as goal
 
-pub turn-requires-clause-stands : goal.turn-requires-clause-stands
-turn-requires-clause-stands g c = subst (λ (plan : JobPlan). Stands plan c.args.profile.now.programs.now c.args.walk.now.todo) (sym c.plan.ensures) c.requires.at.1.stands
-
 pub enter_acted-requires-clause-room : goal.enter_acted-requires-clause-room
 enter_acted-requires-clause-room g c =
     let queue_of = g.Q.RecordStore.queue in
@@ -24,8 +19,18 @@ enter_acted-requires-clause-room g c =
     room queue_of c.args.profile.now p c.args.job c.args.walk.now c.args.admitted.now c.requires.good c.requires.some c.requires.at st after c.in-Ok-Acts.acted
     (told_as queue_of c.args.profile.now p c.args.job c.args.walk.now c.args.admitted.now c.requires.good st after c.number.result
     (fixed_by c.given.result) c.plan.result.now c.has-cancelled.result c.in-Ok-Acts.field-0 (turned.Acts c.in-Ok-Acts.acted) (c.number.ensures ∙ c.requires.at.0) c.given.ensures
-    c.plan.ensures c.has-cancelled.ensures c.in-Ok-Acts.field-0-is c.in-Ok-Acts.ensures.ok)
+    c.plan.ensures c.has-cancelled.ensures c.in-Ok-Acts.field-0-is c.requires.at.1.stands c.in-Ok-Acts.ensures.ok)
     c.operations_are_apart.ensures
+
+pub enter_acted-requires-clause-idle : goal.enter_acted-requires-clause-idle
+enter_acted-requires-clause-idle g c =
+    let queue_of = g.Q.RecordStore.queue in
+    let p = c.args.parts.now in
+    let st = c.turn.new.store in
+    let after = c.turn.new.walk in
+    (told_as queue_of c.args.profile.now p c.args.job c.args.walk.now c.args.admitted.now c.requires.good st after c.number.result
+    (fixed_by c.given.result) c.plan.result.now c.has-cancelled.result c.in-Ok-Acts.field-0 (turned.Acts c.in-Ok-Acts.acted) (c.number.ensures ∙ c.requires.at.0) c.given.ensures
+    c.plan.ensures c.has-cancelled.ensures c.in-Ok-Acts.field-0-is c.requires.at.1.stands c.in-Ok-Acts.ensures.ok).acts.idle
 
 pub returns-in-Ok-Waits-clause-ok : goal.returns-in-Ok-Waits-clause-ok
 returns-in-Ok-Waits-clause-ok g c =
@@ -42,7 +47,7 @@ returns-in-Ok-Waits-clause-ok g c =
     c.waits_advance.ensures st after same.0 same.1
     (told_as queue_of c.args.profile.now p c.args.job c.args.walk.now c.args.admitted.now c.requires.good st after c.number.result
     (fixed_by c.given.result) c.plan.result.now c.has-cancelled.result c.in-Ok-Waits.field-0 turned.Waits (c.number.ensures ∙ c.requires.at.0) c.given.ensures
-    c.plan.ensures c.has-cancelled.ensures c.in-Ok-Waits.field-0-is c.in-Ok-Waits.ensures.ok))
+    c.plan.ensures c.has-cancelled.ensures c.in-Ok-Waits.field-0-is c.requires.at.1.stands c.in-Ok-Waits.ensures.ok))
 
 pub returns-in-Ok-Acts-clause-ok : goal.returns-in-Ok-Acts-clause-ok
 returns-in-Ok-Acts-clause-ok g c =
@@ -63,7 +68,7 @@ returns-in-Ok-Acts-clause-ok g c =
     c.volumes_add_up.ensures c.volumes_add_up-in-Ok-Acts.ensures c.in-Ok-Acts.field-0 c.in-Ok-Acts.ensures.rest))
     (told_as queue_of c.args.profile.now p c.args.job c.args.walk.now c.args.admitted.now c.requires.good st after c.number.result
     (fixed_by c.given.result) c.plan.result.now c.has-cancelled.result c.in-Ok-Acts.field-0 (turned.Acts c.in-Ok-Acts.acted) (c.number.ensures ∙ c.requires.at.0) c.given.ensures
-    c.plan.ensures c.has-cancelled.ensures c.in-Ok-Acts.field-0-is c.in-Ok-Acts.ensures.ok)
+    c.plan.ensures c.has-cancelled.ensures c.in-Ok-Acts.field-0-is c.requires.at.1.stands c.in-Ok-Acts.ensures.ok)
     c.acts_advance.ensures c.few_lines.ensures c.enter_acted.new.units c.enter_acted.new.cancels c.enter_acted.ensures.units c.enter_acted.ensures.cancels
     c.granted_turns.ensures c.requires.provided)
 
@@ -78,5 +83,5 @@ returns-in-Ok-Ends-clause-ok g c =
       same.1,
       told_as queue_of c.args.profile.now p c.args.job c.args.walk.now c.args.admitted.now c.requires.good st after c.number.result
           (fixed_by c.given.result) c.plan.result.now c.has-cancelled.result c.in-Ok-Ends.field-0 turned.Ends (c.number.ensures ∙ c.requires.at.0) c.given.ensures
-          c.plan.ensures c.has-cancelled.ensures c.in-Ok-Ends.field-0-is c.in-Ok-Ends.ensures.ok,
+          c.plan.ensures c.has-cancelled.ensures c.in-Ok-Ends.field-0-is c.requires.at.1.stands c.in-Ok-Ends.ensures.ok,
     )

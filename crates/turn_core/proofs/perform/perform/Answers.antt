@@ -43,7 +43,7 @@ returns-in_ok-taken-in-Take-clause-ok g c =
     c.in_ok-taken-in-Take.taken.meets c.in_ok-taken-in-Take.taken.made
     (subst (λ (at : Site). MeetsIfGranted (primary_granted (g.S.JobStore.grants_new at.job c.args.store.now) fixed at.step at.dd d.kind (g.S.JobStore.seen at.job c.args.store.now) before.own)
     (taking c.args.setting.now.given at d.kind) (g.S.JobStore.seen at.job c.args.store.now) before (g.S.JobStore.seen at.job c.take.new.store) after c.in_ok-taken-in-Take.taken)
-    c.site-at.ensures (c.in_ok-taken-in-Take.ensures d.kind (sym c.kind-kind.ensures)).ok))
+    c.site_of-at.ensures (c.in_ok-taken-in-Take.ensures d.kind (sym c.kind-kind.ensures)).ok))
 
 pub returns-in_ok-ask-in-Ask-clause-ok : goal.returns-in_ok-ask-in-Ask-clause-ok
 returns-in_ok-ask-in-Ask-clause-ok g c =
@@ -99,7 +99,7 @@ returns-in_ok-dispose-in-Dispose-clause-ok g c =
     c.in_ok-dispose-in-Dispose.field-0
     (subst (λ (at : Site). Meets (disposition c.args.setting.now.given at d.kind) (g.S.JobStore.seen at.job c.args.store.now) before
     (g.S.JobStore.seen at.job c.dispose.new.store) after c.in_ok-dispose-in-Dispose.field-0)
-    c.site-at-in-Dispose.ensures (c.in_ok-dispose-in-Dispose.ensures d.kind (sym c.kind-kind-in-Dispose.ensures)).ok))
+    c.site_of-at-in-Dispose.ensures (c.in_ok-dispose-in-Dispose.ensures d.kind (sym c.kind-kind-in-Dispose.ensures)).ok))
 
 pub returns-in_ok-leave-in-Left-clause-ok : goal.returns-in_ok-leave-in-Left-clause-ok
 returns-in_ok-leave-in-Left-clause-ok g c =
@@ -117,4 +117,4 @@ returns-in_ok-leave-in-Left-clause-ok g c =
     c.in_ok-leave-in-Left.field-0
     (subst (λ (at : Site). Meets (at_site left_at c.args.setting.now.given at d.kind) (g.S.JobStore.seen at.job c.args.store.now) before
     (g.S.JobStore.seen at.job c.leave.new.store) after c.in_ok-leave-in-Left.field-0)
-    c.site-at-in-Left.ensures (c.in_ok-leave-in-Left.ensures d.kind (sym c.kind-kind-in-Left.ensures)).ok))
+    c.site_of-at-in-Left.ensures (c.in_ok-leave-in-Left.ensures d.kind (sym c.kind-kind-in-Left.ensures)).ok))

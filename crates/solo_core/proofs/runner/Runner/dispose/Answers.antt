@@ -19,5 +19,5 @@ returns g c =
     let told = c.in_ok-meets.ensures d.kind (sym c.kind-kind.ensures) in
     does_told (Dispose c.args.n c.args.dd d) old new c.met.new.self c.in_ok-meets.meets []
     (subst (λ (at : Site). course.Does (disposition old.given at d.kind (state_by old)) (store_of new.store.store) new.course old.course (answers_by old) c.in_ok-meets.meets [])
-    c.site-at.ensures (told.ok (answers_by old)))
+    c.site_of-at.ensures (told.ok (answers_by old)))
     (record { given = refl; volumes = told.rest }) refl c.in_ok-met.ensures

@@ -11,7 +11,7 @@ pub returns-then-not-passes : goal.returns-then-not-passes
 returns-then-not-passes g c =
     let d = dd_at (step_at (g.T.JobText.plan c.args.text.now).steps c.args.step).dds c.args.i in
     subst (λ (l : List Action). Acts l c.args.self.now c.args.self.now)
-    (sym (left_none (c.args.step + 1) (c.args.i + 1) d (sym (c.passes.ensures d.kind (sym c.kind.ensures)) ∙ c.if-not-passes.true))) (acts_none c.args.self.now)
+    (sym (left_none (c.args.step + 1) (c.args.i + 1) d (sym c.passes.ensures ∙ c.if-not-passes.true))) (acts_none c.args.self.now)
 
 pub returns : goal.returns
 unfolding act
@@ -22,5 +22,5 @@ returns g c =
     let dd = c.args.i + 1 in
     let does = subst (λ (x : DdPlan). Does (Left n dd x) c.args.self.now c.leave.new.self) (same_dd steps c.args.step c.args.i) c.in_ok-leave.ensures in
     subst (λ (l : List Action). Acts l c.args.self.now c.leave.new.self)
-    (sym (left_some n dd d (sym (c.passes.ensures d.kind (sym c.kind.ensures)) ∙ c.if-not-passes.false)))
+    (sym (left_some n dd d (sym c.passes.ensures ∙ c.if-not-passes.false)))
     (acts_one (Left n dd d) c.args.self.now c.leave.new.self does)

@@ -1,19 +1,19 @@
-use Rattle.std.proofs.Common.{◌≡◌, ◌∷◌, List, Some, sym, subst}
-use Rattle.jcl_plan.specs.declared.plan.StepPlan.{StepPlan}
+use Rattle.std.proofs.Common.{◌≡◌, ◌∷◌, ◌∙◌, None, Some, sym, subst}
 use Rattle.jcl_meaning.specs.Programs.{moves_of}
 use Rattle.disp_core.specs.Courses.{fixed_by}
 use Rattle.disp_core.specs.declared.course.Course.{Course}
 use Rattle.turn_core.specs.Ending.{course_ended, ended_at}
-use Rattle.turn_core.specs.Passing.{Finds, IsFound}
+use Rattle.turn_core.specs.Passing.{Finds}
 use Rattle.turn_core.specs.Places.{action_of, agenda_at}
 use Rattle.turn_core.specs.Turning.{Around, Tells}
-use Rattle.turn_core.specs.declared.todo.Next.TheVariants as next
 use Rattle.turn_core.specs.declared.walk.Turned.{Turned}
-use Rattle.turn_core.proofs.Turning.{below, ends_here, fewer, if_ok_both, tells_behind, tells_on, tells_to}
-use Rattle.turn_core.proofs.turn.+turn_from.Goals as goal
+use Rattle.turn_core.specs.declared.walk.Acted.{Acted}
+use Rattle.turn_core.specs.declared.walk.Turned.TheVariants as turned
+use Rattle.turn_core.proofs.Turning.{acts_here, below, ends_here, fewer, tells_behind, tells_on, waits_here}
+use Rattle.turn_core.proofs.turn.+turn.Goals as goal
 
-pub turn_from-requires : goal.turn_from-requires
-turn_from-requires g t c =
+pub turn-requires : goal.turn-requires
+turn-requires g t c =
     let moves = moves_of c.args.setting.now.programs.now in
     let steps = (g.T.JobText.plan c.args.text.now).steps in
     let before = c.args.walk.now.course in
@@ -43,8 +43,8 @@ returns-in-Over-clause-ok g t c = λ count.
     ends_here w from seen before.own count
     c.in-Over.ensures
 
-pub returns-in-None-clause-ok : goal.returns-in-None-clause-ok
-returns-in-None-clause-ok g t c =
+pub returns-then-must_wait-clause-ok : goal.returns-then-must_wait-clause-ok
+returns-then-must_wait-clause-ok g t c =
     let w : Around = record {
       programs = c.args.setting.now.programs.now;
       steps = (g.T.JobText.plan c.args.text.now).steps;
@@ -63,12 +63,38 @@ returns-in-None-clause-ok g t c =
     c.in-Does.ensures in
     let a = action_of steps c.in-Does.task in
     let rest = agenda_at moves steps c.in-Does.behind in
-    let new = g.S.JobStore.seen c.args.setting.now.job c.turn_at.new.store in
-    let after = c.turn_at.new.walk.course in
-    if_ok_both c.turn_at.result (λ told h e.
-    tells_to told w from (agenda_at moves steps) seen new before after c.turn_at.new.walk.todo c.in-Does.behind e
-    (tells_on told w from (a ∷ rest) rest seen new before after found.passes (h rest)))
-    c.turn_at.ensures.ok c.turn_at.ensures.place
+    let goes_on : ended_at a before.own ≡ None = sym (c.in-None.ensures steps) in
+    tells_on turned.Waits w from (a ∷ rest) rest seen seen before before found.passes
+    (λ count. waits_here w a rest seen before.own count found.acts goes_on (sym c.must_wait.ensures ∙ c.if-must_wait.true))
+
+pub returns-in_ok-made-in-None-clause-ok : goal.returns-in_ok-made-in-None-clause-ok
+returns-in_ok-made-in-None-clause-ok g t c =
+    let w : Around = record {
+      programs = c.args.setting.now.programs.now;
+      steps = (g.T.JobText.plan c.args.text.now).steps;
+      fixed = fixed_by c.args.setting.now.given;
+      operations = c.args.setting.now.units.now;
+      job = c.args.setting.now.job;
+      cancel = c.args.setting.now.cancelled;
+      grants = record { new = g.S.JobStore.grants_new c.args.setting.now.job c.args.store.now; growth = g.S.JobStore.grants_growth c.args.setting.now.job c.args.store.now };
+    } in
+    let moves = moves_of c.args.setting.now.programs.now in
+    let steps = (g.T.JobText.plan c.args.text.now).steps in
+    let seen = g.S.JobStore.seen c.args.setting.now.job c.args.store.now in
+    let before = c.args.walk.now.course in
+    let from = agenda_at moves steps c.args.walk.now.todo in
+    let found : Finds moves steps before.own c.args.walk.now.todo c.in-Does.task c.in-Does.behind =
+    c.in-Does.ensures in
+    let a = action_of steps c.in-Does.task in
+    let rest = agenda_at moves steps c.in-Does.behind in
+    let goes_on : ended_at a before.own ≡ None = sym (c.in-None.ensures steps) in
+    let new = g.S.JobStore.seen c.args.setting.now.job c.perform.new.store in
+    let after = c.perform.new.course in
+    let told : Acted = record { made = c.in_ok-made-in-None.made; starts = c.started_from.result; cancelled = c.is_cancelled_from.result } in
+    tells_on (turned.Acts told) w from (a ∷ rest) rest seen new before after found.passes
+    (λ count. acts_here w a rest seen new before after count c.len-said.result c.as_slice-lines.result.now told
+    found.acts goes_on (sym c.must_wait.ensures ∙ c.if-must_wait.false)
+    c.in_ok-made-in-None.ensures.ok c.as_slice-lines.ensures c.len-said.ensures c.started_from.ensures c.is_cancelled_from.ensures)
 
 pub returns-in-Ok-Acts-clause-ok : goal.returns-in-Ok-Acts-clause-ok
 returns-in-Ok-Acts-clause-ok g t c =
@@ -91,9 +117,9 @@ returns-in-Ok-Acts-clause-ok g t c =
     let a = action_of steps c.in-Does.task in
     let rest = agenda_at moves steps c.in-Does.behind in
     let ended : ended_at a before.own ≡ Some c.in-Some.n = sym (c.in-Some.ensures steps) in
-    let new = g.S.JobStore.seen c.args.setting.now.job c.turn_from.new.store in
-    let after = c.turn_from.new.walk.course in
-    let behind = agenda_at moves steps c.turn_from.new.walk.todo in
+    let new = g.S.JobStore.seen c.args.setting.now.job c.turn.new.store in
+    let after = c.turn.new.walk.course in
+    let behind = agenda_at moves steps c.turn.new.walk.todo in
     let told = c.in-Ok-Acts.field-0 in
     let inner : Tells w rest seen (course_ended c.in-Some.n before) new after behind told =
     subst (λ (m : Course). Tells w rest seen m new after behind told) c.in_ok-end_step-in-Some.ensures.ok c.in-Ok-Acts.ensures.ok in
@@ -121,9 +147,9 @@ returns-in-Ok-Waits-clause-ok g t c =
     let a = action_of steps c.in-Does.task in
     let rest = agenda_at moves steps c.in-Does.behind in
     let ended : ended_at a before.own ≡ Some c.in-Some.n = sym (c.in-Some.ensures steps) in
-    let new = g.S.JobStore.seen c.args.setting.now.job c.turn_from.new.store in
-    let after = c.turn_from.new.walk.course in
-    let behind = agenda_at moves steps c.turn_from.new.walk.todo in
+    let new = g.S.JobStore.seen c.args.setting.now.job c.turn.new.store in
+    let after = c.turn.new.walk.course in
+    let behind = agenda_at moves steps c.turn.new.walk.todo in
     let told = c.in-Ok-Waits.field-0 in
     let inner : Tells w rest seen (course_ended c.in-Some.n before) new after behind told =
     subst (λ (m : Course). Tells w rest seen m new after behind told) c.in_ok-end_step-in-Some.ensures.ok c.in-Ok-Waits.ensures.ok in
@@ -151,9 +177,9 @@ returns-in-Ok-Ends-clause-ok g t c =
     let a = action_of steps c.in-Does.task in
     let rest = agenda_at moves steps c.in-Does.behind in
     let ended : ended_at a before.own ≡ Some c.in-Some.n = sym (c.in-Some.ensures steps) in
-    let new = g.S.JobStore.seen c.args.setting.now.job c.turn_from.new.store in
-    let after = c.turn_from.new.walk.course in
-    let behind = agenda_at moves steps c.turn_from.new.walk.todo in
+    let new = g.S.JobStore.seen c.args.setting.now.job c.turn.new.store in
+    let after = c.turn.new.walk.course in
+    let behind = agenda_at moves steps c.turn.new.walk.todo in
     let told = c.in-Ok-Ends.field-0 in
     let inner : Tells w rest seen (course_ended c.in-Some.n before) new after behind told =
     subst (λ (m : Course). Tells w rest seen m new after behind told) c.in_ok-end_step-in-Some.ensures.ok c.in-Ok-Ends.ensures.ok in

@@ -1,6 +1,6 @@
 use Rattle.std.proofs.Common.{◌≡◌, drop}
 use Rattle.jcl_meaning.specs.TakeActs.{all_given_back}
-use Rattle.disp_core.proofs.refuse.give_all_back.Given as goal
+use Rattle.disp_core.proofs.refuse.give_back.Given as goal
 
 -- what is left decides
 abbrev pub invariant-loop-x : goal.invariant-loop-x

@@ -1,7 +1,0 @@
-use Rattle.std.proofs.Common.{length}
-use Rattle.jcl_meaning.specs.Programs.{moves_of}
-use Rattle.turn_core.specs.Places.{agenda_at}
-use Rattle.turn_core.proofs.turn.+turn_from.Given as goal
-
-abbrev pub decreases-turn_from : goal.decreases-turn_from
-decreases-turn_from g l = length (agenda_at (moves_of l.setting.now.programs.now) (g.T.JobText.plan l.text.now).steps l.walk.now.todo)
