@@ -1,12 +1,10 @@
 //! A set that is there at the start.
 ghost use Rattle.std.specs.Prelude.{◌≡◌, ◌++◌, ◌∷◌, [], List, ℕ, None, IfNone, IfSome, OnErr, OnOk, Some};
 ghost use Rattle.std.specs.FinMap as map;
-ghost use Rattle.std.specs.List.{position};
 ghost use Rattle.extent_core.specs.declared.extent.Extent.{Extent};
 ghost use Rattle.vtoc_core.specs.Extents.{free_extents, planned};
 ghost use Rattle.mount_core.specs.Mounts.{MountedState};
 ghost use Rattle.shared_core.specs.Shown.{mounted_in};
-ghost use Rattle.shared_core.specs.Writes.{is_mounted};
 ghost use Rattle.config_core.specs.Configs.{catalog_with, extents_on, has_room, with_set_in};
 ghost use Rattle.config_core.specs.Sets.{CanHold, IsMade, IsPlaceOf, with_records_on};
 
@@ -17,6 +15,7 @@ use jname_core::serial::Serial;
 use mount_core::mounted::Mounted;
 use mount_core::place::KeptPlace;
 use plain::listed::Listed;
+use shared_core::volumes::position_of;
 use std::alloc::{AllocError, Global};
 use std::mem;
 use vtoc_core::entry::SetKey;
@@ -122,14 +121,6 @@ fn enter_on(
             Err(error)
         }
     }
-}
-
-fn position_of(volumes: &[Mounted], serial: Serial) -> Option<usize>
-    ensures { result ≡ position (is_mounted serial) volumes.now }
-{
-    volumes
-        .iter()
-        .position(|m| m.serial().as_slice() == serial.as_slice())
 }
 
 /// Where the volume of a serial stands, from 0.

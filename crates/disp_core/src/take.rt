@@ -3,7 +3,7 @@ ghost use Rattle.std.specs.Prelude.{◌≡◌, ◌<◌, Err, IfNone, IfOk, IfSom
 ghost use Rattle.jcl_plan.specs.declared.entry.JobLine.{JobLine};
 ghost use Rattle.jcl_meaning.specs.Resolutions.{place_of};
 ghost use Rattle.jcl_meaning.specs.TakeActs.{new_dd, passed_left, take_word};
-ghost use Rattle.jcl_meaning.specs.Takes.{is_there, primary_of, where_of, without_passed};
+ghost use Rattle.jcl_meaning.specs.Takes.{is_there, where_of, without_passed};
 ghost use Rattle.disp_core.specs.Acting.{MakesAs, MakesWith};
 ghost use Rattle.disp_core.specs.Choices.{IsNotGranted, Took, TookChosen, TookKey, TookSet, course_kept, course_taken, course_taken_without};
 ghost use Rattle.disp_core.specs.Choices.{granted_at, made_at, store_taken};
@@ -23,7 +23,7 @@ use jcl_meaning::state::{DdState, DdVolume, Own, Passed, Place, Resolution, Take
 use jcl_meaning::take::{Decision, How, Target, Where};
 use jcl_plan::entry::JobLine;
 use jcl_plan::fault::Fault;
-use jcl_plan::plan::{SetPlan, Space, VolumePlan};
+use jcl_plan::plan::{SetPlan, VolumePlan};
 use jcl_plan::words::TakeWord;
 use jname_core::key::Key;
 use jname_core::name8::Name8;
@@ -33,7 +33,8 @@ use plain::listed::Listed;
 use std::alloc::{AllocError, Global};
 use store_core::job_store::{JobStore, RoomFault};
 use store_core::take::{
-    at_or_lost, day_of, dd_volume, decide, first_passed, is_known, looked_at, taken, target_of,
+    at_or_lost, day_of, dd_volume, decide, first_passed, is_known, looked_at, primary_of, taken,
+    target_of,
 };
 
 /// What taking a DD met and made.
@@ -144,15 +145,6 @@ fn take_word(how: How, serial: Serial) -> TakeWord
         How::Found => TakeWord::Found(serial),
         How::FoundByCatalog => TakeWord::Found(serial),
         How::Received { .. } => TakeWord::Received(serial),
-    }
-}
-
-fn primary_of(space: &Option<Space>) -> u16
-    ensures { result ≡ primary_of space.now }
-{
-    match space {
-        None => 0,
-        Some(space) => space.primary,
     }
 }
 

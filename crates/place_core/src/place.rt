@@ -8,7 +8,7 @@ ghost use Rattle.place_core.specs.Placings.{placing, serials_of};
 ghost use Rattle.place_core.specs.Volumes.{IsClear, all_back};
 
 use crate::aside::{aside_among, give_all_back, give_back};
-use crate::rule::{is_placed, primary_of, unit_volumes};
+use crate::rule::{is_placed, unit_volumes};
 use jcl_meaning::state::Place;
 use jcl_plan::plan::{DdKind, DdPlan, JobPlan, SetPlan, StepPlan, VolumePlan};
 use jname_core::serial::Serial;
@@ -18,6 +18,7 @@ use plain::listed::Listed;
 use shared_core::store::SharedStore;
 use std::alloc::{AllocError, Global};
 use std::mem;
+use store_core::take::primary_of;
 
 /// Places a set on one of these volumes. An `Err` changes nothing.
 fn place_among(

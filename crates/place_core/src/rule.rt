@@ -1,13 +1,13 @@
 //! On which volumes a DD's set may be placed.
 ghost use Rattle.std.specs.Prelude.{◌≡◌, Some};
-ghost use Rattle.jcl_meaning.specs.Takes.{primary_of};
 ghost use Rattle.world_meaning.specs.Admissions.{primary_asked};
 ghost use Rattle.world_meaning.specs.Placements.{places};
 ghost use Rattle.world_meaning.specs.Placements.{unit_volumes};
 
-use jcl_plan::plan::{DdKind, Space, Status, VolumePlan};
+use jcl_plan::plan::{DdKind, Status, VolumePlan};
 use jname_core::serial::Serial;
 use plain::listed::Listed;
+use store_core::take::primary_of;
 
 /// Whether a DD with this status and this way to its volume is placed.
 pub(crate) fn is_placed(status: Status, volume: &VolumePlan) -> bool
@@ -40,16 +40,6 @@ pub(crate) fn unit_volumes<'a>(
     match units.get(usize::from(number.saturating_sub(1))) {
         Some(list) => list.as_slice(),
         None => &[],
-    }
-}
-
-/// The primary of a set, 0 without SPACE.
-pub(crate) fn primary_of(space: &Option<Space>) -> u16
-    ensures { result ≡ primary_of space.now }
-{
-    match space {
-        None => 0,
-        Some(space) => space.primary,
     }
 }
 

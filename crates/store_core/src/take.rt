@@ -2,7 +2,8 @@
 ghost use Rattle.std.specs.Prelude.{◌≡◌, Some};
 ghost use Rattle.std.specs.List.{list_any};
 ghost use Rattle.std.specs.Str.{bytes_eq};
-ghost use Rattle.jcl_meaning.specs.Takes.{at_or_lost, day_of, dd_volume, decide, first_passed, found_or_made, is_known, looked_at, on_volume, taken, target_of, there_or};
+ghost use Rattle.jcl_meaning.specs.Takes.{at_or_lost, day_of, dd_volume, decide, first_passed, found_or_made, is_known, looked_at, on_volume};
+ghost use Rattle.jcl_meaning.specs.Takes.{primary_of, taken, target_of, there_or};
 ghost use Rattle.jcl_meaning.specs.declared.take.Target.TheVariants as target;
 
 use jcl_meaning::names::same_key;
@@ -10,7 +11,7 @@ use jcl_meaning::state::{DdVolume, Passed, TakenSet};
 use jcl_meaning::take::{Decision, How, Target, Where};
 use jcl_plan::day::Day;
 use jcl_plan::fault::Fault;
-use jcl_plan::plan::{Expiry, Status};
+use jcl_plan::plan::{Expiry, Space, Status};
 use jname_core::key::Key;
 use jname_core::serial::Serial;
 
@@ -210,6 +211,16 @@ fn is_among(volumes: &[Serial], serial: Serial) -> bool
         }
     }
     false
+}
+
+/// The tracks that a set asks for when it is made: 0 without SPACE.
+pub fn primary_of(space: &Option<Space>) -> u16
+    ensures { result ≡ primary_of space.now }
+{
+    match space {
+        None => 0,
+        Some(space) => space.primary,
+    }
 }
 
 /// The day of a set that is made; temporary sets have none.
