@@ -96,3 +96,15 @@ module _ (q : RecordQueue) (owner : ℕ) where
       let step : given_above q owner n ≡ given_above q owner (low + k) =
       step_kept n (low + k) (omega (arith, e)) (omega (arith, e, h)) (none n (omega (arith, e)) (omega arith)) in
       step ∙ block_kept k low (low + k) refl (omega (arith, e, h)) (λ m behind within. subst (λ s. owner_at s m ≢ owner) step (none m behind (omega (arith, e, within))))
+
+  -- the same, by the records as they were
+  pub unowned_kept : (k low n : ℕ) → n ≡ low + k → n ≤ length q.records → HasNoneBetween q owner low n → given_above q owner n ≡ given_above q owner low
+  unowned_kept zero low n e h none =
+      let same : n ≡ low = omega (arith, e) in
+      ap (λ m. given_above q owner m) same
+  unowned_kept (suc k) low n e h none =
+      let same : n ≡ suc (low + k) = omega (arith, e) in
+      let step : given_above q owner (suc (low + k)) ≡ given_above q owner (low + k) =
+      kept (low + k) (omega (arith, e, h)) (none (suc (low + k)) (omega arith) (omega (arith, e))) in
+      ap (λ m. given_above q owner m) same ∙ step
+      ∙ unowned_kept k low (low + k) refl (omega (arith, e, h)) (λ m behind within. none m behind (omega (arith, e, within)))

@@ -5,4 +5,4 @@ pub mod Parts
 pub mod Storing
 pub mod Uses
 pub mod Zeros
-pub mod Reach
+pub mod Spanned

@@ -1,2 +1,3 @@
 pub mod RecordQueues
 pub mod Stored
+pub mod Spans

@@ -1,10 +1,11 @@
 -- How a table of records, a table of owners and a stack of free numbers are a queue.
-use Rattle.std.specs.Prelude.{◌≡◌, ℕ, ◌^◌, ◌<◌, ◌≤◌, ◌==◌, All, List, [], ◌∷◌, drop, length, map, reverse, take, Option, None, Some, if◌then◌else◌}
+use Rattle.std.specs.Prelude.{◌≡◌, ℕ, ◌^◌, ◌<◌, ◌==◌, List, [], ◌∷◌, length, map, reverse, take, Option, None, Some, if◌then◌else◌}
 use Rattle.std.specs.List.{count_by}
 use Rattle.cb_meaning.specs.declared.layout.Layout.{Layout}
 use Rattle.queue_core.specs.declared.queue.Queued.{Queued}
 use Rattle.cb_queue.specs.declared.list_store.ListStore.TheInside.{Inside}
 use Rattle.cb_queue.specs.RecordQueues.{IsSoundQueue, RecordQueue, owner_in}
+use Rattle.cb_queue.specs.Spans.{AreSpanned}
 
 -- a record, or none where it has no owner
 abbrev pub seen_record : ℕ → List ℕ → Option (List ℕ)
@@ -41,9 +42,6 @@ pub record AreStored (l : Layout) (owners : List ℕ) (records : List (List ℕ)
 abbrev pub IsStored : Inside → Type 0
 IsStored a = AreStored a.layout a.owners.items a.records.items a.free.items a.free_count a.waiting
 
--- and no record behind this number was ever taken
-abbrev pub IsFreeBehind : ℕ → List ℕ → Type 0
-IsFreeBehind reach owners = All (λ owner. owner ≡ 0) (drop reach owners)
-
-abbrev pub IsReached : Inside → Type 0
-IsReached a = IsStored a × (a.reach ≤ a.layout.most_records) × IsFreeBehind a.reach a.owners.items
+-- and each record is in the span of its owner
+abbrev pub IsSpanned : Inside → Type 0
+IsSpanned a = IsStored a × AreSpanned a.spans.items a.owners.items

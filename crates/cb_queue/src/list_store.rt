@@ -1,7 +1,8 @@
 //! A store of records in one table.
-ghost use Rattle.std.specs.Prelude.{◌≡◌, ◌<◌, ◌^◌, IfOk, None, length, replicate, reverse, true};
+ghost use Rattle.std.specs.Prelude.{◌≡◌, ◌≢◌, ◌<◌, ◌≤◌, ◌^◌, IfOk, None, length, replicate, reverse, true};
 ghost use Rattle.cb_meaning.specs.declared.layout.TheConstants.{RECORD_BYTES};
 ghost use Rattle.cb_queue.specs.RecordQueues.{HasNoneBetween, HasOwnLink, empty_queue, owner_at, record_at, zero_record};
+ghost use Rattle.cb_queue.specs.Spans.{AreWidened, Widens};
 ghost use Rattle.cb_records.specs.Laws.{AreBytes};
 ghost use Rattle.cb_records.specs.Writes.{HoldsNumber};
 ghost use Rattle.plain.specs.Lists.{numbers_from};
@@ -24,6 +25,18 @@ const STATUS: Field = Field { at: 168, width: 8 };
 /// How many owners are looked at together.
 const BLOCK: u32 = 64;
 
+/// Of so many jobs, by their numbers from 0, it is known where their records are; of more than a session may have.
+const SPAN_PIECE: usize = 64;
+
+const SPAN_PIECES: usize = 157;
+
+/// All records of a job are behind one number, up to another.
+#[derive(Clone, Copy)]
+struct Span {
+    low: u32,
+    high: u32,
+}
+
 /// A store of records in one table, got when it is made.
 #[derive(Drop)]
 pub struct ListStore {
@@ -34,8 +47,8 @@ pub struct ListStore {
     /// Of these the first `free_count` are the numbers of the free records, the one that is taken next last.
     free: Vec<u32>,
     free_count: u32,
-    /// No record behind this number was ever taken.
-    reach: u32,
+    /// Where the records of a job are, by its number; a job behind the last has its records anywhere.
+    spans: Vec<Span>,
     waiting: JobQueue,
 }
 
@@ -44,11 +57,11 @@ impl Model for ListStore {
 
     ghost Value = { RecordQueue };
 
-    ghost use Rattle.cb_queue.specs.Stored.{IsReached, seen};
+    ghost use Rattle.cb_queue.specs.Stored.{IsSpanned, seen};
 
     ghost view = { seen };
 
-    ghost invariant = { IsReached };
+    ghost invariant = { IsSpanned };
 }
 
 /// The numbers of as many records, 1 last.
@@ -79,6 +92,44 @@ fn blank_records(alloc: Global, count: usize) -> Result<Vec<Rec>, AllocError>
         records.extend_from_slice(&piece[..some])?;
     }
     Ok(records)
+}
+
+/// Spans of jobs that have no record yet, filled by pieces.
+fn no_spans(alloc: Global) -> Result<Vec<Span>, AllocError> {
+    let piece = [Span { low: 0, high: 0 }; SPAN_PIECE];
+    let mut spans = Vec::with_capacity(alloc, SPAN_PIECE * SPAN_PIECES)?;
+    for _ in 0..SPAN_PIECES {
+        spans.extend_from_slice(piece.as_slice())?;
+    }
+    Ok(spans)
+}
+
+/// A span with a further record.
+fn widened(span: Span, n: u32) -> Span
+    requires { 0 < n }
+    ensures { Widens span n result }
+{
+    if span.high == 0 {
+        return Span {
+            low: n - 1,
+            high: n,
+        };
+    }
+    Span {
+        low: span.low.min(n - 1),
+        high: span.high.max(n),
+    }
+}
+
+/// A job has a further record.
+fn widen(spans: &mut Vec<Span>, owner: u16, n: u32)
+    requires { 0 < n }
+    ensures { AreWidened spans.old.items owner n spans.new.items }
+{
+    let place = usize::from(owner);
+    if place < spans.len() {
+        spans[place] = widened(spans[place], n);
+    }
 }
 
 /// A record of zeros but for its owner.
@@ -119,7 +170,7 @@ impl ListStore {
             owners: vec![in alloc; 0; count]?,
             free: all_numbers(alloc, layout.most_records)?,
             free_count: layout.most_records,
-            reach: 0,
+            spans: no_spans(alloc)?,
             waiting: JobQueue::new(alloc),
         })
     }
@@ -135,6 +186,23 @@ impl ListStore {
         match self.owners.get(n as usize - 1) {
             Some(owner) => *owner,
             None => 0,
+        }
+    }
+
+    /// Where the records of a job are.
+    fn span(&self, owner: u16) -> Span
+        requires { owner ≢ 0 }
+        ensures none_before { HasNoneBetween self.now owner 0 result.low }
+        ensures none_behind { HasNoneBetween self.now owner result.high (length self.now.records) }
+        ensures within { result.high ≤ length self.now.records }
+    {
+        let most = self.layout.most_records;
+        match self.spans.get(usize::from(owner)) {
+            Some(span) => Span {
+                low: span.low.min(most),
+                high: span.high.min(most),
+            },
+            None => Span { low: 0, high: most },
         }
     }
 
@@ -192,7 +260,7 @@ impl RecordStore for ListStore {
         let n = self.free[self.free_count as usize];
         self.records[n as usize - 1] = zero_record(owner);
         self.owners[n as usize - 1] = owner;
-        self.reach = self.reach.max(n);
+        widen(&mut self.spans, owner, n);
         Some(n)
     }
 
@@ -203,9 +271,10 @@ impl RecordStore for ListStore {
     }
 
     fn give_back_all(&mut self, owner: u16) {
-        let mut n = self.reach;
-        while n > 0 {
-            let low = n.saturating_sub(BLOCK);
+        let span = self.span(owner);
+        let mut n = span.high;
+        while n > span.low {
+            let low = n.saturating_sub(BLOCK).max(span.low);
             if self.has_none(low, n, owner) {
                 n = low;
             } else {

@@ -1,5 +1,5 @@
-use Rattle.std.proofs.Common.{arith, replicate}
-use Rattle.cb_queue.proofs.Reach.{free_at_first}
+use Rattle.std.proofs.Common.{replicate}
+use Rattle.cb_queue.proofs.Spanned.{spanned_first}
 use Rattle.cb_queue.proofs.Storing.{seen_new, stored_new}
 use Rattle.cb_queue.proofs.list_store.ListStore.new.Goals as goal
 
@@ -8,8 +8,7 @@ invariant_of-result c = (
   stored_new c.args.layout (replicate 176 0) c.in_ok-vec.field-0.items c.in_ok-blank_records.field-0.items c.in_ok-all_numbers.field-0.items c.new.result
       (c.in_ok-vec.ensures.items_if_clones_equal (λ _ e. e)) c.in_ok-blank_records.ensures c.in_ok-all_numbers.ensures.numbers c.new.ensures
       c.requires c.in_ok-all_numbers.ensures.few,
-  omega arith,
-  free_at_first c.args.layout.most_records c.in_ok-vec.field-0.items (c.in_ok-vec.ensures.items_if_clones_equal (λ _ e. e)),
+  spanned_first c.args.layout.most_records c.in_ok-no_spans.field-0.items c.in_ok-vec.field-0.items (c.in_ok-vec.ensures.items_if_clones_equal (λ _ e. e)),
 )
 
 pub returns : goal.returns

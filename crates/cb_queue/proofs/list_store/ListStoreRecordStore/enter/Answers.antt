@@ -12,5 +12,4 @@ invariant_of-self c =
           c.self.invariant.0 c.enter.new.self
           (order_after c.self.inside.waiting c.enter.new.self c.args.queued c.enter.result c.enter.ensures.ok c.enter.ensures.err c.self.invariant.0.sound.in_order later),
       c.self.invariant.1,
-      c.self.invariant.2,
     )

@@ -2,7 +2,7 @@ use Rattle.std.proofs.Common.{◌≡◌, ◌-◌, ◌∙◌, ap, arith, true}
 use Rattle.std.specs.Prelude.{is_some}
 use Rattle.cb_queue.specs.RecordQueues.{given_back, record_at}
 use Rattle.cb_queue.specs.Stored.{seen}
-use Rattle.cb_queue.proofs.Reach.{free_given}
+use Rattle.cb_queue.proofs.Spanned.{spanned_given}
 use Rattle.cb_queue.proofs.Uses.{given_seen, given_stored, reach, room_there}
 use Rattle.cb_queue.proofs.list_store.ListStoreRecordStore.give_back.Goals as goal
 
@@ -33,8 +33,7 @@ pub invariant_of-self : goal.invariant_of-self
 invariant_of-self c =
     let used : is_some (record_at (seen c.self.inside) c.args.n) ≡ true = rw c.self.view_is c.requires in (
       given_stored c.self.inside c.self.invariant.0 c.args.n used,
-      c.self.invariant.1,
-      free_given c.self.inside.reach (c.args.n - 1) c.self.inside.owners.items c.self.invariant.2,
+      spanned_given c.self.inside.spans.items c.self.inside.owners.items (c.args.n - 1) c.self.invariant.1,
     )
 
 pub returns : goal.returns

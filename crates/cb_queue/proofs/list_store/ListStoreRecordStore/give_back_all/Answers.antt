@@ -1,21 +1,20 @@
 use Rattle.std.proofs.Common.{◌≡◌, suc, ◌-◌, ◌<◌, ◌≤◌, ◌∙◌, ap, arith, length, subst, sym}
-use Rattle.cb_queue.specs.RecordQueues.{HasNoneBetween, RecordQueue, given_back, owner_at}
-use Rattle.cb_queue.proofs.Given.{block_kept, given_above, step_given, step_kept}
-use Rattle.cb_queue.proofs.Reach.{given_behind}
+use Rattle.cb_queue.specs.RecordQueues.{HasNoneBetween, given_back, owner_at}
+use Rattle.cb_queue.proofs.Given.{block_kept, none_given, step_given, step_kept, unowned_kept}
 use Rattle.cb_queue.proofs.list_store.ListStoreRecordStore.give_back_all.Goals as goal
 use Rattle.cb_queue.proofs.list_store.ListStoreRecordStore.give_back_all.Goals.{then-owner, else-owner}
 
 pub loop-n-init : goal.loop-n-init
 loop-n-init c =
-    let a = c.self.inside in
-    let order = c.self.invariant.1 in
-    let size = c.self.invariant.0.sound.size in
-    let shown = ap (λ (q : RecordQueue). length q.records) c.self.view_is in
+    let q = c.args.self.now in
+    let most = length q.records in
+    let high = c.span-span.result.high in
+    let within = c.span-span.ensures.within in
     record {
-      within = omega (arith, order, size, shown);
+      within = within;
       is =
-          sym c.self.view_is ∙ given_behind a c.self.invariant c.args.owner c.requires
-          ∙ ap (λ (q : RecordQueue). given_above q c.args.owner a.reach) c.self.view_is;
+          none_given q c.args.owner most (omega arith)
+          ∙ unowned_kept q c.args.owner (most - high) high most (omega (arith, within)) (omega arith) c.span-span.ensures.none_behind;
     }
 
 pub loop-n-preserved : goal.loop-n-preserved
@@ -44,9 +43,10 @@ loop-n-preserved c =
 pub loop-n-preserved-then-has_none : goal.loop-n-preserved-then-has_none
 loop-n-preserved-then-has_none c =
     let n = c.loop-n.n in
-    let low = c.saturating_sub-low.result in
+    let low = c.max-low.result in
     let q = c.args.self.now in
-    let lower : low ≤ n = omega (arith, c.saturating_sub-low.ensures) in
+    let more = c.loop-n-test.true in
+    let lower : low ≤ n = omega (arith, c.max-low.ensures, c.saturating_sub.ensures, more) in
     let invariant = c.loop-n.invariant in
     record {
       within = omega (arith, lower, invariant.within);
@@ -55,3 +55,11 @@ loop-n-preserved-then-has_none c =
           ∙ block_kept q c.args.owner (n - low) low n (omega (arith, lower)) invariant.within
           (subst (λ s. HasNoneBetween s c.args.owner low n) invariant.is (c.has_none.ensures c.if-has_none.true));
     }
+
+pub returns : goal.returns
+returns c =
+    let n = c.loop-n.n in
+    let low = c.loop-n-test.false in
+    c.loop-n.invariant.is
+    ∙ unowned_kept c.args.self.now c.args.owner n 0 n (omega arith) c.loop-n.invariant.within
+    (λ m behind within. c.span-span.ensures.none_before m behind (omega (arith, within, low)))

@@ -28,7 +28,6 @@ invariant_of-self c =
           (ap (λ r. number_at r (field 2 2)) c.unlinked.ensures.value
           ∙ owner_put c.self.inside.layout c.self.invariant.0.sound.own_link c.args.rec.now c.unlinked.ensures.whole ∙ owner),
       c.self.invariant.1,
-      c.self.invariant.2,
     )
 
 pub returns : goal.returns

@@ -9,5 +9,4 @@ invariant_of-self c = (
   stored_waiting c.self.inside.layout c.self.inside.owners.items c.self.inside.records.items c.self.inside.free.items c.self.inside.free_count c.self.inside.waiting
       c.self.invariant.0 c.remove.new.self (subst AreInOrder (sym c.remove.ensures.left) (order_left _ c.self.inside.waiting c.self.invariant.0.sound.in_order)),
   c.self.invariant.1,
-  c.self.invariant.2,
 )

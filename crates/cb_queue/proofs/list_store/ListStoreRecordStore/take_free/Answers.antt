@@ -3,7 +3,8 @@ use Rattle.std.specs.Prelude.{slice_set}
 use Rattle.std.proofs.lemmas.List.Elements.{All-same}
 use Rattle.cb_queue.specs.RecordQueues.{next_free, taken, zero_record}
 use Rattle.cb_queue.specs.Stored.{AreStored, seen_in}
-use Rattle.cb_queue.proofs.Reach.{free_taken}
+use Rattle.cb_queue.specs.Spans.{AreWidened}
+use Rattle.cb_queue.proofs.Spanned.{spanned_taken}
 use Rattle.cb_queue.proofs.Uses.{answer_there, number, taken_seen, taken_stored}
 use Rattle.cb_queue.proofs.list_store.ListStoreRecordStore.take_free.Goals as goal
 
@@ -33,18 +34,22 @@ index_mut-requires-2 c =
     let whole = c.self.inside.owners.ok.0 in
     omega (arith, n.0, n.1, room, whole)
 
+pub widen-requires : goal.widen-requires
+widen-requires c =
+    let more : c.self.inside.free_count - 1 + 1 ≡ c.self.inside.free_count = omega (arith, c.if-self-eq0.false) in
+    (number c.self.inside c.self.invariant.0 c.index-n.result.now (c.self.inside.free_count - 1) c.args.owner more c.index-n.ensures c.requires).0
+
 pub invariant_of-self : goal.invariant_of-self
 invariant_of-self c =
     let a = c.self.inside in
     let n = c.index-n.result.now in
     let more : a.free_count - 1 + 1 ≡ a.free_count = omega (arith, c.if-self-eq0.false) in
-    let at = number a c.self.invariant.0 n (a.free_count - 1) c.args.owner more c.index-n.ensures c.requires in
-    let most = c.max-self-inside.ensures in (
+    let at = number a c.self.invariant.0 n (a.free_count - 1) c.args.owner more c.index-n.ensures c.requires in (
       subst (λ r. AreStored a.layout (slice_set a.owners.items (n - 1) c.args.owner) (slice_set a.records.items (n - 1) r) a.free.items (a.free_count - 1) a.waiting)
           (sym c.zero_record.ensures.value) (taken_stored a c.self.invariant.0 n (a.free_count - 1) c.args.owner more c.index-n.ensures c.requires
           (All-same (λ b. b < 256) (zero_record c.args.owner) c.zero_record.result (sym c.zero_record.ensures.value) c.zero_record.ensures.bytes)),
-      (let order = c.self.invariant.1 in omega (arith, order, at.1, most)),
-      free_taken a.reach c.max-self-inside.result (n - 1) c.args.owner a.owners.items (omega (arith, most)) (omega (arith, most, at.0)) c.self.invariant.2,
+      spanned_taken a.spans.items c.widen.new.spans.items a.owners.items (n - 1) c.args.owner
+          (subst (λ m. AreWidened a.spans.items c.args.owner m c.widen.new.spans.items) (omega (arith, at.0)) c.widen.ensures) c.self.invariant.1,
     )
 
 pub returns-clause-answer : goal.returns-clause-answer

@@ -21,7 +21,6 @@ invariant_of-self c =
       status_stored c.self.inside c.self.invariant.0 c.args.n used c.index_mut-rec.result.now c.write_part.new.self c.args.status.now e c.write_part.ensures.whole
           (v ∙ c.as_slice.ensures) c.write_part.ensures.others c.are_bytes.ensures,
       c.self.invariant.1,
-      c.self.invariant.2,
     )
 
 pub returns : goal.returns
