@@ -12,7 +12,6 @@ ghost use Rattle.admit_core.specs.Admissions.{line_of};
 ghost use Rattle.admit_core.specs.Admitted.{IsAnswered, IsAssurance, admission_of, line_assured};
 
 use crate::admission::{Admission, Answer, AssuredJob, NamedJob, Provision, RiskyJob};
-use crate::budget::budget_of;
 use jcl_meaning::state::Place;
 use jcl_plan::day::Day;
 use jcl_plan::entry::JobLine;
@@ -21,6 +20,7 @@ use jname_core::serial::Serial;
 use path_search::verdict::{RiskReport, Verdict};
 use place_core::keep::keep_all;
 use plain::listed::Listed;
+use prog_core::budget::budget_of;
 use prog_core::library::ProgramLibrary;
 use reach_laws::made_is_configured;
 use shared_core::laws::tracks_are_conserved;

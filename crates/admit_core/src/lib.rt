@@ -3,5 +3,4 @@
 
 pub mod admission;
 pub mod admit;
-pub mod budget;
 pub mod ending;

@@ -6,7 +6,6 @@ use crate::run::{Answers, JOB, Looked, Run, Way, fresh, run_job};
 use crate::shown::{tell_free, tell_lines, tell_names, tell_seen};
 use crate::terms::Period;
 use disp_core::course::Given;
-use jcl_meaning::budget::budget_of;
 use jcl_meaning::meanings::Meanings;
 use jcl_meaning::names::names_of;
 use jcl_meaning::program::{SoloProgram, endings};
@@ -14,6 +13,8 @@ use jcl_meaning::solo::SoloRun;
 use jcl_plan::outcome::Outcome;
 use jcl_plan::plan::{DdKind, Expiry, JobPlan, StepPlan};
 use plain::listed::Listed;
+use prog_core::budget::budget_of;
+use prog_core::library::ProgramLibrary;
 use row_table::told::Told;
 use solo_core::{solo, solo_path};
 use std::alloc::{AllocError, Global};
@@ -49,6 +50,33 @@ fn programs_of<'a>(case: &'a Case<'_>) -> &'a [SoloProgram] {
         None => case.coded.programs.as_slice(),
         Some(_) => &[],
     }
+}
+
+/// Adds a copy of a program where there is none of its name.
+#[tactic(auto, using(prog_core::proofs::PlaceLemmas::not_there))]
+fn add(library: &mut ProgramLibrary, program: &SoloProgram) -> Result<(), AllocError> {
+    if library.has(&program.name) {
+        return Ok(());
+    }
+    library.add(SoloProgram {
+        name: program.name,
+        requests: program.requests.clone()?,
+    })
+}
+
+/// The programs of a case by their names, of which the first of each counts.
+fn library_of(alloc: Global, case: &Case<'_>) -> Result<ProgramLibrary, AllocError> {
+    let mut library = ProgramLibrary::new(alloc);
+    for program in programs_of(case) {
+        add(&mut library, program)?;
+    }
+    Ok(library)
+}
+
+/// The most lines that a job writes, in a program library as the machine has it.
+fn budget(alloc: Global, job: &Job<'_>) -> Result<usize, AllocError> {
+    let library = library_of(alloc, job.case)?;
+    budget_of(job.plan, &library)
 }
 
 /// The solo meaning of a job, or along the outcomes that are given.
@@ -195,7 +223,7 @@ fn tell_runs(told: &mut Told, alone: &Told, lists: &Run, volumes: &Run) {
 
 /// What is known of a job from its plan: its budget, and the names that it holds.
 fn tell_plan(alloc: Global, told: &mut Told, job: &Job<'_>) {
-    if let Some(budget) = told.got(budget_of(alloc, job.plan, programs_of(job.case))) {
+    if let Some(budget) = told.got(budget(alloc, job)) {
         told.numbered_line(b"BUDGET ", budget as u64);
     }
     if let Some(names) = told.got(names_of(alloc, job.plan)) {

@@ -2,9 +2,9 @@
 ghost use Rattle.std.specs.Prelude.{◌≡◌, ◌+◌, IfOk, sum_by};
 ghost use Rattle.jcl_meaning.specs.Agendas.{budget_of, passing, step_budget};
 
+use crate::library::ProgramLibrary;
 use jcl_meaning::words::passes;
 use jcl_plan::plan::{JobPlan, StepPlan};
-use prog_core::library::ProgramLibrary;
 use std::alloc::AllocError;
 
 /// A sum; one past a machine word is answered as want of memory.
