@@ -4,7 +4,6 @@
 pub mod backlog;
 pub mod cancels;
 pub mod laws;
-pub mod names;
 pub mod read;
 pub mod reading;
 pub mod records;

@@ -3,12 +3,13 @@ ghost use Rattle.std.specs.Prelude.{◌≡◌, true};
 ghost use Rattle.enq_core.specs.Holds.{HoldsNone};
 
 use crate::deck::next_job;
-use enq_core::table::{Blocked, EnqTable};
+use enq_core::table::{Blocked, EnqTable, Held, HoldFault};
 use jcl_plan::entry::JobLine;
 use jcl_plan::plan::JobPlan;
 use job_core::backlog::{Backlog, Listing};
 use job_core::cancels::Cancels;
-use job_core::names::{Named, hold_names};
+use job_core::laws::wants_are_in_order;
+use job_core::wants::wants_of;
 use plain::listed::Listed;
 use row_table::desk::Line;
 use row_table::told::Told;
@@ -32,18 +33,41 @@ fn tell_blocked(told: &mut Told, blocked: &Blocked) {
     told.line_of_two(b" ", blocked.name.as_slice());
 }
 
+/// Holds the names of a plan for a job that holds none, and tells how many they are, or what stands in the way.
+fn hold(
+    alloc: Global,
+    table: &mut EnqTable,
+    job: u16,
+    plan: &JobPlan,
+    told: &mut Told,
+) -> Option<Held>
+    requires { HoldsNone table.old job }
+{
+    let wants = told.got(wants_of(alloc, plan))?;
+    wants_are_in_order();
+    match table.hold_all(job, wants.as_slice()) {
+        Ok(held) => {
+            told.numbered_line(b"HOLDS ", wants.len() as u64);
+            Some(held)
+        }
+        Err(HoldFault::Blocked(blocked)) => {
+            tell_blocked(told, &blocked);
+            None
+        }
+        Err(HoldFault::Memory) => {
+            told.want();
+            None
+        }
+    }
+}
+
 /// Tells how many names a plan's job holds, or what stands in its way, and gives them free again.
 fn tell_tried(alloc: Global, table: &mut EnqTable, job: u16, plan: &JobPlan, told: &mut Told) {
     if !holds_none(table, job) {
         return told.not_allowed();
     }
-    match told.got(hold_names(alloc, table, job, plan)) {
-        Some(Named::Blocked(blocked)) => tell_blocked(told, &blocked),
-        Some(Named::Holds(held, count)) => {
-            table.release(held);
-            told.numbered_line(b"HOLDS ", count as u64);
-        }
-        None => {}
+    if let Some(held) = hold(alloc, table, job, plan, told) {
+        table.release(held);
     }
 }
 
@@ -53,14 +77,9 @@ fn tell_both(alloc: Global, first: u16, second: u16, plan: &JobPlan, told: &mut 
     if !holds_none(&table, first) {
         return;
     }
-    match told.got(hold_names(alloc, &mut table, first, plan)) {
-        Some(Named::Blocked(blocked)) => tell_blocked(told, &blocked),
-        Some(Named::Holds(held, count)) => {
-            told.numbered_line(b"HOLDS ", count as u64);
-            tell_tried(alloc, &mut table, second, plan, told);
-            table.release(held);
-        }
-        None => {}
+    if let Some(held) = hold(alloc, &mut table, first, plan, told) {
+        tell_tried(alloc, &mut table, second, plan, told);
+        table.release(held);
     }
     told.numbered_line(b"LEFT ", table.holds().len() as u64);
 }
