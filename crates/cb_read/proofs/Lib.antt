@@ -1,4 +1,5 @@
 pub mod Chained
 pub mod InRange
 pub mod Parts
+mod Widths
 pub mod Sound

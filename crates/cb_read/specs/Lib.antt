@@ -1,3 +1,4 @@
 pub mod Chains
 pub mod Ranges
 pub mod Reads
+pub mod Tests

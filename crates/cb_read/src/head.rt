@@ -6,7 +6,7 @@ ghost use Rattle.cb_read.specs.Ranges.{IsJobInRange};
 use crate::names::name8;
 use crate::records::record;
 use crate::steps::steps_read;
-use crate::tests_read::job_tests_read;
+use crate::tests_read::{TestsOf, tests_read};
 use cb_meaning::layout::Field;
 use cb_queue::store::RecordStore;
 use jcl_plan::plan::JobPlan;
@@ -27,7 +27,11 @@ pub(crate) fn plan_read<S: RecordStore>(
         class: r.byte(9),
         priority: r.byte(10),
         message_class: r.byte(11),
-        tests: job_tests_read(r.text(Field { at: 26, width: 24 }), r.byte(24)),
+        tests: tests_read(
+            TestsOf::Job,
+            r.text(Field { at: 26, width: 24 }),
+            r.byte(24),
+        ),
         steps: steps_read(alloc, store, r.number(store.layout().first_step))?,
     })
 }

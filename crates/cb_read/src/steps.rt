@@ -7,7 +7,7 @@ use crate::codes::after_abend_read;
 use crate::dds::dds_read;
 use crate::names::{name_read, name8};
 use crate::records::record;
-use crate::tests_read::step_tests_read;
+use crate::tests_read::{TestsOf, tests_read};
 use cb_meaning::layout::Field;
 use cb_queue::store::RecordStore;
 use cb_records::rec::Rec;
@@ -25,7 +25,11 @@ fn step_read<S: RecordStore>(alloc: Global, store: &S, r: &Rec) -> Result<StepPl
         procedure_step: name_read(r.text(Field { at: 24, width: 8 })),
         program: name8(r.text(Field { at: 32, width: 8 })),
         after_abend: after_abend_read(r.byte(14)),
-        tests: step_tests_read(r.text(Field { at: 40, width: 40 }), r.byte(15)),
+        tests: tests_read(
+            TestsOf::Step,
+            r.text(Field { at: 40, width: 40 }),
+            r.byte(15),
+        ),
         dds: dds_read(alloc, store, r.number(store.layout().first_dd))?,
     })
 }

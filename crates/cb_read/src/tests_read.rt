@@ -1,14 +1,22 @@
 //! The tests of a JOB statement and of a step, so many bytes each.
-ghost use Rattle.std.specs.Prelude.{◌≡◌, ◌+◌, ◌≤◌, All, length, map, take};
+ghost use Rattle.std.specs.Prelude.{◌≡◌, ◌+◌, ◌*◌, ◌≤◌, All, length, map, take};
 ghost use Rattle.jcl_plan.specs.declared.outcome.TheConstants.{GREATEST_CODE};
 ghost use Rattle.cb_meaning.specs.Fields.{number_of, part};
 ghost use Rattle.cb_meaning.specs.Readings.{job_test_read, step_test_read};
 ghost use Rattle.cb_meaning.specs.Walks.{in_parts};
 ghost use Rattle.cb_read.specs.Ranges.{IsTestInRange};
+ghost use Rattle.cb_read.specs.Tests.{test_read, width_of};
 
 use crate::codes::{number_read, operator_read};
 use jcl_plan::outcome::Code;
 use jcl_plan::plan::{Test, Tests, no_tests};
+
+/// Whose tests they are.
+#[derive(Clone, Copy)]
+pub(crate) enum TestsOf {
+    Job,
+    Step,
+}
 
 /// A number of two bytes.
 fn short_at(bytes: &[u8], at: usize) -> u16
@@ -49,36 +57,40 @@ fn step_test_read(test: &[u8]) -> Test
     }
 }
 
-/// The first so many of the eight tests of a JOB statement.
-pub(crate) fn job_tests_read(bytes: &[u8], count: u8) -> Tests
-    requires size { 24 ≤ length bytes.now }
-    requires range { All IsTestInRange (map job_test_read (take count (in_parts 8 3 bytes.now))) }
-    ensures { result.items ≡ map job_test_read (take count (in_parts 8 3 bytes.now)) }
+/// How many bytes a test has.
+fn width_of(kind: TestsOf) -> usize
+    ensures { result ≡ width_of kind }
 {
-    let mut tests = no_tests();
-    let mut rest = bytes;
-    let mut left = count.min(8);
-    while left > 0 {
-        let (test, behind) = rest.split_at(3);
-        tests.push(job_test_read(test));
-        rest = behind;
-        left -= 1;
+    match kind {
+        TestsOf::Job => 3,
+        TestsOf::Step => 5,
     }
-    tests
 }
 
-/// The first so many of the eight tests of a step.
-pub(crate) fn step_tests_read(bytes: &[u8], count: u8) -> Tests
-    requires size { 40 ≤ length bytes.now }
-    requires range { All IsTestInRange (map step_test_read (take count (in_parts 8 5 bytes.now))) }
-    ensures { result.items ≡ map step_test_read (take count (in_parts 8 5 bytes.now)) }
+fn test_read(kind: TestsOf, test: &[u8]) -> Test
+    requires size { width_of kind ≤ length test.now }
+    requires range { IsTestInRange (test_read kind test.now) }
+    ensures { result ≡ test_read kind test.now }
 {
+    match kind {
+        TestsOf::Job => job_test_read(test),
+        TestsOf::Step => step_test_read(test),
+    }
+}
+
+/// The first so many of the eight tests.
+pub(crate) fn tests_read(kind: TestsOf, bytes: &[u8], count: u8) -> Tests
+    requires size { width_of kind * 8 ≤ length bytes.now }
+    requires range { All IsTestInRange (map (test_read kind) (take count (in_parts 8 (width_of kind) bytes.now))) }
+    ensures { result.items ≡ map (test_read kind) (take count (in_parts 8 (width_of kind) bytes.now)) }
+{
+    let width = width_of(kind);
     let mut tests = no_tests();
     let mut rest = bytes;
     let mut left = count.min(8);
     while left > 0 {
-        let (test, behind) = rest.split_at(5);
-        tests.push(step_test_read(test));
+        let (test, behind) = rest.split_at(width);
+        tests.push(test_read(kind, test));
         rest = behind;
         left -= 1;
     }
