@@ -1,5 +1,7 @@
 //! The serials of volumes.
 ghost use Rattle.std.specs.Prelude.{◌≡◌, MatchOption};
+ghost use Rattle.std.specs.List.{list_any};
+ghost use Rattle.std.specs.Str.{bytes_eq};
 ghost use Rattle.jname_core.specs.Faults.{is_no_serial};
 ghost use Rattle.jname_core.specs.Grammar.{IsSerial};
 
@@ -52,4 +54,11 @@ impl Serial {
     {
         self.text.as_slice()
     }
+}
+
+/// Whether a serial is one of these.
+pub fn is_among(serials: &[Serial], serial: Serial) -> bool
+    ensures { result ≡ list_any (bytes_eq serial) serials.now }
+{
+    serials.iter().any(|s| serial.as_slice() == s.as_slice())
 }

@@ -1,7 +1,5 @@
 //! The events that change no job at an initiator.
 ghost use Rattle.std.specs.Prelude.{◌≡◌, ◌+◌, ◌++◌, ◌∷◌, [], IfErr, IfOk, IfSome, IfNone, OnErr, OnOk, Some, map, sum_by};
-ghost use Rattle.std.specs.List.{list_any};
-ghost use Rattle.std.specs.Str.{bytes_eq};
 ghost use Rattle.jcl_plan.specs.declared.entry.Entry.TheVariants as entry;
 ghost use Rattle.shared_core.specs.Tracks.{free_on, kept_shown, kept_tracks};
 ghost use Rattle.world_meaning.specs.Displays.{volume_line};
@@ -13,17 +11,10 @@ use crate::parts::Parts;
 use cb_queue::store::RecordStore;
 use jcl_plan::entry::{Entry, Written};
 use jcl_plan::fault::EventFault;
-use jname_core::serial::Serial;
+use jname_core::serial::{Serial, is_among};
 use mount_core::mounted::Mounted;
 use plain::listed::Listed;
 use std::alloc::{AllocError, Global};
-
-/// Whether a serial is one of these.
-fn has_serial(serials: &[Serial], serial: Serial) -> bool
-    ensures { result ≡ list_any (bytes_eq serial) serials.now }
-{
-    serials.iter().any(|v| serial.as_slice() == v.as_slice())
-}
 
 /// The operation under way on a volume is over. A refusal changes nothing.
 pub fn end_device<Q: RecordStore>(
@@ -36,7 +27,7 @@ pub fn end_device<Q: RecordStore>(
     ensures rest { parts.new ≡ record parts.old { units = parts.new.units } }
     ensures err { OnErr result (parts.new ≡ parts.old) }
 {
-    if !has_serial(volumes, serial) {
+    if !is_among(volumes, serial) {
         return Err(EventFault::NoSuchVolume);
     }
     match parts.units.device_end(serial) {

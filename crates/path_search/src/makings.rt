@@ -5,23 +5,16 @@ ghost use Rattle.std.specs.Str.{bytes_eq};
 ghost use Rattle.path_search.specs.Makings.{AreAdded, AreMarked, IsOfDd, IsRowAdded, is_some_of, made_of};
 
 use jcl_meaning::state::Place;
-use jname_core::serial::Serial;
+use jname_core::serial::{Serial, is_among};
 use plain::listed::Listed;
 use std::alloc::AllocError;
 use view_domain::crossed::Crossed;
-
-/// Whether a serial is one of these.
-fn has_serial(serials: &[Serial], serial: Serial) -> bool
-    ensures { result ≡ list_any (bytes_eq serial) serials.now }
-{
-    serials.iter().any(|s| serial.as_slice() == s.as_slice())
-}
 
 /// Puts a volume among those of a DD, once.
 fn mark_volume(row: &mut Listed<Serial>, serial: Serial) -> Result<(), AllocError>
     ensures { OnOk result (row.new ≡ (if list_any (bytes_eq serial) row.old then row.old else row.old ++ serial ∷ [])) }
 {
-    if !has_serial(row.as_slice(), serial) {
+    if !is_among(row.as_slice(), serial) {
         row.push(serial)?;
     }
     Ok(())
@@ -70,7 +63,7 @@ fn is_first_in(row: &[Serial], volumes: &[Serial], at: usize, serial: Serial) ->
     ensures { result ≡ (is_some_of at (position (bytes_eq serial) volumes.now) && list_any (bytes_eq serial) row.now) }
 {
     match position_of(volumes, serial) {
-        Some(first) => first == at && has_serial(row, serial),
+        Some(first) => first == at && is_among(row, serial),
         None => false,
     }
 }

@@ -1,7 +1,5 @@
 //! What a DD goes for, and what taking it decides.
 ghost use Rattle.std.specs.Prelude.{◌≡◌, Some};
-ghost use Rattle.std.specs.List.{list_any};
-ghost use Rattle.std.specs.Str.{bytes_eq};
 ghost use Rattle.jcl_meaning.specs.Takes.{at_or_lost, day_of, dd_volume, decide, first_passed, found_or_made, is_known, looked_at, on_volume};
 ghost use Rattle.jcl_meaning.specs.Takes.{primary_of, taken, target_of, there_or};
 ghost use Rattle.jcl_meaning.specs.declared.take.Target.TheVariants as target;
@@ -13,7 +11,7 @@ use jcl_plan::day::Day;
 use jcl_plan::fault::Fault;
 use jcl_plan::plan::{Expiry, Space, Status};
 use jname_core::key::Key;
-use jname_core::serial::Serial;
+use jname_core::serial::{Serial, is_among};
 
 /// A place on a volume, if there is one.
 pub fn at_or_lost(serial: Option<Serial>) -> Where
@@ -200,17 +198,6 @@ pub fn is_known(volumes: &[Serial], serial: &Option<Serial>) -> bool
         None => false,
         Some(serial) => is_among(volumes, *serial),
     }
-}
-
-fn is_among(volumes: &[Serial], serial: Serial) -> bool
-    ensures { result ≡ list_any (bytes_eq serial) volumes.now }
-{
-    for volume in volumes {
-        if serial.as_slice() == volume.as_slice() {
-            return true;
-        }
-    }
-    false
 }
 
 /// The tracks that a set asks for when it is made: 0 without SPACE.
