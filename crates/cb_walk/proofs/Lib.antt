@@ -1,6 +1,5 @@
 mod Passing
 mod Several
-mod Trims
 mod Earlier
 mod UsedFields
 mod Serials

@@ -1,25 +1,14 @@
 //! Texts of a record: names, serials, cards, zeros.
-ghost use Rattle.std.specs.Prelude.{◌≡◌, ◌≤◌, ◌==◌, ◌||◌, ◌&&◌, length, not, take};
+ghost use Rattle.std.specs.Prelude.{◌≡◌, ◌==◌, ◌||◌, ◌&&◌, not};
 ghost use Rattle.std.specs.List.{list_all};
 ghost use Rattle.jname_core.specs.Generations.{has_generation_form};
 ghost use Rattle.jcl_plan.specs.Texts.{trimmed};
 ghost use Rattle.cb_meaning.specs.Walks.{are_printable, is_blank, is_ds_name, is_name, is_name_or_blank, is_serial};
 
+use jcl_plan::text::trimmed_len;
 use jname_core::ds_name::{DsName, faults_are_exact, read_base, read_ds_name};
 use jname_core::name8::Name8;
 use jname_core::serial::Serial;
-
-/// How long a text is without the blanks at its end.
-fn trimmed_len(text: &[u8]) -> usize
-    ensures within { result ≤ length text.now }
-    ensures trimmed { take result text.now ≡ trimmed text.now }
-{
-    let mut len = text.len();
-    while len > 0 && text[len - 1] == b' ' {
-        len -= 1;
-    }
-    len
-}
 
 /// A text without the blanks at its end.
 pub fn trimmed(text: &[u8]) -> &[u8]

@@ -6,5 +6,5 @@ pub mod entry;
 pub mod fault;
 pub mod outcome;
 pub mod plan;
-mod text;
+pub mod text;
 pub mod words;

@@ -54,7 +54,7 @@ fn push_zeros(out: &mut Draft, count: usize) -> Result<(), AllocError>
 }
 
 /// How long a text is without the blanks at its end.
-fn trimmed_len(text: &[u8]) -> usize
+pub fn trimmed_len(text: &[u8]) -> usize
     ensures within { result ≤ length text.now }
     ensures trimmed { take result text.now ≡ trimmed text.now }
 {
