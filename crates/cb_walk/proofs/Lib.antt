@@ -1,4 +1,4 @@
-mod Passing
+mod Cleared
 mod Several
 mod Earlier
 mod UsedFields

@@ -1,6 +1,5 @@
 pub mod Below
 pub mod Dds
-pub mod Ends
 pub mod Follows
 pub mod Jobs
 pub mod Marks

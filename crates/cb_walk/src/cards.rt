@@ -41,7 +41,7 @@ fn are_cards_bad(r: &Rec) -> bool
 pub(crate) fn card_fault(layout: &Layout, r: &Rec) -> Option<u8>
     ensures { result ≡ lowest (card_faults layout.now r.now) }
 {
-    if are_cards_bad(r) || is_second_bad(r) || !is_zero_but(&card_fields(layout), r.bytes()) {
+    if are_cards_bad(r) || is_second_bad(r) || !is_zero_but(&card_fields(layout), r) {
         Some(12)
     } else {
         None

@@ -113,7 +113,7 @@ fn siot_fields(layout: &Layout, r: &Rec) -> [Field; 15]
 fn is_rest_zero(layout: &Layout, r: &Rec) -> bool
     ensures { result ≡ is_zero_but (siot_fields_used layout.now r.now) r.now }
 {
-    is_zero_but(&siot_fields(layout, r), r.bytes())
+    is_zero_but(&siot_fields(layout, r), r)
 }
 
 fn is_name_bad(r: &Rec) -> bool

@@ -1,9 +1,9 @@
 //! The fields of a record, outside of which it is zero.
-ghost use Rattle.std.specs.Prelude.{◌≡◌, ◌<◌, length, true};
-ghost use Rattle.cb_meaning.specs.Fields.{field, is_in, is_zero_but};
-ghost use Rattle.cb_walk.specs.Ends.{AreZero, end_in};
+ghost use Rattle.std.specs.Prelude.{◌≡◌, ℕ, length, if◌then◌else◌};
+ghost use Rattle.cb_meaning.specs.Fields.{byte_at, field, is_in, is_zero_but};
 
-use cb_meaning::layout::Field;
+use cb_meaning::layout::{Field, RECORD_BYTES};
+use cb_records::rec::Rec;
 
 /// A field by its first byte and its bytes.
 pub(crate) fn field(at: u8, width: u8) -> Field
@@ -12,63 +12,24 @@ pub(crate) fn field(at: u8, width: u8) -> Field
     Field { at, width }
 }
 
-fn is_in(f: &Field, k: usize) -> bool
-    ensures { result ≡ is_in f.now k }
+/// Fills a field of a record with zeros, as far as it lies in the record.
+fn clear(bytes: &mut [u8], f: &Field)
+    ensures size { length bytes.new ≡ length bytes.old }
+    ensures bytes { (k : ℕ) → byte_at bytes.new k ≡ (if is_in f.now k then 0 else byte_at bytes.old k) }
 {
-    let at = usize::from(f.at);
-    at <= k && k < at + usize::from(f.width)
+    let from = usize::from(f.at).min(bytes.len());
+    let to = (from + usize::from(f.width)).min(bytes.len());
+    bytes[from..to].fill(0);
 }
 
-/// Where the first of these fields ends that has a byte, if one has it.
-fn end_in(named: &[Field], k: usize) -> Option<usize>
-    ensures { result ≡ end_in named.now k }
+/// Whether every byte outside of these fields is zero. A copy whose fields are filled with zeros is compared with zeros as a whole.
+pub(crate) fn is_zero_but(named: &[Field], r: &Rec) -> bool
+    ensures { result ≡ is_zero_but named.now r.now }
 {
+    let mut own = [0; RECORD_BYTES];
+    own.copy_from_slice(r.bytes());
     for f in named {
-        if is_in(f, k) {
-            return Some(usize::from(f.at) + usize::from(f.width));
-        }
+        clear(&mut own, f);
     }
-    None
-}
-
-/// Whether eight bytes are there from one on, and are zero.
-fn are_eight_zero(bytes: &[u8], k: usize) -> bool
-    requires { k < length bytes.now }
-    ensures { result ≡ true → AreZero bytes.now k 8 }
-{
-    if bytes.len() - k < 8 {
-        return false;
-    }
-    let eight = [
-        bytes[k],
-        bytes[k + 1],
-        bytes[k + 2],
-        bytes[k + 3],
-        bytes[k + 4],
-        bytes[k + 5],
-        bytes[k + 6],
-        bytes[k + 7],
-    ];
-    u64::from_le_bytes(eight) == 0
-}
-
-/// Whether every byte outside of these fields is zero. Where a byte is not zero, the field that has it is passed over.
-#[tactic(auto, using(crate::proofs::Passing::zero_step))]
-pub(crate) fn is_zero_but(named: &[Field], bytes: &[u8]) -> bool
-    ensures { result ≡ is_zero_but named.now bytes.now }
-{
-    let mut k = 0;
-    while k < bytes.len() {
-        if are_eight_zero(bytes, k) {
-            k += 8;
-        } else if bytes[k] == 0 {
-            k += 1;
-        } else {
-            match end_in(named, k) {
-                Some(end) => k = end,
-                None => return false,
-            }
-        }
-    }
-    true
+    own == [0; RECORD_BYTES]
 }

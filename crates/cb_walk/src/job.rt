@@ -59,7 +59,7 @@ pub(crate) fn jct_fault(layout: &Layout, r: &Rec) -> Option<u8>
     let count = r.byte(24);
     let other = are_classes_bad(r)
         || !are_zero_behind(tests, 3, 8, usize::from(count))
-        || !is_zero_but(&jct_fields(layout), r.bytes());
+        || !is_zero_but(&jct_fields(layout), r);
     lowest_of_job(
         !is_name(r.text(Field { at: 16, width: 8 })),
         tests_are_bad(tests, 3, count),

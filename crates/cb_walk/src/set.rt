@@ -109,10 +109,7 @@ fn is_amount_bad(r: &Rec) -> bool
 fn is_rest_bad(layout: &Layout, r: &Rec) -> bool
     ensures { result ≡ (nat_lt (byte_at r.now 8) 1 || nat_lt 5 (byte_at r.now 8) || (is_relative r.now && (nat_lt 1 (byte_at r.now 9) || nat_lt 255 (number_at r.now (field 10 2)))) || (not (is_relative r.now) && not (list_all (λ b. b == 0) (part r.now 9 3))) || not (is_zero_but (jfcb_fields layout.now) r.now)) }
 {
-    r.byte(8) < 1
-        || r.byte(8) > 5
-        || is_amount_bad(r)
-        || !is_zero_but(&jfcb_fields(layout), r.bytes())
+    r.byte(8) < 1 || r.byte(8) > 5 || is_amount_bad(r) || !is_zero_but(&jfcb_fields(layout), r)
 }
 
 fn are_names_bad(siot: &Rec, r: &Rec) -> bool

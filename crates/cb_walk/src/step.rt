@@ -61,7 +61,7 @@ pub(crate) fn sct_fault(layout: &Layout, k: u16, r: &Rec) -> Option<u8>
     let count = r.byte(15);
     let other = r.byte(14) > 2
         || !are_zero_behind(tests, 5, 8, usize::from(count))
-        || !is_zero_but(&sct_fields(layout), r.bytes());
+        || !is_zero_but(&sct_fields(layout), r);
     lowest_of_step(
         are_names_bad(r),
         tests_are_bad(tests, 5, count),

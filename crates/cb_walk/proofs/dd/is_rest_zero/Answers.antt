@@ -5,5 +5,5 @@ use Rattle.cb_walk.proofs.dd.is_rest_zero.Goals as goal
 
 pub returns : goal.returns
 returns c =
-    c.is_zero_but.ensures ∙ ap (λ r. is_zero_but c.siot_fields.result r) c.bytes.ensures.value ∙ ap (λ fs. is_zero_but fs c.args.r.now) c.siot_fields.ensures
+    c.is_zero_but.ensures ∙ ap (λ fs. is_zero_but fs c.args.r.now) c.siot_fields.ensures
     ∙ used_alike c.args.layout.now c.args.r.now

@@ -1,20 +1,19 @@
-use Rattle.std.proofs.Common.{sym, ◌∙◌, arith}
-use Rattle.cb_walk.proofs.Passing.{Covers, behind_field, behind_zeros, broken_at, covers}
+use Rattle.std.proofs.Common.{sym, ap, ◌+◌, drop, ◌∙◌}
+use Rattle.std.proofs.lemmas.List.{drop_more}
+use Rattle.cb_meaning.specs.Fields.{field, is_zero_but}
+use Rattle.cb_walk.proofs.Cleared.{all_zero, cleared}
 use Rattle.cb_walk.proofs.fields.is_zero_but.Goals as goal
 
-pub loop-k-smaller : goal.loop-k-smaller
-loop-k-smaller c =
-    let field : Covers c.args.named.now c.loop-k.k c.in-Some.end = covers c.args.named.now c.loop-k.k c.in-Some.end (sym c.in-Some.ensures) in
-    omega (arith, field.past, c.loop-k-test.true)
+pub loop-f-preserved : goal.loop-f-preserved
+loop-f-preserved c =
+    let named = c.args.named.now in
+    let i = c.loop-f.f-index in
+    record {
+      size = c.clear.ensures.size ∙ c.loop-f.invariant.size;
+      left =
+          cleared _ (drop (i + 1) named) c.loop-f.own c.clear.new.bytes c.clear.ensures.size c.clear.ensures.bytes
+          ∙ ap (λ fs. is_zero_but fs c.loop-f.own) (sym (drop_more named i (field 0 0) c.loop-f-test.true)) ∙ c.loop-f.invariant.left;
+    }
 
-pub loop-k-preserved : goal.loop-k-preserved
-loop-k-preserved c =
-    c.loop-k.invariant ∙ behind_field c.args.named.now c.args.bytes.now c.loop-k.k c.in-Some.end (sym c.in-Some.ensures)
-
-pub returns-in-None : goal.returns-in-None
-returns-in-None c =
-    sym (c.loop-k.invariant ∙ broken_at c.args.named.now c.args.bytes.now c.loop-k.k c.loop-k-test.true c.if-bytes-k-eq0.false (sym c.in-None.ensures))
-
-pub loop-k-preserved-then-are_eight_zero : goal.loop-k-preserved-then-are_eight_zero
-loop-k-preserved-then-are_eight_zero c =
-    c.loop-k.invariant ∙ behind_zeros c.args.named.now c.args.bytes.now c.loop-k.k 8 (c.are_eight_zero.ensures c.if-are_eight_zero.true)
+pub returns : goal.returns
+returns c = c.eq.ensures ∙ sym (all_zero c.args.named.now c.loop-f.f-index c.loop-f.own c.loop-f-test.false c.loop-f.invariant.size) ∙ c.loop-f.invariant.left
