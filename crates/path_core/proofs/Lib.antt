@@ -1,6 +1,7 @@
 pub mod Explained
 mod Certified
 mod Ending
+mod Kept
 mod Locating
 mod Marked
 mod Members
@@ -9,5 +10,4 @@ mod Passing
 mod PathFates
 mod SamePaths
 mod ShownOutcomes
-mod Still
 mod TakesBeside

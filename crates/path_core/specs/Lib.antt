@@ -1,5 +1,6 @@
 pub mod Endings
 pub mod FatesMet
+pub mod KeptSets
 pub mod Marks
 pub mod MarksMet
 pub mod Reports

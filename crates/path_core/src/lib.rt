@@ -5,8 +5,8 @@ pub mod analyse;
 pub mod check;
 pub mod explain;
 mod fates;
+pub mod keeping;
 mod marks;
-pub mod setless;
 pub mod start;
 
 ghost use Rattle.path_core.specs.Endings.{ExplanationsEnd};

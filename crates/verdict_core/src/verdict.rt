@@ -25,7 +25,7 @@ use part_core::part::part_of;
 use part_laws::start_fits;
 use path_core::analyse::analyse_named;
 use path_core::explain::path_lines;
-use path_core::setless::is_plainly_free;
+use path_core::keeping::is_plainly_free;
 use path_core::start::StartView;
 use path_search::verdict::Verdict;
 use plain::listed::Listed;
@@ -112,7 +112,7 @@ pub fn verdict_in(
     ensures { IfOk result (IsFound (fixed_in (serials_of store.now.volumes) (seen job (world_store_of store.now)) plan.now places.now date) plan.now
         (seen job (world_store_of store.now)) most_views explains) }
 {
-    if is_plainly_free(plan, most_views) {
+    if is_plainly_free(plan, store, job, meanings, most_views) {
         return Ok(free(alloc));
     }
     start_fits();

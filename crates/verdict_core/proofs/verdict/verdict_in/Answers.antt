@@ -1,4 +1,4 @@
-use Rattle.std.proofs.Common.{◌∙◌}
+use Rattle.std.proofs.Common.{◌∙◌, sym}
 use Rattle.jcl_meaning.specs.Solo.{fixed_in}
 use Rattle.jcl_meaning.specs.Stores.{store_of}
 use Rattle.shared_core.specs.Shown.{world_store_of}
@@ -11,7 +11,7 @@ pub returns-then-is_plainly_free : goal.returns-then-is_plainly_free
 returns-then-is_plainly_free c =
     let store = seen c.args.job (world_store_of c.args.store.now) in
     let fixed = fixed_in (serials_of c.args.store.now.volumes) store c.args.plan.now c.args.places.now c.args.date in
-    c.free.ensures fixed c.args.plan.now store c.args.most_views c.args.explains (c.if-is_plainly_free.ensures fixed store)
+    c.free.ensures fixed c.args.plan.now store c.args.most_views c.args.explains (c.if-is_plainly_free.ensures fixed (sym c.requires.meanings))
 
 pub returns : goal.returns
 returns c =
