@@ -1,2 +1,1 @@
 pub mod Libraries
-pub mod Places

@@ -4,10 +4,10 @@ ghost use Rattle.std.specs.Option.{option_copied};
 ghost use Rattle.proc_library.specs.Libraries.{has_procedure, in_library};
 
 use jname_core::name8::Name8;
+use name_places::places::NamePlaces;
 use plain::listed::Listed;
 use plain::text::Text;
 use std::alloc::{AllocError, Global};
-use std::collections::BTreeMap;
 use std::marker::Model;
 
 /// A procedure of the library, by its name: its lines.
@@ -21,19 +21,19 @@ pub struct LibraryProcedure {
 #[derive(Drop)]
 pub struct ProcLibrary {
     list: Vec<LibraryProcedure>,
-    places: BTreeMap<Name8, usize>,
+    /// The names of the procedures, in the same order.
+    places: NamePlaces,
 }
 
 impl Model for ProcLibrary {
-    ghost use Rattle.std.specs.Prelude.{List};
+    ghost use Rattle.std.specs.Prelude.{◌≡◌, List, map};
     ghost use Rattle.proc_library.specs.declared.library.LibraryProcedure.{LibraryProcedure};
-    ghost use Rattle.proc_library.specs.Places.{ArePlacesOf};
 
     ghost Value = { List LibraryProcedure };
 
     ghost view = { λ l. l.list.items };
 
-    ghost invariant = { λ l. ArePlacesOf l.places l.list.items };
+    ghost invariant = { λ l. map (λ p. p.name) l.list.items ≡ l.places };
 }
 
 impl ProcLibrary {
@@ -43,22 +43,22 @@ impl ProcLibrary {
     {
         ProcLibrary {
             list: Vec::new(alloc),
-            places: BTreeMap::new(alloc),
+            places: NamePlaces::new(alloc),
         }
     }
 
     pub fn has(&self, name: &Name8) -> bool
         ensures { result ≡ has_procedure self.now name.now }
     {
-        self.places.contains_key(name)
+        self.places.find(name.as_slice()).is_some()
     }
 
     /// The procedure of a name.
     pub fn find(&self, name: &Name8) -> Option<&LibraryProcedure>
         ensures { option_copied result ≡ in_library self.now name.now }
     {
-        match self.places.get(name) {
-            Some(place) => self.list.get(*place),
+        match self.places.find(name.as_slice()) {
+            Some(place) => self.list.get(place),
             None => None,
         }
     }
@@ -70,9 +70,7 @@ impl ProcLibrary {
         ensures err { OnErr result (self.new ≡ self.old) }
     {
         self.list.reserve(1)?;
-        let Ok(_) = self.places.insert(procedure.name, self.list.len()) else {
-            return Err(AllocError);
-        };
+        self.places.add(procedure.name.as_slice())?;
         let Ok(()) = self.list.push(procedure) else {
             unreachable!();
         };

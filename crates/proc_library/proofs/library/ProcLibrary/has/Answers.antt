@@ -1,11 +1,9 @@
 use Rattle.std.proofs.Common.{Option, ℕ, is_some, ap, ◌∙◌}
-use Rattle.proc_library.specs.Libraries.{has_procedure}
-use Rattle.proc_library.proofs.PlaceLemmas.{has_place}
+use Rattle.name_places.proofs.Named.{has_named}
 use Rattle.proc_library.proofs.library.ProcLibrary.has.Goals as goal
 
 pub returns : goal.returns
 returns c =
-    let library = c.self.inside.list.items in
-    let name = c.args.name.now in
-    c.contains_key.ensures ∙ ap (λ (place : Option ℕ). is_some place) (c.self.invariant name) ∙ has_place library name
-    ∙ ap (λ library. has_procedure library name) c.self.view_is
+    rw (← c.self.view_is, ← c.as_slice.ensures.value)
+    (c.is_some.ensures ∙ ap (λ (place : Option ℕ). is_some place) c.find.ensures
+    ∙ has_named (λ p. p.name) (λ p. p) c.self.inside.list.items c.self.inside.places c.as_slice.result.now c.self.invariant)
