@@ -61,7 +61,6 @@ fn requests(alloc: Global, line: &mut Line<'_>) -> Listed<Request> {
 }
 
 /// Adds a program, if its name is new.
-#[tactic(auto, using(prog_core::proofs::PlaceLemmas::not_there))]
 fn add(library: &mut ProgramLibrary, program: SoloProgram) -> Result<bool, AllocError> {
     if library.has(&program.name) {
         return Ok(false);

@@ -1,3 +1,2 @@
 pub mod MoveLemmas
 pub mod OperationLemmas
-pub mod PlaceLemmas

@@ -1,4 +1,3 @@
 pub mod Moves
 pub mod RefusalNumbers
 pub mod Operations
-pub mod Places

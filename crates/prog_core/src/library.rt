@@ -7,8 +7,8 @@ use crate::counted::CountedProgram;
 use jcl_meaning::program::{Move, SoloProgram, is_iefbr14};
 use jcl_plan::outcome::{Abend, Code, Outcome};
 use jname_core::name8::Name8;
+use name_places::places::NamePlaces;
 use std::alloc::{AllocError, Global};
-use std::collections::BTreeMap;
 use std::marker::Model;
 
 /// The programs in the order in which they were added; one is found by its name without going through them all, and so is each record
@@ -16,19 +16,19 @@ use std::marker::Model;
 #[derive(Drop)]
 pub struct ProgramLibrary {
     list: Vec<CountedProgram>,
-    places: BTreeMap<Name8, usize>,
+    /// The names of the programs, in the same order.
+    places: NamePlaces,
 }
 
 impl Model for ProgramLibrary {
-    ghost use Rattle.std.specs.Prelude.{List};
+    ghost use Rattle.std.specs.Prelude.{◌≡◌, List, map};
     ghost use Rattle.jcl_meaning.specs.declared.program.SoloProgram.{SoloProgram};
-    ghost use Rattle.prog_core.specs.Places.{ArePlacesOf};
 
     ghost Value = { List SoloProgram };
 
     ghost view = { λ l. l.list.items };
 
-    ghost invariant = { λ l. ArePlacesOf l.places l.list.items };
+    ghost invariant = { λ l. map (λ p. p.name) l.list.items ≡ l.places };
 }
 
 impl ProgramLibrary {
@@ -38,14 +38,14 @@ impl ProgramLibrary {
     {
         ProgramLibrary {
             list: Vec::new(alloc),
-            places: BTreeMap::new(alloc),
+            places: NamePlaces::new(alloc),
         }
     }
 
     pub fn has(&self, name: &Name8) -> bool
         ensures { result ≡ is_some (program_of self.now name.now) }
     {
-        self.places.contains_key(name)
+        self.places.find(name.as_slice()).is_some()
     }
 
     /// Adds a program of a new name. An `Err` changes nothing.
@@ -57,9 +57,7 @@ impl ProgramLibrary {
         let name = program.name;
         let counted = CountedProgram::new(program);
         self.list.reserve(1)?;
-        let Ok(_) = self.places.insert(name, self.list.len()) else {
-            return Err(AllocError);
-        };
+        self.places.add(name.as_slice())?;
         let Ok(()) = self.list.push(counted) else {
             unreachable!();
         };
@@ -69,8 +67,8 @@ impl ProgramLibrary {
     fn find(&self, name: &Name8) -> Option<&CountedProgram>
         ensures { option_map (λ p. p.now.requests) result ≡ program_of self.now name.now }
     {
-        match self.places.get(name) {
-            Some(place) => self.list.get(*place),
+        match self.places.find(name.as_slice()) {
+            Some(place) => self.list.get(place),
             None => None,
         }
     }

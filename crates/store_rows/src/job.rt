@@ -53,7 +53,6 @@ fn programs_of<'a>(case: &'a Case<'_>) -> &'a [SoloProgram] {
 }
 
 /// Adds a copy of a program where there is none of its name.
-#[tactic(auto, using(prog_core::proofs::PlaceLemmas::not_there))]
 fn add(library: &mut ProgramLibrary, program: &SoloProgram) -> Result<(), AllocError> {
     if library.has(&program.name) {
         return Ok(());

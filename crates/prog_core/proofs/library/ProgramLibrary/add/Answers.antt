@@ -1,18 +1,16 @@
-use Rattle.std.proofs.Common.{◌≡◌, ℕ, Some, length, ap, ◌∙◌, subst, arith}
-use Rattle.std.specs.BTreeMap.{Updates}
-use Rattle.std.specs.Cmp.Lexicographic.{slice_cmp}
-use Rattle.std.specs.Ordering.{nat_cmp}
+use Rattle.std.proofs.Common.{List, Option, is_some, ap, ◌∙◌}
+use Rattle.jcl_meaning.specs.declared.program.Request.{Request}
 use Rattle.jcl_meaning.specs.Programs.{program_of}
-use Rattle.prog_core.proofs.PlaceLemmas.{places_more}
+use Rattle.name_places.proofs.Named.{names_more, new_name}
 use Rattle.prog_core.proofs.library.ProgramLibrary.add.Goals as goal
+
+pub add-requires-clause-new : goal.add-requires-clause-new
+add-requires-clause-new c =
+    rw c.as_slice.ensures.value
+    (new_name (λ p. p.name) (λ p. p.requests) c.self.inside.list.items c.self.inside.places c.args.program.name c.self.invariant
+    (ap (λ (found : Option (List Request)). is_some found) (ap (λ programs. program_of programs c.args.program.name) c.self.view_is ∙ c.requires)))
 
 pub invariant_of-self-2 : goal.invariant_of-self-2
 invariant_of-self-2 c =
-    let programs = c.self.inside.list.items in
-    let program = c.args.program in
-    let size : c.len.result ≡ length programs = omega (arith, c.len.ensures, c.in_ok-reserve.ensures.len) in
-    let Q : ℕ → Type 0 = λ n. Updates (slice_cmp nat_cmp) c.self.inside.places c.insert.new.self program.name (Some n) in
-    rw (c.in-Ok-push.ensures.items, c.in_ok-reserve.ensures.items, c.new-counted.ensures)
-    (places_more c.self.inside.places c.insert.new.self programs program c.self.invariant
-    (ap (λ programs. program_of programs program.name) c.self.view_is ∙ c.requires)
-    (subst Q size c.in-Ok.ensures.updates))
+    rw (c.in-Ok.ensures.items, c.in_ok-reserve.ensures.items, c.in_ok-add.ensures.ok, c.as_slice.ensures.value, c.new-counted.ensures)
+    (names_more (λ p. p.name) c.self.inside.list.items c.self.inside.places c.args.program c.self.invariant)

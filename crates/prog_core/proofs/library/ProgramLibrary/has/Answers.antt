@@ -1,12 +1,9 @@
-use Rattle.std.proofs.Common.{List, Option, ℕ, is_some, ap, ◌∙◌}
-use Rattle.jcl_meaning.specs.declared.program.Request.{Request}
-use Rattle.jcl_meaning.specs.Programs.{program_of}
-use Rattle.prog_core.proofs.PlaceLemmas.{has_place}
+use Rattle.std.proofs.Common.{Option, ℕ, is_some, ap, ◌∙◌}
+use Rattle.name_places.proofs.Named.{has_named}
 use Rattle.prog_core.proofs.library.ProgramLibrary.has.Goals as goal
 
 pub returns : goal.returns
 returns c =
-    let programs = c.self.inside.list.items in
-    let name = c.args.name.now in
-    c.contains_key.ensures ∙ ap (λ (place : Option ℕ). is_some place) (c.self.invariant name) ∙ has_place programs name
-    ∙ ap (λ programs. let found : Option (List Request) = program_of programs name in is_some found) c.self.view_is
+    rw (← c.self.view_is, ← c.as_slice.ensures.value)
+    (c.is_some.ensures ∙ ap (λ (place : Option ℕ). is_some place) c.find.ensures
+    ∙ has_named (λ p. p.name) (λ p. p.requests) c.self.inside.list.items c.self.inside.places c.as_slice.result.now c.self.invariant)
