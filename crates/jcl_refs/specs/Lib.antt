@@ -4,6 +4,5 @@ pub mod Meant
 pub mod Plans
 pub mod Kinds
 pub mod Planning
-pub mod Numbered
 pub mod Looking
 pub mod Examples

@@ -3,26 +3,24 @@ ghost use Rattle.std.specs.Prelude.{◌≡◌, ◌<◌, ◌++◌, ◌∷◌, [],
 ghost use Rattle.jcl_refs.specs.Plans.{unit_number};
 
 use jname_core::name8::UnitName;
+use name_places::places::NamePlaces;
 use std::alloc::{AllocError, Global};
-use std::collections::BTreeMap;
 use std::marker::Model;
 
 /// The names of units in the order of the configuration. They count from 1.
 #[derive(Drop)]
 pub struct UnitNames {
-    names: Vec<UnitName>,
-    numbers: BTreeMap<UnitName, u16>,
+    places: NamePlaces,
 }
 
 impl Model for UnitNames {
-    ghost use Rattle.std.specs.Prelude.{ℕ, List};
-    ghost use Rattle.jcl_refs.specs.Numbered.{AreNumbersOf};
+    ghost use Rattle.std.specs.Prelude.{◌≤◌, ℕ, List, length};
 
     ghost Value = { List (List ℕ) };
 
-    ghost view = { λ u. u.names.items };
+    ghost view = { λ u. u.places };
 
-    ghost invariant = { λ u. AreNumbersOf u.numbers u.names.items };
+    ghost invariant = { λ u. length u.places ≤ 65535 };
 }
 
 impl UnitNames {
@@ -31,8 +29,7 @@ impl UnitNames {
         ensures { result ≡ [] }
     {
         UnitNames {
-            names: Vec::new(alloc),
-            numbers: BTreeMap::new(alloc),
+            places: NamePlaces::new(alloc),
         }
     }
 
@@ -40,14 +37,15 @@ impl UnitNames {
     pub fn len(&self) -> usize
         ensures { result ≡ length self.now }
     {
-        self.names.len()
+        self.places.len()
     }
 
     /// The number of a name, where it is configured.
     pub fn number(&self, name: &UnitName) -> Option<u16>
         ensures { result ≡ unit_number self.now name.now }
     {
-        self.numbers.get(name).copied()
+        let place = self.places.find(name.as_slice())?;
+        Some(place as u16 + 1)
     }
 
     /// Adds a name that is not there yet. An `Err` changes nothing.
@@ -57,14 +55,7 @@ impl UnitNames {
         ensures ok { OnOk result (self.new ≡ self.old ++ name ∷ []) }
         ensures err { OnErr result (self.new ≡ self.old) }
     {
-        let number = self.names.len() as u16 + 1;
-        self.names.reserve(1)?;
-        let Ok(_) = self.numbers.insert(name, number) else {
-            return Err(AllocError);
-        };
-        let Ok(()) = self.names.push(name) else {
-            unreachable!();
-        };
+        self.places.add(name.as_slice())?;
         Ok(())
     }
 }
