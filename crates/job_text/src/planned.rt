@@ -35,6 +35,10 @@ impl JobText for JobPlan {
         step_text(&self.steps.as_slice()[step])
     }
 
+    fn program(&self, step: usize) -> Name8 {
+        self.steps.as_slice()[step].program
+    }
+
     fn test_count(&self, step: usize) -> usize {
         self.steps.as_slice()[step].tests.len()
     }

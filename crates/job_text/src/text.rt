@@ -28,6 +28,12 @@ pub trait JobText {
         requires step { step < length (plan self.now).steps }
         ensures { result ≡ step_text (step_at (plan self.now).steps step) };
 
+    /// The name of a step's program alone.
+    fn program(&self, step: usize) -> Name8
+        requires reads { reads self.now }
+        requires step { step < length (plan self.now).steps }
+        ensures { result ≡ (step_at (plan self.now).steps step).program };
+
     /// How many tests a step has.
     fn test_count(&self, step: usize) -> usize
         requires reads { reads self.now }

@@ -1,5 +1,5 @@
 //! A program whose moves are counted once.
-ghost use Rattle.std.specs.Prelude.{◌≡◌, ◌≤◌, drop, length, slice_get};
+ghost use Rattle.std.specs.Prelude.{◌≡◌, ◌<◌, ◌≤◌, IfSome, drop, length, slice_get};
 ghost use Rattle.jcl_meaning.specs.Programs.{ending_in, moves_in};
 ghost use Rattle.prog_core.specs.Moves.{move_by};
 
@@ -81,7 +81,8 @@ impl CountedProgram {
 
     /// The move at a place, from 0.
     pub(crate) fn move_at(&self, place: usize) -> Option<Move>
-        ensures { result ≡ slice_get (moves_in self.now.requests) place }
+        ensures value { result ≡ slice_get (moves_in self.now.requests) place }
+        ensures fits { IfSome result (λ _. place < usize.MAX) }
     {
         if place >= self.moves {
             return None;

@@ -1,5 +1,5 @@
 //! The programs of a session, each by its name.
-ghost use Rattle.std.specs.Prelude.{◌≡◌, ◌++◌, ◌∷◌, [], None, OnOk, OnErr, is_some, length, slice_get};
+ghost use Rattle.std.specs.Prelude.{◌≡◌, ◌<◌, ◌++◌, ◌∷◌, [], None, IfSome, OnOk, OnErr, is_some, length, slice_get};
 ghost use Rattle.std.specs.Option.{option_map};
 ghost use Rattle.jcl_meaning.specs.Programs.{ending_of, moves_of, program_of};
 
@@ -88,7 +88,8 @@ impl ProgramLibrary {
 
     /// The move at a place of a step's program, from 0.
     pub fn move_at(&self, name: &Name8, place: usize) -> Option<Move>
-        ensures { result ≡ slice_get (moves_of self.now name.now) place }
+        ensures value { result ≡ slice_get (moves_of self.now name.now) place }
+        ensures fits { IfSome result (λ _. place < usize.MAX) }
     {
         if is_iefbr14(name) {
             return None;

@@ -1,5 +1,5 @@
 //! The operations under way on the volumes.
-ghost use Rattle.std.specs.Prelude.{◌≡◌, ◌↔◌, ◌++◌, ◌∷◌, [], true, false, Some, IsErr, IfErr, OnOk, OnErr, map};
+ghost use Rattle.std.specs.Prelude.{◌≡◌, ◌↔◌, ◌==◌, ◌++◌, ◌∷◌, [], true, false, Some, IsErr, IfErr, OnOk, OnErr, length, map};
 ghost use Rattle.prog_core.specs.Operations.{has_operation, is_busy, is_owner, without_operation, without_owner, IsRoomFor, OneEach};
 
 use crate::fault::UnitFault;
@@ -86,6 +86,13 @@ impl Units {
         Units {
             operations: ArrayVec::new(),
         }
+    }
+
+    /// Whether no operation is under way.
+    pub fn is_idle(&self) -> bool
+        ensures { result ≡ (length self.now == 0) }
+    {
+        self.operations.is_empty()
     }
 
     /// Whether an operation is under way on the volume.

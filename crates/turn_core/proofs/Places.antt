@@ -22,6 +22,13 @@ drop_at xs i x e = rw add-one (drop-cons xs i x (slice_get_within xs i x e) ∙ 
 pub read_at : {X : Type 0} (xs : List X) (i : ℕ) (x : X) → i < length xs → x ≡ get_or xs i x → slice_get xs i ≡ Some x
 read_at xs i x h e = slice_get_read xs (length xs) i x refl h e
 
+-- where none was read there are no more
+pub none_past : {X : Type 0} (xs : List X) (i : ℕ) → slice_get xs i ≡ None → length xs ≤ i
+none_past xs i e = elim ((slice_get_cases xs i).1) [ inl there ↦ clash (sym there.2 ∙ e) | inr past ↦ past.0 ]
+  where
+    clash : {X A : Type 0} {x : X} → Some x ≡ None → A
+    clash h = absurd cc
+
 module _ (moves : List ℕ → List Move) (steps : List StepPlan) where
   -- a step that is there
   pub here : (k : ℕ) (step : StepPlan) (rest : StepPlan → List Action) → slice_get steps k ≡ Some step → in_step (slice_get steps k) rest ≡ rest step

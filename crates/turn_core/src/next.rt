@@ -89,20 +89,16 @@ fn next_ask<T: JobText>(text: &T, programs: &ProgramLibrary, k: usize, request: 
     if k >= text.step_count() {
         return Next::Over;
     }
-    let step = text.step(k);
-    if request < programs.move_count(&step.program) {
-        let Some(wants) = programs.move_at(&step.program, request) else {
-            unreachable!();
-        };
-        return Next::Does(
+    match programs.move_at(&text.program(k), request) {
+        Some(wants) => Next::Does(
             Task::Ask { n: k + 1, wants },
             Todo::Receive {
                 step: k,
                 request: request + 1,
             },
-        );
+        ),
+        None => Next::Does(Task::Finish { n: k + 1 }, Todo::Dispose { step: k, dd: 0 }),
     }
-    Next::Does(Task::Finish { n: k + 1 }, Todo::Dispose { step: k, dd: 0 })
 }
 
 /// The taking of a DD, or the first request.

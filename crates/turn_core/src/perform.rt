@@ -60,8 +60,8 @@ pub(crate) fn perform<T: JobText, S: JobStore>(
             Ok(None)
         }
         Task::Finish { n } => {
-            let step = text.step(*n - 1);
-            let outcome = setting.programs.ending_of(&step.program);
+            let program = text.program(*n - 1);
+            let outcome = setting.programs.ending_of(&program);
             step::finish(alloc, course, *n, &outcome, cancelled)?;
             Ok(None)
         }

@@ -39,7 +39,7 @@ fn asks_of_busy<T: JobText, S: JobStore>(
     requires step { step < length (T.plan text.now).steps }
     ensures { result ≡ waits_in setting.now (Ask (step_at (T.plan text.now).steps step) wants.now) (S.seen setting.now.job store.now) own.now }
 {
-    if setting.cancelled {
+    if setting.cancelled || setting.units.is_idle() {
         return false;
     }
     let needed = volume_asked_for(text, store, setting.job, step, wants, own.dds.as_slice());

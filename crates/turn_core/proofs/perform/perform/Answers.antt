@@ -8,7 +8,6 @@ use Rattle.disp_core.specs.Grants.{primary_granted}
 use Rattle.disp_core.specs.declared.site.Site.{Site}
 use Rattle.std.proofs.Common.{subst}
 use Rattle.job_text.specs.Places.{dd_at, step_at}
-use Rattle.job_text.specs.declared.texts.StepText.{StepText}
 use Rattle.turn_core.specs.Places.{IsThere}
 use Rattle.turn_core.specs.Performing.{StoreAnswers}
 use Rattle.turn_core.proofs.Places.{step_at_is}
@@ -81,7 +80,7 @@ returns-in_ok-finish-in-Finish-clause-ok g c =
     subst (PerformsTask programs steps grants cancel fixed seen before seen c.finish.new.course None) (sym c.in-Finish.is)
     (performs_finish programs steps grants cancel fixed c.in-Finish.n (step_at steps (c.in-Finish.n - 1)) c.ending_of-outcome.result seen before c.finish.new.course
     (step_at_is steps c.in-Finish.n (subst (IsThere steps) c.in-Finish.is c.requires.there))
-    (c.ending_of-outcome.ensures ∙ ap (λ (s : StepText). ending_of programs s.program) c.step-step.ensures) c.in_ok-finish-in-Finish.ensures.ok)
+    (c.ending_of-outcome.ensures ∙ ap (ending_of programs) c.program-program.ensures) c.in_ok-finish-in-Finish.ensures.ok)
 
 pub returns-in_ok-dispose-in-Dispose-clause-ok : goal.returns-in_ok-dispose-in-Dispose-clause-ok
 returns-in_ok-dispose-in-Dispose-clause-ok g c =
