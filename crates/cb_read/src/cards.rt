@@ -5,10 +5,10 @@ ghost use Rattle.cb_meaning.specs.Fields.{part};
 ghost use Rattle.cb_meaning.specs.Readings.{cards_of_record};
 ghost use Rattle.cb_read.specs.Chains.{cards_from};
 
-use crate::records::record;
 use cb_meaning::layout::Field;
 use cb_queue::store::RecordStore;
 use cb_records::rec::Rec;
+use cb_walk::arrival::bring;
 use jcl_plan::plan::Record;
 use plain::listed::Listed;
 use std::alloc::{AllocError, Global};
@@ -44,13 +44,14 @@ pub(crate) fn cards_read<S: RecordStore>(
 {
     let layout = store.layout();
     let mut cards = Listed::empty(alloc);
+    let mut r = Rec::zeroed();
     let mut n = first;
     let mut left = u64::from(layout.most_records) + 1;
     while left > 0 {
         if n == 0 {
             return Ok(cards);
         }
-        let r = record(store, n);
+        bring(store, n, &mut r);
         add_cards(&mut cards, &r)?;
         n = r.number(layout.next_cards);
         left -= 1;

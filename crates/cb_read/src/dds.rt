@@ -10,6 +10,7 @@ use crate::set::set_read;
 use cb_meaning::layout::Field;
 use cb_queue::store::RecordStore;
 use cb_records::rec::Rec;
+use cb_walk::arrival::bring;
 use jcl_plan::plan::{DdKind, DdPlan};
 use plain::listed::Listed;
 use std::alloc::{AllocError, Global};
@@ -53,13 +54,14 @@ pub(crate) fn dds_read<S: RecordStore>(
 {
     let layout = store.layout();
     let mut dds = Listed::empty(alloc);
+    let mut r = Rec::zeroed();
     let mut n = first;
     let mut left = u64::from(layout.most_records) + 1;
     while left > 0 {
         if n == 0 {
             return Ok(dds);
         }
-        let r = record(store, n);
+        bring(store, n, &mut r);
         dds.push(dd_read(alloc, store, &r)?)?;
         n = r.number(layout.next_dd);
         left -= 1;

@@ -5,13 +5,15 @@ ghost use Rattle.walk_laws.specs.WalkLaws.{AreRecords};
 
 use cb_queue::store::RecordStore;
 use cb_records::rec::Rec;
-use cb_walk::arrival::{bytes_or_zeros, record_at};
+use cb_walk::arrival::bring;
 
 /// A record by its number, zeros where it is free.
 pub(crate) fn record<S: RecordStore>(store: &S, n: u32) -> Rec
     ensures { result ≡ (shown (S.queue store.now)).at n }
 {
-    bytes_or_zeros(record_at(store, n))
+    let mut own = Rec::zeroed();
+    bring(store, n, &mut own);
+    own
 }
 
 /// Each record of a store is whole and of bytes.

@@ -6,11 +6,11 @@ ghost use Rattle.cb_read.specs.Ranges.{IsStepInRange};
 use crate::codes::after_abend_read;
 use crate::dds::dds_read;
 use crate::names::{name_read, name8};
-use crate::records::record;
 use crate::tests_read::{TestsOf, tests_read};
 use cb_meaning::layout::Field;
 use cb_queue::store::RecordStore;
 use cb_records::rec::Rec;
+use cb_walk::arrival::bring;
 use jcl_plan::plan::StepPlan;
 use plain::listed::Listed;
 use std::alloc::{AllocError, Global};
@@ -45,13 +45,14 @@ pub(crate) fn steps_read<S: RecordStore>(
 {
     let layout = store.layout();
     let mut steps = Listed::empty(alloc);
+    let mut r = Rec::zeroed();
     let mut n = first;
     let mut left = u64::from(layout.most_records) + 1;
     while left > 0 {
         if n == 0 {
             return Ok(steps);
         }
-        let r = record(store, n);
+        bring(store, n, &mut r);
         steps.push(step_read(alloc, store, &r)?)?;
         n = r.number(layout.next_step);
         left -= 1;

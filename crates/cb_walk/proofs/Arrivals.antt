@@ -8,12 +8,11 @@ use Rattle.std.proofs.lemmas.Grind.{same_number_lists}
 use Rattle.std.proofs.lemmas.List.{get_or-drop, get_or-replicate, get_or-take}
 use Rattle.std.proofs.lemmas.Bool.Decides.{eqb_tells}
 use Rattle.cb_meaning.specs.declared.layout.Layout.{Layout}
-use Rattle.cb_meaning.specs.Fields.{byte_at, is_in, part}
+use Rattle.cb_meaning.specs.Fields.{byte_at, field, is_in, number_at, part}
 use Rattle.cb_meaning.specs.Walks.{arrival_fault, is_free, kind_of, owner_of}
 use Rattle.cb_records.specs.Writes.{ChangesOnly}
-use Rattle.cb_queue.specs.RecordQueues.{IsInUse, IsLent, IsSoundQueue, RecordQueue, bytes_or_zeros, owner_in, record_at, shown}
-use Rattle.cb_queue.proofs.Changing.{shows_owner}
-use Rattle.cb_walk.specs.Marks.{AreMarked, arrival_told, is_met, kind_in}
+use Rattle.cb_queue.specs.RecordQueues.{IsInUse, IsLent, IsSoundQueue, RecordQueue, bytes_or_zeros, record_at, shown}
+use Rattle.cb_walk.specs.Marks.{AreMarked, arrival_told, is_met}
 
 -- zeros in a link that was changed alone give the record back
 pub given_again : (l : Layout) (r s t : List ℕ) → IsInUse l r → ChangesOnly l.link r s → ChangesOnly l.link s t →
@@ -33,16 +32,20 @@ given_again l r s t used first second zeros =
     ])
 
 lent_is : (l : Layout) (o : Option (List ℕ)) (s t : List ℕ) → IfSome o (IsInUse l) → IsLent l o (Some s) → ChangesOnly l.link s t →
-    part t l.link.at l.link.width ≡ replicate l.link.width 0 → Some t ≡ o
+    part t l.link.at l.link.width ≡ replicate l.link.width 0 → t ≡ bytes_or_zeros o
 lent_is l None s t used lent change zeros = absurd lent
-lent_is l (Some r) s t used lent change zeros = ap Some (given_again l r s t used lent change zeros)
+lent_is l (Some r) s t used lent change zeros = given_again l r s t used lent change zeros
 
-pub record_is : (q : RecordQueue) → IsSoundQueue q → (l : Layout) → l ≡ q.layout → (n : ℕ) (s t : List ℕ) → IsLent q.layout (record_at q n) (Some s) →
-    ChangesOnly l.link s t → part t l.link.at l.link.width ≡ replicate l.link.width 0 → Some t ≡ record_at q n
-record_is q sound l same n s t lent change zeros =
+pub brought : (q : RecordQueue) → IsSoundQueue q → (l : Layout) → l ≡ q.layout → (n : ℕ) (s t : List ℕ) → IsLent q.layout (record_at q n) (Some s) →
+    ChangesOnly l.link s t → part t l.link.at l.link.width ≡ replicate l.link.width 0 → t ≡ bytes_or_zeros (record_at q n)
+brought q sound l same n s t lent change zeros =
     let Lent : Layout → Type 0 = λ x. IsLent x (record_at q n) (Some s) in
     let Used : Layout → Type 0 = λ x. IfSome (record_at q n) (IsInUse x) in
     lent_is l (record_at q n) s t (subst Used (sym same) (sound.in_use n)) (subst Lent (sym same) lent) change zeros
+
+pub none_brought : (l : Layout) (o : Option (List ℕ)) → IsLent l o None → bytes_or_zeros o ≡ bytes_or_zeros None
+none_brought l None lent = refl
+none_brought l (Some r) lent = absurd lent
 
 -- one record more is marked
 pub marked_more : (marks : List Bool) (seen : List ℕ) (n : ℕ) → n < length marks → AreMarked marks seen → AreMarked (set marks n true) (n ∷ seen)
@@ -57,12 +60,11 @@ marked_more marks seen n h marked m k =
           ∙ sym (ap (λ b. b || is_met seen m) other.0))
     ]
 
-kind_seen : (o : Option (List ℕ)) (b : Bool) → b ≡ is_none o → cond b 0 (byte_at (bytes_or_zeros o) 0) ≡ kind_in o
-kind_seen None b e = ap (λ x. cond x 0 (byte_at (bytes_or_zeros None) 0)) e
-kind_seen (Some r) b e = ap (λ x. cond x 0 (byte_at r 0)) e
-
-shown_kind : (q : RecordQueue) → IsSoundQueue q → (n : ℕ) → 1 ≤ n → n ≤ q.layout.most_records → kind_of (shown q) n ≡ kind_in (record_at q n)
-shown_kind q sound n low high = kind_seen (record_at q n) (is_free (shown q) n) (sound.free n low high)
+-- what is 0 of zeros is seen as 0 of a free record
+zero_seen : (f : List ℕ → ℕ) → f (bytes_or_zeros None) ≡ 0 → (o : Option (List ℕ)) (b : Bool) → b ≡ is_none o →
+    cond b 0 (f (bytes_or_zeros o)) ≡ f (bytes_or_zeros o)
+zero_seen f zero None b e = ap (λ x. cond x 0 (f (bytes_or_zeros None))) e ∙ sym zero
+zero_seen f zero (Some r) b e = ap (λ x. cond x 0 (f r)) e
 
 abbrev told_with : ℕ → ℕ → Bool → ℕ → ℕ → Bool → Option ℕ
 told_with job kind bad k owner met =
@@ -86,11 +88,17 @@ under job kind false k j o p m n h =
     ∙ ap (λ x. told_with job kind false j p x) alike.met
 
 pub told_is : (q : RecordQueue) → IsSoundQueue q → (job kind n : ℕ) (seen : List ℕ) (met : Bool) → (n ≤ q.layout.most_records → met ≡ is_met seen n) →
-    arrival_fault q.layout (shown q) job kind seen n ≡ arrival_told q.layout (record_at q n) job kind met n
+    arrival_fault q.layout (shown q) job kind seen n ≡ arrival_told q.layout (bytes_or_zeros (record_at q n)) job kind met n
 told_is q sound job kind n seen met same =
-    under job kind (nat_lt n 1 || nat_lt q.layout.most_records n) (kind_of (shown q) n) (kind_in (record_at q n)) (owner_of (shown q) n)
-    (owner_in (record_at q n)) (is_met seen n) met (λ fine.
+    let r : List ℕ = bytes_or_zeros (record_at q n) in
+    under job kind (nat_lt n 1 || nat_lt q.layout.most_records n) (kind_of (shown q) n) (byte_at r 0) (owner_of (shown q) n)
+    (number_at r (field 2 2)) (is_met seen n) met (λ fine.
     let parts = or_parts (nat_lt n 1) (nat_lt q.layout.most_records n) fine in
     let low = ltb-false n 1 parts.0 in
     let high = ltb-false q.layout.most_records n parts.1 in
-    record { kinds = shown_kind q sound n low high; owners = shows_owner q sound n; met = sym (same high) })
+    let free = sound.free n low high in
+    record {
+      kinds = zero_seen (λ x. byte_at x 0) refl (record_at q n) (is_free (shown q) n) free;
+      owners = zero_seen (λ x. number_at x (field 2 2)) refl (record_at q n) (is_free (shown q) n) free;
+      met = sym (same high);
+    })

@@ -2,11 +2,11 @@
 use Rattle.std.proofs.Common.{◌≡◌, ℕ, ◌+◌, ◌≤◌, Bool, false, List, ◌++◌, length, replicate, take, sym, ap, ◌∙◌}
 use Rattle.std.proofs.lemmas.List.{length-replicate, replicate-append-replicate, take-replicate}
 
-module _ (marks new : List Bool) (some : ℕ) (is : marks ≡ replicate (length marks) false) (few : some ≤ 512)
-    (new_is : new ≡ marks ++ take some (replicate 512 false)) where
+module _ (marks new : List Bool) (piece some : ℕ) (is : marks ≡ replicate (length marks) false) (few : some ≤ piece)
+    (new_is : new ≡ marks ++ take some (replicate piece false)) where
   added : new ≡ replicate (length marks + some) false
   added =
-      new_is ∙ ap (λ (tail : List Bool). marks ++ tail) (take-replicate some 512 false few)
+      new_is ∙ ap (λ (tail : List Bool). marks ++ tail) (take-replicate some piece false few)
       ∙ ap (λ (front : List Bool). front ++ replicate some false) is ∙ replicate-append-replicate (length marks) some false
 
   pub more_size : length new ≡ length marks + some

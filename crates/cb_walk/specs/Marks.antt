@@ -3,9 +3,9 @@ use Rattle.std.specs.Prelude.{◌≡◌, ℕ, ◌<◌, ◌==◌, ◌||◌, Bool,
 use Rattle.std.specs.Prelude.{◌∷◌, length, slice_index_or, Option, Some, None, Result, Ok, Err, if◌then◌else◌}
 use Rattle.std.specs.List.{list_any}
 use Rattle.cb_meaning.specs.declared.layout.Layout.{Layout}
-use Rattle.cb_meaning.specs.Fields.{byte_at}
+use Rattle.cb_meaning.specs.Fields.{byte_at, field, number_at}
 use Rattle.cb_meaning.specs.Walks.{arrival_fault}
-use Rattle.cb_queue.specs.RecordQueues.{RecordQueue, bytes_or_zeros, owner_in, record_at, shown}
+use Rattle.cb_queue.specs.RecordQueues.{RecordQueue, bytes_or_zeros, record_at, shown}
 
 abbrev pub is_met : List ℕ → ℕ → Bool
 is_met seen n = list_any (λ m. m == n) seen
@@ -14,16 +14,12 @@ is_met seen n = list_any (λ m. m == n) seen
 abbrev pub AreMarked : List Bool → List ℕ → Type 0
 AreMarked marks seen = (n : ℕ) → n < length marks → slice_index_or marks n false ≡ is_met seen n
 
-abbrev pub kind_in : Option (List ℕ) → ℕ
-kind_in None = 0
-kind_in (Some r) = byte_at r 0
-
--- what arriving at a number tells, of the record that is there and whether it was met
-abbrev pub arrival_told : Layout → Option (List ℕ) → ℕ → ℕ → Bool → ℕ → Option ℕ
+-- what arriving at a number tells, of the bytes of the record that is there and whether it was met
+abbrev pub arrival_told : Layout → List ℕ → ℕ → ℕ → Bool → ℕ → Option ℕ
 arrival_told l r job kind met n =
     if nat_lt n 1 || nat_lt l.most_records n then Some 1
-    else (if not (kind_in r == kind) then Some 2
-    else (if not (owner_in r == job) then Some 3
+    else (if not (byte_at r 0 == kind) then Some 2
+    else (if not (number_at r (field 2 2) == job) then Some 3
     else (if met then Some 4
     else None)))
 
@@ -33,6 +29,6 @@ pub record IsAt (q : RecordQueue) (job kind : ℕ) (seen : List ℕ) (n : ℕ) (
   pub marked : AreMarked marks (n ∷ seen)
 
 -- arriving: its fault, or the record, which is marked then
-abbrev pub Arrives : RecordQueue → ℕ → ℕ → List ℕ → ℕ → List Bool → Result (List ℕ) ℕ → Type 0
-Arrives q job kind seen n marks (Ok r) = IsAt q job kind seen n marks r
-Arrives q job kind seen n marks (Err fault) = arrival_fault q.layout (shown q) job kind seen n ≡ Some fault
+abbrev pub Arrives : RecordQueue → ℕ → ℕ → List ℕ → ℕ → List Bool → List ℕ → Result (Unit {0}) ℕ → Type 0
+Arrives q job kind seen n marks r (Ok x) = IsAt q job kind seen n marks r
+Arrives q job kind seen n marks r (Err fault) = arrival_fault q.layout (shown q) job kind seen n ≡ Some fault

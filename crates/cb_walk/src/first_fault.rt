@@ -9,10 +9,11 @@ use crate::arrival::arrive;
 use crate::job::jct_fault;
 use crate::walk_steps::walk_steps;
 use cb_queue::store::RecordStore;
+use cb_records::rec::Rec;
 use std::alloc::{AllocError, Global};
 
 /// How many marks are made at once.
-const PIECE: usize = 512;
+const PIECE: usize = 2048;
 
 /// As many marks, none of which is set, made by pieces, as a byte alone costs an instruction.
 fn no_marks(alloc: Global, count: usize) -> Result<Vec<bool>, AllocError>
@@ -41,10 +42,11 @@ fn walk_job<S: RecordStore>(
     ensures { IfOk result (Tells (S.queue store.now) units job n) }
 {
     let layout = store.layout();
-    let r = match arrive(store, marks, job, 1, n) {
-        Ok(r) => r,
+    let mut r = Rec::zeroed();
+    match arrive(store, marks, job, 1, n, &mut r) {
+        Ok(()) => {}
         Err(fault) => return Ok(Some(fault)),
-    };
+    }
     match jct_fault(layout, &r) {
         Some(fault) => return Ok(Some(fault)),
         None => {}

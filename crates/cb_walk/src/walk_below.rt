@@ -25,10 +25,11 @@ fn walk_jfcb<S: RecordStore>(
     ensures { Ends marks.old marks.new (jfcb_from (S.queue store.now) job steps.now dds.now siot.now n) result }
 {
     let layout = store.layout();
-    let r = match arrive(store, marks, job, 4, n) {
-        Ok(r) => r,
+    let mut r = Rec::zeroed();
+    match arrive(store, marks, job, 4, n, &mut r) {
+        Ok(()) => {}
         Err(fault) => return Err(fault),
-    };
+    }
     match jfcb_fault(layout, steps, dds, siot, &r) {
         Some(fault) => Err(fault),
         None => Ok(()),

@@ -5,6 +5,7 @@ ghost use Rattle.cb_walk.specs.Follows.{Ends, Passes, cards_from};
 use crate::arrival::arrive;
 use crate::cards::card_fault;
 use cb_queue::store::RecordStore;
+use cb_records::rec::Rec;
 
 /// Passes one record of cards. Tells how many cards were read then, and the number of the next record, or a fault.
 fn pass_cards<S: RecordStore>(
@@ -21,10 +22,11 @@ fn pass_cards<S: RecordStore>(
     ensures { Passes (S.queue store.now) job stated read n marks.old marks.new result }
 {
     let layout = store.layout();
-    let r = match arrive(store, marks, job, 5, n) {
-        Ok(r) => r,
+    let mut r = Rec::zeroed();
+    match arrive(store, marks, job, 5, n, &mut r) {
+        Ok(()) => {}
         Err(fault) => return Err(fault),
-    };
+    }
     match card_fault(layout, &r) {
         Some(fault) => return Err(fault),
         None => {}

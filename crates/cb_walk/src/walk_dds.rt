@@ -6,6 +6,7 @@ use crate::arrival::arrive;
 use crate::dd::{is_set, siot_fault};
 use crate::walk_below::walk_below;
 use cb_queue::store::RecordStore;
+use cb_records::rec::Rec;
 use plain::listed::Listed;
 use std::alloc::{AllocError, Global};
 
@@ -29,10 +30,11 @@ fn pass_dd<S: RecordStore>(
     ensures { PassesDd (S.queue store.now) units job left steps.now dds.now n marks.old marks.new result }
 {
     let layout = store.layout();
-    let r = match arrive(store, marks, job, 3, n) {
-        Ok(r) => r,
+    let mut r = Rec::zeroed();
+    match arrive(store, marks, job, 3, n, &mut r) {
+        Ok(()) => {}
         Err(fault) => return Err(fault),
-    };
+    }
     if dds.len() == MOST_DDS {
         return Err(10);
     }

@@ -7,6 +7,7 @@ use crate::arrival::arrive;
 use crate::step::sct_fault;
 use crate::walk_dds::walk_dds;
 use cb_queue::store::RecordStore;
+use cb_records::rec::Rec;
 use plain::listed::Listed;
 use std::alloc::{AllocError, Global};
 
@@ -26,10 +27,11 @@ fn pass_step<S: RecordStore>(
     ensures { IfOk result (PassesStep (S.queue store.now) units job steps.now n marks.old marks.new) }
 {
     let layout = store.layout();
-    let r = match arrive(store, marks, job, 2, n) {
-        Ok(r) => r,
+    let mut r = Rec::zeroed();
+    match arrive(store, marks, job, 2, n, &mut r) {
+        Ok(()) => {}
         Err(fault) => return Ok(Err(fault)),
-    };
+    }
     if steps.len() == usize::from(layout.most_steps) {
         return Ok(Err(10));
     }

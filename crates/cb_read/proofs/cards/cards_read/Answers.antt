@@ -23,8 +23,8 @@ loop-left-preserved g c =
     let q = g.S.RecordStore.queue c.args.store.now in
     more_read (cards_read q.layout (shown q)) (here q) (next q) (cards_chain q.layout (shown q)) (cards_from q c.args.first) c.loop-left.cards c.loop-left.left c.loop-left.n
     c.loop-left.invariant c.add_cards.new.cards c.number-n.result c.loop-left-test.true c.if-n-eq0.false
-    (c.in_ok-add_cards.ensures ∙ ap (λ r. c.loop-left.cards ++ cards_of_record r) c.record-r.ensures)
-    (c.number-n.ensures.value ∙ (λ i. number_at (c.record-r.ensures i) ((c.layout-layout.ensures.value i).next_cards)))
+    (c.in_ok-add_cards.ensures ∙ ap (λ r. c.loop-left.cards ++ cards_of_record r) c.bring.ensures)
+    (c.number-n.ensures.value ∙ (λ i. number_at (c.bring.ensures i) ((c.layout-layout.ensures.value i).next_cards)))
 
 pub returns : goal.returns
 returns g c =

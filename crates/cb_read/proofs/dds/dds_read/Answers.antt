@@ -23,20 +23,20 @@ returns-then-n-eq0 g c =
 pub dd_read-requires : goal.dd_read-requires
 dd_read-requires g c =
     let q = g.S.RecordStore.queue c.args.store.now in
-    subst (λ r. IsDdInRange (dd_of q r)) (sym c.record-r.ensures)
+    subst (λ r. IsDdInRange (dd_of q r)) (sym c.bring.ensures)
     (item_in_range (dds_read q.layout (shown q)) (item q) (next q) (dds_chain q.layout (shown q)) c.loop-left.left c.loop-left.n c.loop-left-test.true
     c.if-n-eq0.false IsDdInRange c.loop-left.invariant.range)
 
 pub loop-left-preserved : goal.loop-left-preserved
 loop-left-preserved g c =
     let q = g.S.RecordStore.queue c.args.store.now in
-    let on = c.number-n.ensures.value ∙ (λ i. number_at (c.record-r.ensures i) ((c.layout-layout.ensures.value i).next_dd)) in
+    let on = c.number-n.ensures.value ∙ (λ i. number_at (c.bring.ensures i) ((c.layout-layout.ensures.value i).next_dd)) in
     record {
       range = rest_in_range (dds_read q.layout (shown q)) (item q) (next q) (dds_chain q.layout (shown q)) c.loop-left.left c.loop-left.n c.loop-left-test.true
           c.if-n-eq0.false IsDdInRange c.loop-left.invariant.range c.number-n.result on;
       whole = more_read (dds_read q.layout (shown q)) (λ n. item q n ∷ []) (next q) (dds_chain q.layout (shown q)) (dds_from q c.args.first) c.loop-left.dds
           c.loop-left.left c.loop-left.n c.loop-left.invariant.whole c.push.new.self c.number-n.result c.loop-left-test.true c.if-n-eq0.false
-          (c.in_ok-push.ensures.ok ∙ ap (λ x. c.loop-left.dds ++ x ∷ []) (c.in_ok-dd_read.ensures ∙ ap (dd_of q) c.record-r.ensures)) on;
+          (c.in_ok-push.ensures.ok ∙ ap (λ x. c.loop-left.dds ++ x ∷ []) (c.in_ok-dd_read.ensures ∙ ap (dd_of q) c.bring.ensures)) on;
     }
 
 pub returns : goal.returns

@@ -23,20 +23,20 @@ returns-then-n-eq0 g c =
 pub step_read-requires : goal.step_read-requires
 step_read-requires g c =
     let q = g.S.RecordStore.queue c.args.store.now in
-    subst (λ r. IsStepInRange (step_of q r)) (sym c.record-r.ensures)
+    subst (λ r. IsStepInRange (step_of q r)) (sym c.bring.ensures)
     (item_in_range (steps_read q.layout (shown q)) (item q) (next q) (steps_chain q.layout (shown q)) c.loop-left.left c.loop-left.n c.loop-left-test.true
     c.if-n-eq0.false IsStepInRange c.loop-left.invariant.range)
 
 pub loop-left-preserved : goal.loop-left-preserved
 loop-left-preserved g c =
     let q = g.S.RecordStore.queue c.args.store.now in
-    let on = c.number-n.ensures.value ∙ (λ i. number_at (c.record-r.ensures i) ((c.layout-layout.ensures.value i).next_step)) in
+    let on = c.number-n.ensures.value ∙ (λ i. number_at (c.bring.ensures i) ((c.layout-layout.ensures.value i).next_step)) in
     record {
       range = rest_in_range (steps_read q.layout (shown q)) (item q) (next q) (steps_chain q.layout (shown q)) c.loop-left.left c.loop-left.n c.loop-left-test.true
           c.if-n-eq0.false IsStepInRange c.loop-left.invariant.range c.number-n.result on;
       whole = more_read (steps_read q.layout (shown q)) (λ n. item q n ∷ []) (next q) (steps_chain q.layout (shown q)) (steps_from q c.args.first) c.loop-left.steps
           c.loop-left.left c.loop-left.n c.loop-left.invariant.whole c.push.new.self c.number-n.result c.loop-left-test.true c.if-n-eq0.false
-          (c.in_ok-push.ensures.ok ∙ ap (λ x. c.loop-left.steps ++ x ∷ []) (c.in_ok-step_read.ensures ∙ ap (step_of q) c.record-r.ensures)) on;
+          (c.in_ok-push.ensures.ok ∙ ap (λ x. c.loop-left.steps ++ x ∷ []) (c.in_ok-step_read.ensures ∙ ap (step_of q) c.bring.ensures)) on;
     }
 
 pub returns : goal.returns

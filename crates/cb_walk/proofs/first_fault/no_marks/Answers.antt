@@ -1,4 +1,5 @@
 use Rattle.std.proofs.Common.{◌≡◌, ◌+◌, ◌≤◌, length, ◌∙◌, arith}
+use Rattle.cb_walk.specs.declared.first_fault.TheConstants.{PIECE}
 use Rattle.cb_walk.proofs.Unset.{more_size, more_unset}
 use Rattle.cb_walk.proofs.first_fault.no_marks.Goals as goal
 
@@ -7,11 +8,11 @@ loop-piece-preserved c =
     let marks = c.loop-piece.marks.items in
     let new = c.extend_from_slice.new.self.items in
     let some = c.min-some.result in
-    let few : some ≤ 512 = omega arith in
+    let few : some ≤ PIECE = omega arith in
     let held : c.len-in-loop-piece.result ≡ length marks = c.len-in-loop-piece.ensures ∙ c.loop-piece.marks.ok.0 in
     let size : length new ≡ length marks + some =
-    more_size marks new some c.loop-piece.invariant.unset few c.in_ok-extend_from_slice.ensures.items in
+    more_size marks new PIECE some c.loop-piece.invariant.unset few c.in_ok-extend_from_slice.ensures.items in
     record {
-      unset = more_unset marks new some c.loop-piece.invariant.unset few c.in_ok-extend_from_slice.ensures.items;
+      unset = more_unset marks new PIECE some c.loop-piece.invariant.unset few c.in_ok-extend_from_slice.ensures.items;
       few = omega arith;
     }

@@ -12,14 +12,14 @@ returns-in-Err g c =
 pub returns-in-Some : goal.returns-in-Some
 returns-in-Some g c =
     bad_cards (g.S.RecordStore.queue c.args.store.now) c.layout-layout.result.now c.layout-layout.ensures.value c.args.job c.args.stated c.args.read c.args.n
-    c.args.marks.now c.arrive.new.marks c.in-Ok.r c.in-Some.fault c.requires.some c.in-Ok.ensures c.in-Some.ensures
+    c.args.marks.now c.arrive.new.marks c.arrive.new.own c.in-Some.fault c.requires.some c.in-Ok.ensures c.in-Some.ensures
 
 pub returns-then-from-more : goal.returns-then-from-more
 returns-then-from-more g c =
     let many : c.from-2.result < c.args.read + c.from.result = c.if-from-more.true in
     let is : c.from-2.result ≡ c.args.stated = c.from-2.ensures in
     many_cards (g.S.RecordStore.queue c.args.store.now) c.layout-layout.result.now c.layout-layout.ensures.value c.args.job c.args.stated c.args.read c.args.n
-    c.args.marks.now c.arrive.new.marks c.in-Ok.r c.from.result c.requires.some c.in-Ok.ensures c.in-None.ensures (c.from.ensures ∙ c.byte.ensures)
+    c.args.marks.now c.arrive.new.marks c.arrive.new.own c.from.result c.requires.some c.in-Ok.ensures c.in-None.ensures (c.from.ensures ∙ c.byte.ensures)
     (omega (arith, many, is))
 
 pub returns : goal.returns
@@ -27,5 +27,5 @@ returns g c =
     let few : c.args.read + c.from.result ≤ c.from-2.result = c.if-from-more.false in
     let is : c.from-2.result ≡ c.args.stated = c.from-2.ensures in
     passed_cards (g.S.RecordStore.queue c.args.store.now) c.layout-layout.result.now c.layout-layout.ensures.value c.args.job c.args.stated c.args.read c.args.n
-    c.args.marks.now c.arrive.new.marks c.in-Ok.r c.from.result c.number.result c.requires.some c.in-Ok.ensures c.in-None.ensures
+    c.args.marks.now c.arrive.new.marks c.arrive.new.own c.from.result c.number.result c.requires.some c.in-Ok.ensures c.in-None.ensures
     (c.from.ensures ∙ c.byte.ensures) (omega (arith, few, is)) c.number.ensures.value
