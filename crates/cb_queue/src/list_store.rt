@@ -132,29 +132,27 @@ fn widen(spans: &mut Vec<Span>, owner: u16, n: u32)
     }
 }
 
-/// A record of zeros but for its owner.
-fn zero_record(owner: u16) -> Rec
-    ensures value { result ≡ zero_record owner }
-    ensures bytes { AreBytes result }
+/// Writes zeros in the place of a record, and its owner.
+fn write_zero_record(own: &mut Rec, owner: u16)
+    ensures value { own.new ≡ zero_record owner }
+    ensures bytes { AreBytes own.new }
 {
-    let mut rec = Rec::zeroed();
-    rec.write_part(OWNER, &[(owner / 256) as u8, (owner % 256) as u8]);
-    are_bytes(&rec);
-    rec
+    *own = Rec::zeroed();
+    own.write_part(OWNER, &[(owner / 256) as u8, (owner % 256) as u8]);
+    are_bytes(own);
 }
 
-/// A record with a link of zeros.
-fn unlinked(rec: &Rec, link: Field) -> Rec
+/// Writes a record in the place of another, with a link of zeros.
+fn write_unlinked(own: &mut Rec, rec: &Rec, link: Field)
     requires { HoldsNumber link }
-    ensures value { result ≡ with_part rec.now link.at (replicate link.width 0) }
+    ensures value { own.new ≡ with_part rec.now link.at (replicate link.width 0) }
     ensures whole { length rec.now ≡ RECORD_BYTES }
-    ensures bytes { AreBytes result }
+    ensures bytes { AreBytes own.new }
 {
-    let mut own = *rec;
     let zeros = [0; 4];
+    *own = *rec;
     own.write_part(link, &zeros[..usize::from(link.width)]);
-    are_bytes(&own);
-    own
+    are_bytes(own);
 }
 
 impl ListStore {
@@ -232,7 +230,7 @@ impl RecordStore for ListStore {
     }
 
     fn put(&mut self, n: u32, rec: &Rec) {
-        self.records[n as usize - 1] = unlinked(rec, self.layout.link);
+        write_unlinked(&mut self.records[n as usize - 1], rec, self.layout.link);
     }
 
     fn write_status(&mut self, n: u32, status: &[u8; 8]) {
@@ -258,7 +256,7 @@ impl RecordStore for ListStore {
         }
         self.free_count -= 1;
         let n = self.free[self.free_count as usize];
-        self.records[n as usize - 1] = zero_record(owner);
+        write_zero_record(&mut self.records[n as usize - 1], owner);
         self.owners[n as usize - 1] = owner;
         widen(&mut self.spans, owner, n);
         Some(n)

@@ -20,18 +20,18 @@ pub invariant_of-self : goal.invariant_of-self
 invariant_of-self c =
     let used : is_some (record_at (seen c.self.inside) c.args.n) ≡ true = rw c.self.view_is c.requires.used in
     let owner : number_at c.args.rec.now (field 2 2) ≡ owner_at (seen c.self.inside) c.args.n = rw c.self.view_is c.requires.owner in (
-      put_stored c.self.inside c.self.invariant.0 c.args.n used c.unlinked.result
-          (subst (IsInUse c.self.inside.layout) (sym c.unlinked.ensures.value)
-          (in_use_put c.self.inside.layout c.self.invariant.0.sound.own_link c.args.rec.now c.unlinked.ensures.whole
+      put_stored c.self.inside c.self.invariant.0 c.args.n used c.write_unlinked.new.own
+          (subst (IsInUse c.self.inside.layout) (sym c.write_unlinked.ensures.value)
+          (in_use_put c.self.inside.layout c.self.invariant.0.sound.own_link c.args.rec.now c.write_unlinked.ensures.whole
           (λ none. owner_there c.self.inside c.self.invariant.0 c.args.n used (sym owner ∙ none))
-          (All-same (λ b. b < 256) (unlinked c.self.inside.layout c.args.rec.now) c.unlinked.result (sym c.unlinked.ensures.value) c.unlinked.ensures.bytes)))
-          (ap (λ r. number_at r (field 2 2)) c.unlinked.ensures.value
-          ∙ owner_put c.self.inside.layout c.self.invariant.0.sound.own_link c.args.rec.now c.unlinked.ensures.whole ∙ owner),
+          (All-same (λ b. b < 256) (unlinked c.self.inside.layout c.args.rec.now) c.write_unlinked.new.own (sym c.write_unlinked.ensures.value) c.write_unlinked.ensures.bytes)))
+          (ap (λ r. number_at r (field 2 2)) c.write_unlinked.ensures.value
+          ∙ owner_put c.self.inside.layout c.self.invariant.0.sound.own_link c.args.rec.now c.write_unlinked.ensures.whole ∙ owner),
       c.self.invariant.1,
     )
 
 pub returns : goal.returns
 returns c =
     let used : is_some (record_at (seen c.self.inside) c.args.n) ≡ true = rw c.self.view_is c.requires.used in
-    put_seen c.self.inside c.self.invariant.0 c.args.n used c.unlinked.result ∙ ap (λ r. with_record_at (seen c.self.inside) c.args.n (Some r)) c.unlinked.ensures.value
+    put_seen c.self.inside c.self.invariant.0 c.args.n used c.write_unlinked.new.own ∙ ap (λ r. with_record_at (seen c.self.inside) c.args.n (Some r)) c.write_unlinked.ensures.value
     ∙ ap (λ q. with_record_at q c.args.n (Some (unlinked q.layout c.args.rec.now))) c.self.view_is

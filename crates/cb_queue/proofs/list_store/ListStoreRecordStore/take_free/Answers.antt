@@ -46,8 +46,8 @@ invariant_of-self c =
     let more : a.free_count - 1 + 1 ≡ a.free_count = omega (arith, c.if-self-eq0.false) in
     let at = number a c.self.invariant.0 n (a.free_count - 1) c.args.owner more c.index-n.ensures c.requires in (
       subst (λ r. AreStored a.layout (slice_set a.owners.items (n - 1) c.args.owner) (slice_set a.records.items (n - 1) r) a.free.items (a.free_count - 1) a.waiting)
-          (sym c.zero_record.ensures.value) (taken_stored a c.self.invariant.0 n (a.free_count - 1) c.args.owner more c.index-n.ensures c.requires
-          (All-same (λ b. b < 256) (zero_record c.args.owner) c.zero_record.result (sym c.zero_record.ensures.value) c.zero_record.ensures.bytes)),
+          (sym c.write_zero_record.ensures.value) (taken_stored a c.self.invariant.0 n (a.free_count - 1) c.args.owner more c.index-n.ensures c.requires
+          (All-same (λ b. b < 256) (zero_record c.args.owner) c.write_zero_record.new.own (sym c.write_zero_record.ensures.value) c.write_zero_record.ensures.bytes)),
       spanned_taken a.spans.items c.widen.new.spans.items a.owners.items (n - 1) c.args.owner
           (subst (λ m. AreWidened a.spans.items c.args.owner m c.widen.new.spans.items) (omega (arith, at.0)) c.widen.ensures) c.self.invariant.1,
     )
@@ -63,5 +63,5 @@ returns-clause-taken c =
     let a = c.self.inside in
     let n = c.index-n.result.now in
     let more : a.free_count - 1 + 1 ≡ a.free_count = omega (arith, c.if-self-eq0.false) in
-    ap (λ r. seen_in a.layout (slice_set a.owners.items (n - 1) c.args.owner) (slice_set a.records.items (n - 1) r) a.free.items (a.free_count - 1) a.waiting) c.zero_record.ensures.value
+    ap (λ r. seen_in a.layout (slice_set a.owners.items (n - 1) c.args.owner) (slice_set a.records.items (n - 1) r) a.free.items (a.free_count - 1) a.waiting) c.write_zero_record.ensures.value
     ∙ taken_seen a c.self.invariant.0 n (a.free_count - 1) c.args.owner more c.index-n.ensures c.requires ∙ ap (λ q. taken q c.args.owner) c.self.view_is

@@ -1,7 +1,7 @@
 use Rattle.std.proofs.Common.{ℕ, ◌∙◌, ap, arith, replicate, sym, take}
 use Rattle.std.proofs.lemmas.List.{length-replicate, take-replicate}
 use Rattle.cb_queue.proofs.Parts.{with_part_is}
-use Rattle.cb_queue.proofs.list_store.unlinked.Goals as goal
+use Rattle.cb_queue.proofs.list_store.write_unlinked.Goals as goal
 
 pub returns-clause-value : goal.returns-clause-value
 returns-clause-value c =
