@@ -1,5 +1,6 @@
 //! Values of which there are few, behind a pointer, so that those of which there are many stay small.
 #![tactic(auto)]
+
 ghost use Rattle.std.specs.Prelude.{◌≡◌, IfOk};
 
 use std::alloc::{AllocError, Global};

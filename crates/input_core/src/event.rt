@@ -1,5 +1,5 @@
 //! The inputs of the machine, as far as a session brings them.
-use crate::boxed::Boxed;
+use boxed_core::Boxed;
 use jname_core::serial::Serial;
 use plain::lent::Lent;
 use plain::listed::Listed;

@@ -1,6 +1,5 @@
 //! What a session puts into the machine: the statements of its configuration, and events. (This profile)
 #![tactic(auto)]
 
-pub mod boxed;
 pub mod event;
 pub mod statement;

@@ -10,6 +10,7 @@ ghost use Rattle.jcl_cards.specs.Execs.{AreRead, CanRun, HaveNoFault, named_step
 use crate::exec_conditions::read_keywords;
 use crate::exec_keyword::{ExecKeyword, exec_keyword, step_named};
 use crate::rules::{Spelling, long_operand, symbol_of, twice_fault};
+use boxed_core::Boxed;
 use jcl_plan::fault::{Cause, StatementFault};
 use jcl_symbols::symbol::Symbol;
 use jname_core::name8::Name8;
@@ -49,7 +50,7 @@ pub struct ExecCard {
     pub name: Option<Name8>,
     pub runs: Runs,
     /// COND of the step, or of all steps of the procedure, where it is coded.
-    pub condition: Option<Condition>,
+    pub condition: Option<Boxed<Condition>>,
     /// Those of single steps of the procedure, in their order.
     pub step_conditions: Listed<StepCondition>,
     /// The steps of the procedure that any keyword names, as PARM.step does.

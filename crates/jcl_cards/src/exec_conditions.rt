@@ -8,6 +8,7 @@ use crate::exec::StepCondition;
 use crate::exec_keyword::{
     ExecKeyword, condition_of, exec_keyword, fault_of, step_fault, step_named,
 };
+use boxed_core::Boxed;
 use jcl_plan::fault::Cause;
 use list_values::condition::Condition;
 use operand_core::fault::{earlier, valid_name};
@@ -19,12 +20,17 @@ use std::alloc::{AllocError, Global};
 /// What keywords say: COND of the step or of all steps of the procedure, where it is coded, and of single steps, in their order.
 #[derive(Drop)]
 pub(crate) struct Conditions {
-    pub(crate) own: Option<Condition>,
+    pub(crate) own: Option<Boxed<Condition>>,
     pub(crate) of_steps: Listed<StepCondition>,
 }
 
 /// Adds what one keyword says that has no fault.
-fn add(conditions: &mut Conditions, key: &[u8], condition: Condition) -> Result<(), AllocError>
+fn add(
+    alloc: Global,
+    conditions: &mut Conditions,
+    key: &[u8],
+    condition: Condition,
+) -> Result<(), AllocError>
     requires { told (step_faults key.now) ≡ None }
     ensures { OnOk result (conditions.new ≡ with_condition key.now condition conditions.old) }
 {
@@ -34,13 +40,14 @@ fn add(conditions: &mut Conditions, key: &[u8], condition: Condition) -> Result<
             condition,
         })?;
     } else if conditions.own.is_none() {
-        conditions.own = Some(condition);
+        conditions.own = Some(Boxed::new(alloc, condition)?);
     }
     Ok(())
 }
 
 /// Reads one COND and adds what it says, if no fault is told of it.
 fn read_condition(
+    alloc: Global,
     conditions: &mut Conditions,
     keyword: &Keyword<'_>,
 ) -> Result<Option<Cause>, AllocError>
@@ -52,7 +59,7 @@ fn read_condition(
         Err(fault) => Ok(earlier(names, Some(fault))),
         Ok(condition) => {
             if names.is_none() {
-                add(conditions, key, condition)?;
+                add(alloc, conditions, key, condition)?;
             }
             Ok(names)
         }
@@ -61,6 +68,7 @@ fn read_condition(
 
 /// Reads one keyword of a statement that calls a procedure or not.
 fn read_keyword(
+    alloc: Global,
     conditions: &mut Conditions,
     calls: bool,
     keyword: &Keyword<'_>,
@@ -68,7 +76,7 @@ fn read_keyword(
     ensures { IfOk result (AddsKeyword calls keyword.now conditions.old conditions.new) }
 {
     match exec_keyword(calls, keyword.key()) {
-        ExecKeyword::Condition => read_condition(conditions, keyword),
+        ExecKeyword::Condition => read_condition(alloc, conditions, keyword),
         word => Ok(fault_of(word, keyword)),
     }
 }
@@ -87,7 +95,7 @@ pub(crate) fn read_keywords(
     };
     let mut fault = None;
     for keyword in keywords {
-        fault = earlier(fault, read_keyword(&mut conditions, calls, keyword)?);
+        fault = earlier(fault, read_keyword(alloc, &mut conditions, calls, keyword)?);
     }
     Ok((conditions, fault))
 }

@@ -16,6 +16,7 @@ ghost use Rattle.jcl_procs.specs.Calling.{Moves, behind, TellsCalls, TellsData, 
 ghost use Rattle.jcl_procs.specs.Calling.{exec_placed, exec_read, or_earliest, with_dd, with_step};
 
 use crate::step::FlatStep;
+use boxed_core::Boxed;
 use card_core::statement::{DataCard, Statement};
 use jcl_cards::dd::{DdCard, dd_card, has_data};
 use jcl_cards::exec::{ExecCard, Runs, exec_card};
@@ -27,7 +28,7 @@ use jcl_plan::plan::AfterAbend;
 use jcl_symbols::substitution::substituted;
 use jcl_symbols::symbol::Symbol;
 use jname_core::name8::Name8;
-use list_values::condition::{CodedTests, Condition};
+use list_values::condition::{CodedTests, Condition, copied};
 use operand_core::fault::{earlier, lower, name_fault, when, written_name_fault};
 use operand_core::keyword::has_key;
 use operand_core::operand::{first_of, operand_of};
@@ -168,11 +169,12 @@ fn no_condition() -> Condition
     }
 }
 
-fn condition_or_none(condition: Option<Condition>) -> Condition
-    ensures { result ≡ unwrap_or condition no_condition }
+/// COND of a step, which may be absent.
+pub(crate) fn condition_or_none(condition: &Option<Boxed<Condition>>) -> Condition
+    ensures { result ≡ unwrap_or condition.now no_condition }
 {
     match condition {
-        Some(condition) => condition,
+        Some(condition) => copied(condition.get()),
         None => no_condition(),
     }
 }
@@ -186,7 +188,7 @@ fn step_of(alloc: Global, caller: &Caller<'_>, card: ExecCard) -> FlatStep
         procedure_step: card.name,
         call: Some(caller.place),
         program: program_of(card.runs),
-        condition: condition_or_none(card.condition),
+        condition: condition_or_none(&card.condition),
         dds: Listed::empty(alloc),
     }
 }

@@ -55,7 +55,7 @@ pub fn override_conditions(
     }
     let mut steps = steps.into_vec();
     if let Some(condition) = &exec.condition {
-        put_condition(steps.as_mut_slice(), condition);
+        put_condition(steps.as_mut_slice(), condition.get());
     }
     put_step_conditions(steps.as_mut_slice(), exec.step_conditions.as_slice());
     Ok(Listed::new(steps))

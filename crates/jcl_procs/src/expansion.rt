@@ -1,10 +1,9 @@
 //! A deck's steps, call by call. (GC28-6704, "Cataloged and in-stream procedures")
-ghost use Rattle.std.specs.Prelude.{◌≡◌, ◌++◌, [], All, IfOk, List, OnOk, map, is_some, unwrap_or};
+ghost use Rattle.std.specs.Prelude.{◌≡◌, ◌++◌, [], All, IfOk, List, OnOk, map, is_some};
 ghost use Rattle.std.specs.Bool.{OnTrue};
 ghost use Rattle.std.specs.List.{list_any};
 ghost use Rattle.std.specs.Option.{option_copied};
 ghost use Rattle.value_core.specs.Reads.{Gives};
-ghost use Rattle.list_values.specs.Conditions.{no_condition};
 ghost use Rattle.jcl_cards.specs.Merging.{by_itself};
 ghost use Rattle.jcl_deck.specs.declared.deck.Procedure as in_stream;
 ghost use Rattle.jcl_deck.specs.declared.operation.Operation.TheVariants.{IsProc};
@@ -15,7 +14,7 @@ ghost use Rattle.jcl_procs.specs.Bodies.{call_with, is_proc, statements_in, step
 ghost use Rattle.jcl_procs.specs.Counting.{IsLike, KeepsFirst, Passes, WasRead, counted, up_to};
 ghost use Rattle.jcl_procs.specs.Expansions.{and_then, body_by, body_named, body_of, called, flat_from, in_deck, plain_step, steps_by};
 
-use crate::calls::{Caller, steps_of};
+use crate::calls::{Caller, condition_or_none, steps_of};
 use crate::conditions::override_conditions;
 use crate::overriding::override_dds;
 use crate::step::FlatStep;
@@ -28,10 +27,8 @@ use jcl_cards::procedure::procedure_card;
 use jcl_deck::deck::{DeckStep, Procedure};
 use jcl_deck::operation::{Operation, operation_of};
 use jcl_plan::fault::{Cause, StatementFault};
-use jcl_plan::plan::AfterAbend;
 use jcl_symbols::symbol::Symbol;
 use jname_core::name8::Name8;
-use list_values::condition::{CodedTests, Condition, copied};
 use plain::lent::Lent;
 use plain::listed::Listed;
 use plain::text::Text;
@@ -225,19 +222,6 @@ fn some_qualified(dds: &[DdCard]) -> bool
     dds.iter().any(|dd| dd.qualifier.is_some())
 }
 
-/// COND of a step, which may be absent.
-fn condition_or_none(condition: &Option<Condition>) -> Condition
-    ensures { result ≡ unwrap_or condition.now no_condition }
-{
-    match condition {
-        Some(condition) => copied(condition),
-        None => Condition {
-            tests: CodedTests::new(),
-            after_abend: AfterAbend::Unsaid,
-        },
-    }
-}
-
 fn settle_each(dds: &mut [DdCard])
     ensures { dds.new ≡ map by_itself dds.old }
 {
@@ -275,9 +259,9 @@ fn plain_step(
         condition: condition_or_none(&exec.condition),
         dds: each_by_itself(dds),
     };
-    let mut steps = Listed::empty(alloc);
-    steps.push(step)?;
-    Ok(steps)
+    let mut steps = Vec::with_capacity(alloc, 1)?;
+    steps.push_reserved(step);
+    Ok(Listed::new(steps))
 }
 
 /// The steps of a deck's step.
@@ -381,9 +365,14 @@ fn passes(expansion: &Expansion, read: &[Runs], step: &DeckStep) -> bool
     }
 }
 
+/// Puts steps behind others. The first ones are taken over with their memory.
 fn put_behind(flat: &mut Vec<FlatStep>, steps: Listed<FlatStep>) -> Result<(), AllocError>
     ensures { OnOk result (flat.new.items ≡ flat.old.items ++ steps) }
 {
+    if flat.is_empty() {
+        *flat = steps.into_vec();
+        return Ok(());
+    }
     let mut steps = steps.into_vec();
     flat.append(&mut steps)?;
     Ok(())

@@ -4,10 +4,10 @@ ghost use Rattle.cb_meaning.specs.declared.layout.TheConstants.{LAYOUT_1};
 ghost use Rattle.cb_queue.specs.RecordQueues.{empty_queue};
 ghost use Rattle.sched_core.specs.Starting.{IsForMachine};
 
+use boxed_core::Boxed;
 use cb_meaning::layout::LAYOUT_1;
 use cb_queue::list_store::ListStore;
 use config_core::config::Config;
-use input_core::boxed::Boxed;
 use input_core::event::Event;
 use jcl_plan::entry::Entry;
 use plain::draft::Draft;

@@ -8,7 +8,7 @@ use crate::fault::Fault;
 use crate::programs::{is_ending, request_of};
 use crate::sets::record_in;
 use crate::statement::{Block, Ending, Says};
-use input_core::boxed::Boxed;
+use boxed_core::Boxed;
 use input_core::event::Event;
 use input_core::statement::{ConfigStatement, SetStatement};
 use jcl_meaning::program::Request;

@@ -10,7 +10,7 @@ use crate::fault::Fault;
 use crate::fields::{flag_in, next_field};
 use crate::statement::Block;
 use crate::values::{serial_in, set_name_in};
-use input_core::boxed::Boxed;
+use boxed_core::Boxed;
 use input_core::statement::SetStatement;
 use jcl_plan::plan::Record;
 use jname_core::decimal::number_within;

@@ -3,7 +3,7 @@ ghost use Rattle.std.specs.Prelude.{◌≡◌, IfOk};
 ghost use Rattle.session_text.specs.Statements.{configures};
 
 use crate::fault::Fault;
-use input_core::boxed::Boxed;
+use boxed_core::Boxed;
 use input_core::event::Event;
 use input_core::statement::{ConfigStatement, SetStatement};
 use jname_core::name8::Name8;
