@@ -135,7 +135,7 @@ fn cancel_admitted(
     ensures added { OnOk result (cancels.new ≡ with_job cancels.old job) }
     ensures err { OnErr result (cancels.new ≡ cancels.old) }
 {
-    let lines = one(alloc, Entry::Cancel(job))?;
+    let lines = one(Vec::new(alloc), Entry::Cancel(job))?;
     cancels.add(job)?;
     Ok(lines)
 }

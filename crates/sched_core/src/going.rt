@@ -103,11 +103,12 @@ fn most_explained(profile: &Profile<'_>, running: &Running) -> Result<usize, All
     }
 }
 
-/// Room for the lines of a turn: two, with those that explain the first, or that of a fault and one for each DD that the step took.
+/// Room for the lines of a turn: two, with those that explain the first, or that of a fault and one for each DD that the step took. It is this
+/// memory where it is enough.
 fn room_for(
-    alloc: Global,
     profile: &Profile<'_>,
     running: &Running,
+    mut room: Vec<Entry>,
 ) -> Result<Vec<Entry>, AllocError>
     ensures { IfOk result (HasRoomFor profile.now running.now) }
 {
@@ -118,7 +119,9 @@ fn room_for(
     let Some(count) = lines.checked_add(explained) else {
         return Err(AllocError);
     };
-    Vec::with_capacity(alloc, count)
+    room.clear();
+    room.reserve(count)?;
+    Ok(room)
 }
 
 /// A turn of the job of an initiator by which it may leave: it is read, has its names, is admitted or is over. An `Err` changes nothing.
@@ -162,12 +165,13 @@ fn turn_away<Q: RecordStore>(
     }
 }
 
-/// The initiator at a place goes on with its job.
+/// The initiator at a place goes on with its job. Its lines are in the room, where that is enough.
 pub(crate) fn go_on_at<Q: RecordStore>(
     alloc: Global,
     state: &mut State<Q>,
     profile: &Profile<'_>,
     place: usize,
+    room: &mut Vec<Entry>,
 ) -> Result<Listed<Entry>, ApplyFault>
     requires kept { IsKept Q.queue (config_in Q.queue profile.now state.old) state.old }
     requires runs { (r : Running) × RunsIn state.old.initiators.items place r }
@@ -183,7 +187,7 @@ pub(crate) fn go_on_at<Q: RecordStore>(
     let Some(running) = &mut x.running else {
         unreachable!();
     };
-    let Ok(mut entries) = room_for(alloc, profile, running) else {
+    let Ok(mut entries) = room_for(profile, running, mem::replace(room, Vec::new(alloc))) else {
         return Err(ApplyFault::Memory);
     };
     match go_on_in_place(alloc, &mut state.parts, profile, running) {

@@ -50,6 +50,7 @@ fn turn<Q: RecordStore>(
     state: &mut State<Q>,
     profile: &Profile<'_>,
     number: u8,
+    room: &mut Vec<Entry>,
 ) -> Result<Listed<Entry>, ApplyFault>
     requires { IsKept Q.queue (config_in Q.queue profile.now state.old) state.old }
     ensures answer { Answers result (world_in Q.queue (config_in Q.queue profile.now state.old) state.old)
@@ -64,9 +65,9 @@ fn turn<Q: RecordStore>(
         return Err(ApplyFault::Refused(Cause::A(EventFault::NoSuchInitiator)));
     };
     if state.initiators[place].running.is_some() {
-        go_on_at(alloc, state, profile, place)
+        go_on_at(alloc, state, profile, place, room)
     } else {
-        select_at(alloc, state, profile, place)
+        select_at(alloc, state, profile, place, room)
     }
 }
 
@@ -78,6 +79,7 @@ fn happen<Q: RecordStore>(
     units: &UnitNames,
     library: &ProcLibrary,
     event: &Event<'_>,
+    room: &mut Vec<Entry>,
 ) -> Result<Listed<Entry>, ApplyFault>
     requires kept { IsKept Q.queue (config_in Q.queue profile.now state.old) state.old }
     requires named { length units.now ≡ length profile.now.units.now }
@@ -92,8 +94,16 @@ fn happen<Q: RecordStore>(
     ensures extents { OnOk result (ExtentsFollow state.old.parts.store state.new.parts.store) }
 {
     match event {
-        Event::Read(deck) => read(alloc, state, profile, units, library, deck.get().as_slice()),
-        Event::Turn(number) => turn(alloc, state, profile, *number),
+        Event::Read(deck) => read(
+            alloc,
+            state,
+            profile,
+            units,
+            library,
+            deck.get().as_slice(),
+            room,
+        ),
+        Event::Turn(number) => turn(alloc, state, profile, *number, room),
         Event::DeviceEnd(serial) => end_device(alloc, state, profile, *serial),
         Event::Write(class) => write(alloc, state, profile, *class),
         Event::Cancel(job) => cancel(alloc, state, profile, *job),
@@ -114,6 +124,7 @@ pub(crate) fn apply_in<Q: RecordStore>(
     units: &UnitNames,
     library: &ProcLibrary,
     event: &Event<'_>,
+    room: &mut Vec<Entry>,
 ) -> Result<Listed<Entry>, ApplyFault>
     requires kept { IsKept Q.queue (config_in Q.queue profile.now state.old) state.old }
     requires named { length units.now ≡ length profile.now.units.now }
@@ -136,7 +147,7 @@ pub(crate) fn apply_in<Q: RecordStore>(
         return Err(ApplyFault::Refused(Cause::A(EventFault::PastLimit)));
     }
     state.events += 1;
-    match happen(alloc, state, profile, units, library, event) {
+    match happen(alloc, state, profile, units, library, event, room) {
         Ok(lines) => Ok(lines),
         Err(ApplyFault::Refused(cause)) => Err(ApplyFault::Refused(cause)),
         Err(ApplyFault::Memory) => {

@@ -16,7 +16,7 @@ ghost use Rattle.sched_core.specs.Systems.{IsSameMachine};
 ghost use Rattle.sched_core.specs.declared.fault.ApplyFault.TheVariants.{Refused};
 
 use crate::fault::ApplyFault;
-use crate::lines::one;
+use crate::lines::{one, room_for_one};
 use crate::state::State;
 use cb_queue::store::RecordStore;
 use init_core::running::Profile;
@@ -33,6 +33,7 @@ use plain::listed::Listed;
 use plan_laws::job_is_writable;
 use proc_library::library::ProcLibrary;
 use std::alloc::{AllocError, Global};
+use std::mem;
 use value_core::refusal::ReadError;
 
 /// The first line of a job.
@@ -46,13 +47,19 @@ fn read_line(plan: &JobPlan) -> JobLine
     }
 }
 
+/// A job that waits has so many lines when it is selected: READ, and SELECT.
+const LINES_BEFORE: usize = 2;
+
 /// The listing of a job that was read.
 fn listing_of(alloc: Global, job: u16, plan: &JobPlan) -> Result<Listing, AllocError>
     ensures { IfOk result (λ listing. listing ≡ listing_of job plan.now) }
 {
-    let mut lines = Listed::empty(alloc);
-    lines.push(read_line(plan))?;
-    Ok(Listing { job, lines })
+    let mut lines = Vec::with_capacity(alloc, LINES_BEFORE)?;
+    lines.push_reserved(read_line(plan));
+    Ok(Listing {
+        job,
+        lines: Listed::new(lines),
+    })
 }
 
 /// A line of a job behind the entries, in the room that is there for it.
@@ -71,6 +78,7 @@ fn take_in<Q: RecordStore>(
     backlog: &mut Backlog,
     job: u16,
     plan: &JobPlan,
+    room: &mut Vec<Entry>,
 ) -> Result<Listed<Entry>, AllocError>
     requires owner { job ≢ 0 }
     requires queued { All (λ x. x.job < job) (Q.queue queue.old).waiting }
@@ -80,7 +88,7 @@ fn take_in<Q: RecordStore>(
     ensures ok { IfOk result (TakesIn job plan.now (Q.queue queue.old) backlog.old (Q.queue queue.new) backlog.new) }
     ensures err { OnErr result ((Q.queue queue.new ≡ Q.queue queue.old) × (backlog.new ≡ backlog.old)) }
 {
-    let lines = Vec::with_capacity(alloc, 1)?;
+    let lines = room_for_one(mem::replace(room, Vec::new(alloc)))?;
     let listing = listing_of(alloc, job, plan)?;
     backlog.enter(listing)?;
     match enter_job(queue, job, plan) {
@@ -102,6 +110,7 @@ fn accept<Q: RecordStore>(
     state: &mut State<Q>,
     profile: &Profile<'_>,
     plan: &JobPlan,
+    room: &mut Vec<Entry>,
 ) -> Result<Listed<Entry>, ApplyFault>
     requires kept { IsKept Q.queue (config_in Q.queue profile.now state.old) state.old }
     requires few { state.old.jobs < MOST_JOBS }
@@ -115,7 +124,14 @@ fn accept<Q: RecordStore>(
     ensures store { state.new.parts.store ≡ state.old.parts.store }
 {
     let job = state.jobs + 1;
-    match take_in(alloc, &mut state.parts.queue, &mut state.backlog, job, plan) {
+    match take_in(
+        alloc,
+        &mut state.parts.queue,
+        &mut state.backlog,
+        job,
+        plan,
+        room,
+    ) {
         Ok(lines) => {
             state.jobs = job;
             Ok(lines)
@@ -132,6 +148,7 @@ pub(crate) fn read<Q: RecordStore>(
     units: &UnitNames,
     library: &ProcLibrary,
     deck: &[Lent<'_>],
+    room: &mut Vec<Entry>,
 ) -> Result<Listed<Entry>, ApplyFault>
     requires kept { IsKept Q.queue (config_in Q.queue profile.now state.old) state.old }
     requires named { length units.now ≡ length profile.now.units.now }
@@ -151,13 +168,16 @@ pub(crate) fn read<Q: RecordStore>(
         Err(ReadError::Memory) => Err(ApplyFault::Memory),
         Err(ReadError::Refused(cause)) => {
             let job = state.jobs + 1;
-            let lines = one(alloc, Entry::Job(job, JobLine::Rejected(cause)))?;
+            let lines = one(
+                mem::replace(room, Vec::new(alloc)),
+                Entry::Job(job, JobLine::Rejected(cause)),
+            )?;
             state.jobs = job;
             Ok(lines)
         }
         Ok(plan) => {
             job_is_writable();
-            accept(alloc, state, profile, &plan)
+            accept(alloc, state, profile, &plan, room)
         }
     }
 }

@@ -1,5 +1,6 @@
 //! An initiator selects a job.
 ghost use Rattle.std.specs.Prelude.{◌≡◌, ◌≢◌, ◌∷◌, ◌++◌, [], IfOk, OnErr, OnOk, Some};
+ghost use Rattle.std.specs.Vec.{vec_len};
 ghost use Rattle.jcl_plan.specs.declared.entry.JobLine.TheVariants as line;
 ghost use Rattle.jcl_plan.specs.declared.fault.Cause.{Cause};
 ghost use Rattle.queue_core.specs.declared.queue.Queued.{Queued};
@@ -26,16 +27,37 @@ use job_core::selecting::select;
 use plain::listed::Listed;
 use queue_core::queue::Queued;
 use std::alloc::{AllocError, Global};
+use std::mem;
 use turn_core::walk::first_walk;
 
-/// A job that was selected, with its listing.
-fn selected(alloc: Global, queued: Queued, listing: Listing) -> Running
+/// For so many lines of a job there is room from its selection on.
+const FEW_LINES: usize = 8;
+
+/// Lines in the room that is there for them, or where they are, if that is too small.
+fn with_room(lines: Listed<JobLine>, mut room: Vec<JobLine>) -> Listed<JobLine>
+    requires none { room.items ≡ [] }
+    requires empty { vec_len room ≡ 0 }
+    ensures { result ≡ lines }
+{
+    if room.capacity() < lines.len() {
+        return lines;
+    }
+    for line in lines.into_vec() {
+        room.push_reserved(line);
+    }
+    Listed::new(room)
+}
+
+/// A job that was selected, with its listing, in the room that is there for it.
+fn selected(alloc: Global, queued: Queued, listing: Listing, room: Vec<JobLine>) -> Running
+    requires none { room.items ≡ [] }
+    requires empty { vec_len room ≡ 0 }
     ensures { result ≡ selected_as queued listing.lines }
 {
     let Listing { job: _, lines } = listing;
     Running {
         job: queued.job,
-        walk: first_walk(alloc, lines),
+        walk: first_walk(alloc, with_room(lines, room)),
         stage: Stage::Selected { first: queued.jct },
     }
 }
@@ -67,6 +89,7 @@ fn seat_next<Q: RecordStore>(
     backlog: &mut Backlog,
     initiators: &mut Vec<Initiator>,
     place: usize,
+    room: &mut Vec<Entry>,
 ) -> Result<Listed<Entry>, AllocError>
     requires listed { AreListed (Q.queue queue.old).waiting backlog.old }
     requires idle { IsIdleAt initiators.old.items place }
@@ -78,9 +101,13 @@ fn seat_next<Q: RecordStore>(
     let Some(queued) = select(queue, classes.as_slice()) else {
         return Ok(Listed::empty(alloc));
     };
-    let lines = one(alloc, Entry::Job(queued.job, JobLine::Selected(number)))?;
+    let lines = one(
+        mem::replace(room, Vec::new(alloc)),
+        Entry::Job(queued.job, JobLine::Selected(number)),
+    )?;
+    let few = Vec::with_capacity(alloc, FEW_LINES)?;
     let listing = take_out(queue, backlog, queued.job, JobLine::Selected(number))?;
-    let running = selected(alloc, queued, listing);
+    let running = selected(alloc, queued, listing, few);
     seat(&mut initiators[place], Some(running));
     Ok(lines)
 }
@@ -91,6 +118,7 @@ pub(crate) fn select_at<Q: RecordStore>(
     state: &mut State<Q>,
     profile: &Profile<'_>,
     place: usize,
+    room: &mut Vec<Entry>,
 ) -> Result<Listed<Entry>, ApplyFault>
     requires kept { IsKept Q.queue (config_in Q.queue profile.now state.old) state.old }
     requires idle { IsIdleAt state.old.initiators.items place }
@@ -109,6 +137,7 @@ pub(crate) fn select_at<Q: RecordStore>(
         &mut state.backlog,
         &mut state.initiators,
         place,
+        room,
     ) {
         Ok(lines) => Ok(lines),
         Err(_) => Err(ApplyFault::Memory),

@@ -109,8 +109,12 @@ impl<'c, Q: RecordStore> System<'c, Q> {
     }
 
     /// One event: a case of the table, decided by the volumes as they were, whose extents follow. A refusal changes the count of events alone and takes no
-    /// memory; want of memory changes nothing.
-    pub fn apply(&mut self, event: &Event<'_>) -> Result<Listed<Entry>, ApplyFault>
+    /// memory; want of memory changes nothing. The lines may be in the room that is lent, whose entries are dropped then.
+    pub fn apply(
+        &mut self,
+        event: &Event<'_>,
+        room: &mut Vec<Entry>,
+    ) -> Result<Listed<Entry>, ApplyFault>
         ensures answer { Applies result (world_of self.old) (world_of self.new) (Steps self.old event.now) }
         ensures refusal { RefusesFirst result (Transition (denoting self.old) (world_of self.old) (meant_by event.now)) }
         ensures unless_refused { KeepsIfRefused result self.old self.new }
@@ -124,6 +128,7 @@ impl<'c, Q: RecordStore> System<'c, Q> {
             self.units,
             self.library,
             event,
+            room,
         )
     }
 
@@ -134,7 +139,8 @@ impl<'c, Q: RecordStore> System<'c, Q> {
         ensures next { IsNext self.old self.new }
     {
         let mut line = Vec::with_capacity(self.alloc, 1)?;
-        match self.apply(event) {
+        let mut room = Vec::new(self.alloc);
+        match self.apply(event, &mut room) {
             Ok(lines) => Ok(lines),
             Err(ApplyFault::Refused(cause)) => {
                 line.push_reserved(Entry::Refused(cause));

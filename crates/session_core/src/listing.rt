@@ -18,6 +18,7 @@ use crate::{SessionEnd, SessionFault};
 use jcl_plan::entry::Entry;
 use jcl_plan::fault::{Cause, EventFault};
 use plain::draft::Draft;
+use plain::listed::Listed;
 use std::alloc::{AllocError, Global};
 use std::io::Write;
 
@@ -34,11 +35,12 @@ pub struct Mark {
     pub start: usize,
 }
 
-/// The text that is held, and the statements that wrote it, in order.
+/// The text that is held, and the statements that wrote it, in order; and room for the lines of an event.
 #[derive(Drop)]
 pub struct Listing {
     pub text: Draft,
     pub marks: Vec<Mark>,
+    pub room: Vec<Entry>,
 }
 
 impl Listing {
@@ -49,6 +51,7 @@ impl Listing {
         Listing {
             text: Draft::empty(alloc),
             marks: Vec::new(alloc),
+            room: Vec::new(alloc),
         }
     }
 
@@ -64,6 +67,20 @@ impl Listing {
         write_lines(entries, &mut self.text)?;
         self.text.keep();
         Ok(())
+    }
+
+    /// Holds the lines of an event too, or none of them, and keeps their room for those of the next event.
+    pub fn take(&mut self, entries: Listed<Entry>) -> Result<(), AllocError>
+        ensures ok { OnOk result (self.new.text.kept ≡ self.old.text.kept ++ flat_map text_of entries) }
+        ensures err { OnErr result (self.new.text.kept ≡ self.old.text.kept) }
+        ensures marks { self.new.marks.items ≡ self.old.marks.items }
+    {
+        if entries.as_slice().is_empty() {
+            return Ok(());
+        }
+        let added = self.add(entries.as_slice());
+        self.room = entries.into_vec();
+        added
     }
 
     /// Holds the line of an event past the last that is done, whose text is always the same.

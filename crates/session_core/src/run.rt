@@ -39,8 +39,8 @@ fn run_event(
     ensures next { IsNext system.old system.new }
     ensures marks { listing.new.marks.items ≡ listing.old.marks.items }
 {
-    match system.apply(event) {
-        Ok(entries) => listing.add(entries.as_slice()),
+    match system.apply(event, &mut listing.room) {
+        Ok(entries) => listing.take(entries),
         Err(ApplyFault::Refused(cause)) => listing.add(&[Entry::Refused(cause)]),
         Err(ApplyFault::Memory) => Err(AllocError),
     }

@@ -101,10 +101,10 @@ returns-in-Ok-Some-clause-answer g c =
     let went = subst (WentInPlace queue_of config s.parts c.in-Some.running c.go_on_in_place.new.parts c.go_on_in_place.new.running) c.in-Ok-Some.field-0-is
     c.in-Ok-Some.ensures.ok in
     let turns = in_place queue_of profile s c.requires.kept c.requires.runs.0 c.in-Some.running x c.args.place there at c.in-Some.is
-    c.go_on_in_place.new.parts c.go_on_in_place.new.running c.in-Ok-Some.from c.new.result went
-    (c.new.ensures ∙ c.tell.ensures ∙ (λ i. c.in-Ok.ensures.none i ++ of_job (went.left.same i) (c.lines_from.ensures i))) in
+    c.go_on_in_place.new.parts c.go_on_in_place.new.running c.in-Ok-Some.from c.new-in-Ok-Some.result went
+    (c.new-in-Ok-Some.ensures ∙ c.tell.ensures ∙ (λ i. c.in-Ok.ensures.none i ++ of_job (went.left.same i) (c.lines_from.ensures i))) in
     let new = with_initiator s c.go_on_in_place.new.parts c.args.place (record x { running = Some c.go_on_in_place.new.running }) in
-    leads queue_of config s c.requires.kept c.args.place new c.new.result refl refl refl turns
+    leads queue_of config s c.requires.kept c.args.place new c.new-in-Ok-Some.result refl refl refl turns
 
 pub returns-in-Ok-Some-clause-fit : goal.returns-in-Ok-Some-clause-fit
 returns-in-Ok-Some-clause-fit g c =
@@ -119,9 +119,9 @@ returns-in-Ok-Some-clause-fit g c =
     let went = subst (WentInPlace queue_of config s.parts c.in-Some.running c.go_on_in_place.new.parts c.go_on_in_place.new.running) c.in-Ok-Some.field-0-is
     c.in-Ok-Some.ensures.ok in
     let turns = in_place queue_of profile s c.requires.kept c.requires.runs.0 c.in-Some.running x c.args.place there at c.in-Some.is
-    c.go_on_in_place.new.parts c.go_on_in_place.new.running c.in-Ok-Some.from c.new.result went
-    (c.new.ensures ∙ c.tell.ensures ∙ (λ i. c.in-Ok.ensures.none i ++ of_job (went.left.same i) (c.lines_from.ensures i))) in
-    fit queue_of config s c.requires.kept c.args.place _ c.new.result refl refl refl turns
+    c.go_on_in_place.new.parts c.go_on_in_place.new.running c.in-Ok-Some.from c.new-in-Ok-Some.result went
+    (c.new-in-Ok-Some.ensures ∙ c.tell.ensures ∙ (λ i. c.in-Ok.ensures.none i ++ of_job (went.left.same i) (c.lines_from.ensures i))) in
+    fit queue_of config s c.requires.kept c.args.place _ c.new-in-Ok-Some.result refl refl refl turns
 
 pub returns-in-Ok-turn_away-clause-answer : goal.returns-in-Ok-turn_away-clause-answer
 returns-in-Ok-turn_away-clause-answer g c =
