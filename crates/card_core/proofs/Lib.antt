@@ -1,2 +1,3 @@
+mod Lines
 mod Operands
 mod Statements

@@ -1,13 +1,16 @@
 //! One card by its columns.
-ghost use Rattle.std.specs.Prelude.{◌≡◌, ◌≤◌, length, not};
+ghost use Rattle.std.specs.Prelude.{◌≡◌, ◌≤◌, length, not, IfErr, OnOk, None, Some};
 ghost use Rattle.std.specs.List.{list_any};
-ghost use Rattle.card_core.specs.Cards.{is_blank, is_printable, filled, columns, are_blank, is_jcl, is_delimiter, is_null, kind_of, may_continue, is_marked};
+ghost use Rattle.card_core.specs.Cards.{is_blank, is_printable, filled, columns, are_blank, is_jcl, is_delimiter, is_null, kind_of, line_fault, may_continue, is_marked};
 ghost use Rattle.card_core.specs.Reading.{Images};
 
 use crate::fault::CardFault;
 use crate::statement::DataCard;
 
 const COLUMNS: usize = 80;
+
+/// A card of blanks.
+pub(crate) const BLANKS: DataCard = [b' '; COLUMNS];
 
 /// What a card is.
 #[derive(Clone, Copy, PartialEq, Eq)]
@@ -40,28 +43,45 @@ fn filled(line: &[u8]) -> DataCard
     requires { length line.now ≤ 80 }
     ensures { result ≡ filled line.now }
 {
-    let mut card = [b' '; COLUMNS];
+    let mut card = BLANKS;
     card[..line.len()].copy_from_slice(line);
     card
 }
 
-fn has_bad_byte(line: &[u8]) -> bool
-    ensures { result ≡ list_any (λ c. not (is_printable c)) line.now }
+/// Whether some column of the card has a byte that is no printable character.
+fn has_bad_byte(card: &DataCard) -> bool
+    ensures { result ≡ list_any (λ c. not (is_printable c)) card.now }
 {
-    line.iter().any(|c| !is_printable(*c))
+    let mut found = false;
+    for c in card.iter() {
+        found |= !is_printable(*c);
+    }
+    found
+}
+
+/// Makes this card the line's, filled with blanks. After an `Err` it is of no use.
+pub(crate) fn fill(card: &mut DataCard, line: &[u8]) -> Result<(), CardFault>
+    ensures ok { OnOk result (line_fault line.now ≡ None) }
+    ensures card { OnOk result (card.new ≡ filled line.now) }
+    ensures err { IfErr result (λ fault. line_fault line.now ≡ Some fault) }
+{
+    if line.len() > COLUMNS {
+        return Err(CardFault::LineTooLong);
+    }
+    *card = filled(line);
+    if has_bad_byte(card) {
+        return Err(CardFault::BadByte);
+    }
+    Ok(())
 }
 
 /// The card of a line, filled with blanks.
 pub fn card_of(line: &[u8]) -> Result<DataCard, CardFault>
     ensures { Images result line.now }
 {
-    if line.len() > COLUMNS {
-        Err(CardFault::LineTooLong)
-    } else if has_bad_byte(line) {
-        Err(CardFault::BadByte)
-    } else {
-        Ok(filled(line))
-    }
+    let mut card = BLANKS;
+    fill(&mut card, line)?;
+    Ok(card)
 }
 
 /// The columns from the first to the last, which count from 1.

@@ -4,7 +4,7 @@ ghost use Rattle.card_core.specs.Deck.{Gives, statements_behind, statements_of};
 ghost use Rattle.card_core.specs.Reading.{cards_of, Passes};
 
 use crate::begun::{Begun, jcl_statement, loose};
-use crate::card::{Kind, card_of, kind_of};
+use crate::card::{BLANKS, Kind, fill, kind_of};
 use crate::fault::CardFault;
 use crate::statement::{Card, DataCard, Statement};
 use std::alloc::{AllocError, Global};
@@ -43,8 +43,9 @@ fn cards_of(alloc: Global, lines: &[Card<'_>]) -> Result<Vec<DataCard>, ReadErro
 {
     let mut cards = Vec::with_capacity(alloc, lines.len())?;
     for line in lines {
-        match card_of(line.as_slice()) {
-            Ok(card) => put(&mut cards, card)?,
+        let mut card = BLANKS;
+        match fill(&mut card, line.as_slice()) {
+            Ok(()) => put(&mut cards, card)?,
             Err(fault) => return Err(ReadError::Fault(fault)),
         }
     }
@@ -81,15 +82,18 @@ fn push_statement(
     ensures passes { Passes result out.old.items out.new.items called card.now cards.now }
     ensures bound { IfOk result (λ place. place.used ≤ length cards.now) }
 {
-    match kind_of(card) {
-        Kind::Comment | Kind::Delimiter => Ok(Place { called, used: 0 }),
-        Kind::Null => Ok(Place {
-            called,
-            used: cards.len(),
-        }),
-        Kind::Jcl => Ok(put_begun(out, jcl_statement(alloc, called, card, cards)?)?),
-        Kind::Data => Ok(put_begun(out, loose(alloc, called, card, cards)?)?),
-    }
+    let begun = match kind_of(card) {
+        Kind::Comment | Kind::Delimiter => return Ok(Place { called, used: 0 }),
+        Kind::Null => {
+            return Ok(Place {
+                called,
+                used: cards.len(),
+            });
+        }
+        Kind::Jcl => jcl_statement(alloc, called, card, cards)?,
+        Kind::Data => loose(alloc, called, card, cards)?,
+    };
+    Ok(put_begun(out, begun)?)
 }
 
 fn statements(alloc: Global, cards: &[DataCard]) -> Result<Vec<Statement>, ReadError>
