@@ -1,3 +1,4 @@
 mod Lines
 mod Operands
 mod Statements
+mod Words

@@ -1,5 +1,6 @@
 //! The fields of a card.
-ghost use Rattle.std.specs.Prelude.{◌≡◌, ◌≤◌, length, false};
+ghost use Rattle.std.specs.Prelude.{◌≡◌, ◌≤◌, ◌+◌, drop, length, not, false};
+ghost use Rattle.std.specs.List.{list_any};
 ghost use Rattle.std.specs.Option.{option_copied};
 ghost use Rattle.card_core.specs.Cards.{is_blank, columns};
 ghost use Rattle.card_core.specs.Fields.{begins_quoted, front, behind, is_not_blank, is_unquoted, without_blanks, operand_text, quoted_after, ends_with_comma, resumes_outside, name_of, operation_of, behind_operation};
@@ -79,14 +80,51 @@ fn text_by_characters(text: &[u8]) -> Option<&[u8]>
     if quoted { None } else { Some(text) }
 }
 
+fn is_unquoted(c: u8) -> bool
+    ensures { result ≡ is_unquoted c }
+{
+    !is_blank(c) && c != APOSTROPHE
+}
+
+/// Whether a blank or an apostrophe is in the text.
+fn has_stop(text: &[u8]) -> bool
+    ensures { result ≡ list_any (λ c. not (is_unquoted c)) text.now }
+{
+    let mut found = false;
+    for c in text.iter() {
+        found |= !is_unquoted(*c);
+    }
+    found
+}
+
+/// How many characters at the front stand in whole eights without a blank or an apostrophe.
+fn in_eights(text: &[u8]) -> usize
+    ensures count { length (front is_unquoted text.now) ≡ result + length (front is_unquoted (drop result text.now)) }
+    ensures bound { result ≤ length text.now }
+{
+    let mut count = 0;
+    while text.len() - count >= 8 && !has_stop(&text[count..count + 8]) {
+        count += 8;
+    }
+    count
+}
+
+/// How many characters the text has before its first blank or apostrophe, one by one.
+fn one_by_one(text: &[u8]) -> usize
+    ensures count { result ≡ length (front is_unquoted text.now) }
+    ensures bound { result ≤ length text.now }
+{
+    text.iter().take_while(|c| is_unquoted(**c)).count()
+}
+
 /// How many characters the text has before its first blank or apostrophe.
 fn unquoted_len(text: &[u8]) -> usize
     ensures count { result ≡ length (front is_unquoted text.now) }
     ensures bound { result ≤ length text.now }
 {
-    text.iter()
-        .take_while(|c| !is_blank(**c) && **c != APOSTROPHE)
-        .count()
+    let count = in_eights(text);
+    let (_, behind) = text.split_at(count);
+    count + one_by_one(behind)
 }
 
 fn begins_quoted(text: &[u8]) -> bool
