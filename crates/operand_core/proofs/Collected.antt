@@ -1,12 +1,14 @@
 -- the parts of an operand, collected one after another
-use Rattle.std.proofs.Common.{◌≡◌, ℕ, Bool, true, false, cond, not, ◌||◌, List, [], ◌∷◌, ◌++◌, drop, length, map, nat_eq, nat_lt, Option, Some, None, is_some, append_assoc, refl, sym, ap, ◌∙◌}
+use Rattle.std.proofs.Common.{◌≡◌, ℕ, suc, Bool, true, false, cond, not, ◌||◌, List, [], ◌∷◌, ◌++◌, drop, length, map, nat_lt, Option, Some, None, IfSome, IfNone, is_some, Bor, append_assoc, refl, sym, ap, ◌∙◌}
 use Rattle.std.specs.List.{flat_map, list_any}
+use Rattle.std.specs.Option.{option_copied}
 use Rattle.std.proofs.lemmas.List.{append-nil, length-map}
 use Rattle.std.proofs.lemmas.List.Sums.{take_while-cons}
 use Rattle.jcl_plan.specs.declared.fault.Cause.{Cause}
 use Rattle.operand_core.specs.Faults.{earlier, told}
 use Rattle.operand_core.specs.Operands.{Keyword, behind_positional, is_crowded, is_positional, keyword_of, keywords_of, onto_keywords, part_faults, parts_of, places_of, positional_parts, read_of}
 use Rattle.operand_core.specs.Reading.{Parts, all_parts, no_parts, put_behind, with_fault, with_part}
+use Rattle.operand_core.specs.Subparameters.{places_left}
 use Rattle.operand_core.proofs.Told.{earlier_assoc, told_append}
 
 abbrev parts_by : List (Option (List ℕ)) → List Keyword → Bool → Option Cause → Parts
@@ -24,6 +26,11 @@ behind_by (k ∷ keywords) s rest = parts_by s.positional ((k ∷ keywords) ++ k
 
 abbrev pub behind : Parts → List (List ℕ) → Parts
 behind s rest = behind_by s.keywords s rest
+
+-- how far it is to the end of what is left, none being left behind the last part
+abbrev pub characters_left : Option (List ℕ) → ℕ
+characters_left None = 0
+characters_left (Some text) = suc (length text)
 
 pub before_all : (parts : List (List ℕ)) → behind no_parts parts ≡ all_parts parts
 before_all parts = refl
@@ -105,9 +112,11 @@ one_more_by positional (k ∷ keywords) crowded fault part rest (Some found) is 
 pub one_more : (s : Parts) (part : List ℕ) (rest : List (List ℕ)) → behind s (part ∷ rest) ≡ behind (with_part part s) rest
 one_more s part rest = one_more_by s.positional s.keywords s.crowded s.fault part rest (keyword_of part) refl
 
-pub parts_there : (text : List ℕ) → nat_eq (length text) 0 ≡ false → parts_of text ≡ places_of text
-parts_there [] there = absurd (cc)
-parts_there (c ∷ cs) there = refl
+-- the part that a text begins with, and those that are left
+pub next_places : (text part : List ℕ) (next : Option (Bor (List ℕ))) → IfSome next (λ behind. places_of text ≡ part ∷ places_of behind.now) →
+    IfNone next (places_of text ≡ part ∷ []) → places_of text ≡ part ∷ places_left true (option_copied next)
+next_places text part None some none = none
+next_places text part (Some behind) some none = some
 
 -- an operand is crowded by what is collected of it
 pub crowded_by : (most : ℕ) (text : List ℕ) (s : Parts) → s ≡ all_parts (parts_of text) →

@@ -1,11 +1,12 @@
 //! An operand by its parts.
 ghost use Rattle.std.specs.Prelude.{◌≡◌, ◌||◌, IfOk, OnOk, nat_lt};
 ghost use Rattle.std.specs.Option.{option_copied};
+ghost use Rattle.operand_core.specs.Faults.{earlier, told, when};
 ghost use Rattle.operand_core.specs.Operands.{first_of, keyword_of, operand_of, parts_of, read_of};
 ghost use Rattle.operand_core.specs.Reading.{IsOperand, all_parts, no_parts, parts_in, put_behind, with_part};
 
-use crate::fault::{earlier, when};
-use crate::parts::{Part, first_part};
+use crate::fault::earlier;
+use crate::parts::{Part, begun_part};
 use jcl_plan::fault::{Cause, StatementFault};
 use std::alloc::{AllocError, Global};
 use std::marker::Model;
@@ -136,21 +137,21 @@ impl<'a> Collected<'a> {
     }
 }
 
-/// The parts of an operand, of which an empty one has none.
-fn collect<'a>(alloc: Global, operand: &'a [u8]) -> Result<Collected<'a>, AllocError>
-    ensures { IfOk result (λ c. parts_in c ≡ all_parts (parts_of operand.now)) }
+/// Collects the parts of an operand, of which an empty one has none.
+fn collect<'a>(found: &mut Collected<'a>, operand: &'a [u8]) -> Result<(), AllocError>
+    requires { parts_in found.old ≡ no_parts }
+    ensures { OnOk result (parts_in found.new ≡ all_parts (parts_of operand.now)) }
 {
-    let mut found = Collected::nothing(alloc);
     if operand.is_empty() {
-        return Ok(found);
+        return Ok(());
     }
-    let mut rest = operand;
-    while let Some((part, behind)) = first_part(rest) {
-        found.add(&Part::new(part))?;
-        rest = behind;
+    let mut left = Some(operand);
+    while let Some(text) = left {
+        let (part, behind) = begun_part(text);
+        found.add(&part)?;
+        left = behind;
     }
-    found.add(&Part::new(rest))?;
-    Ok(found)
+    Ok(())
 }
 
 /// Whether there are more positional ones than the statement takes, or one behind a keyword.
@@ -160,24 +161,34 @@ fn is_crowded(most: usize, count: usize, behind_keyword: bool) -> bool
     count > most || behind_keyword
 }
 
+/// The fault of the parts, and that there are too many positional ones where that holds: the one that is told.
+fn with_many(fault: Option<Cause>, many: bool) -> Option<Cause>
+    ensures { result ≡ earlier fault (told (when many (Cause.P StatementFault.TooManyPositional))) }
+{
+    if many {
+        earlier(fault, Some(Cause::P(StatementFault::TooManyPositional)))
+    } else {
+        fault
+    }
+}
+
 /// The operand of a statement that takes so many positional ones at most.
 pub fn operand_of<'a>(alloc: Global, most: usize, text: &'a [u8]) -> Result<Operand<'a>, AllocError>
     ensures { IfOk result (λ operand. IsOperand operand (operand_of most text.now)) }
 {
+    let mut found = Collected::nothing(alloc);
+    collect(&mut found, text)?;
     let Collected {
         positional,
         keywords,
         crowded,
         fault,
-    } = collect(alloc, text)?;
-    let many = when(
-        is_crowded(most, positional.as_slice().len(), crowded),
-        Cause::P(StatementFault::TooManyPositional),
-    );
+    } = found;
+    let many = is_crowded(most, positional.as_slice().len(), crowded);
     Ok(Operand {
         positional,
         keywords,
-        fault: earlier(fault, many),
+        fault: with_many(fault, many),
     })
 }
 

@@ -1,12 +1,10 @@
 //! The parts of an operand.
-ghost use Rattle.std.specs.Prelude.{◌≡◌, ◌∷◌, [], take_while, ◌<◌, ◌≤◌, ◌||◌, ◌==◌, length, Some, None, IfOk, IfSome, IfNone, MatchOption};
-ghost use Rattle.std.specs.List.{position};
-ghost use Rattle.std.specs.Option.{option_copied};
+ghost use Rattle.std.specs.Prelude.{◌≡◌, ◌∷◌, [], take_while, ◌<◌, ◌≤◌, length, Some, None, IfOk, IfSome, IfNone, MatchOption};
 ghost use Rattle.operand_core.specs.Faults.{told};
 ghost use Rattle.operand_core.specs.Operands.{places_of, part_faults, keyword_of, is_key_character};
 
 use crate::fault::when;
-use crate::scan::{depth_after, ends_part, is_balanced, is_calm, is_closed, quoted_after};
+use crate::scan::{depth_after, ends_part, is_balanced, is_closed, plain_len, quoted_after};
 use jcl_plan::fault::{Cause, StatementFault};
 use jname_core::name8::is_name_character;
 use std::marker::Model;
@@ -40,12 +38,13 @@ impl<'a> Model for Part<'a> {
 }
 
 impl<'a> Part<'a> {
-    /// The part of these characters, whose keyword and fault are looked for once.
-    pub(crate) fn new(text: &'a [u8]) -> Part<'a>
+    /// The part of these characters, of which so many are a key's, and whose form has this fault.
+    fn of(text: &'a [u8], key_len: usize, fault: Option<Cause>) -> Part<'a>
+        requires key { key_len ≡ length (take_while is_key_character text.now) }
+        requires fault { fault ≡ told (part_faults text.now) }
         ensures { result ≡ text.entry.now }
     {
-        let fault = part_fault(text);
-        match keyword_of(text) {
+        match keyed(text, key_len) {
             Some((key, value)) => Part {
                 text,
                 key: Some(key),
@@ -59,6 +58,13 @@ impl<'a> Part<'a> {
                 fault,
             },
         }
+    }
+
+    /// The part of these characters, whose keyword and fault are looked for once.
+    fn new(text: &'a [u8]) -> Part<'a>
+        ensures { result ≡ text.entry.now }
+    {
+        Part::of(text, key_len(text), part_fault(text))
     }
 
     /// Its characters.
@@ -89,20 +95,11 @@ impl<'a> Part<'a> {
 fn part_fault(part: &[u8]) -> Option<Cause>
     ensures { result ≡ told (part_faults part.now) }
 {
-    if is_calm(part) {
-        None
-    } else if is_balanced(part) {
+    if is_balanced(part) {
         when(!is_closed(part), Cause::P(StatementFault::BadValue))
     } else {
         Some(Cause::P(StatementFault::UnbalancedParentheses))
     }
-}
-
-fn first_comma(text: &[u8]) -> Option<usize>
-    ensures first { result ≡ position (λ c. c == 44) text.now }
-    ensures within { IfSome result (λ at. at < length text.now) }
-{
-    text.iter().position(|c| *c == b',')
 }
 
 /// The first of several parts, and what stands behind its comma. Most have neither parentheses nor apostrophes before it.
@@ -111,16 +108,12 @@ pub(crate) fn first_part(text: &[u8]) -> Option<(&[u8], &[u8])>
     ensures shorter { IfSome result (λ r. length r.1.now < length text.now) }
     ensures none { IfNone result (places_of text.now ≡ text.now ∷ []) }
 {
-    let comma = match first_comma(text) {
-        None => return None,
-        Some(comma) => comma,
-    };
-    let (front, _) = text.split_at(comma);
-    if is_calm(front) {
-        let (_, behind) = text.split_at(comma + 1);
-        return Some((front, behind));
+    let (front, rest) = text.split_at(plain_len(text));
+    match rest.split_first() {
+        None => None,
+        Some((b',', behind)) => Some((front, behind)),
+        Some(_) => part_by_characters(text),
     }
-    part_by_characters(text)
 }
 
 /// The same, character by character.
@@ -156,13 +149,50 @@ fn key_len(part: &[u8]) -> usize
     part.iter().take_while(|c| is_key_character(**c)).count()
 }
 
+/// A keyword of so many characters and what stands behind its `=`.
+fn keyed(part: &[u8], key_len: usize) -> Option<(&[u8], &[u8])>
+    requires { key_len ≡ length (take_while is_key_character part.now) }
+    ensures { MatchOption result (keyword_of part.now ≡ None) (λ r. keyword_of part.now ≡ Some (r.0.now, r.1.now)) }
+{
+    let (key, behind) = part.split_at(key_len);
+    match behind.split_first() {
+        Some((b'=', value)) if !key.is_empty() => Some((key, value)),
+        _ => None,
+    }
+}
+
 /// A keyword and what stands behind its `=`.
 pub fn keyword_of(part: &[u8]) -> Option<(&[u8], &[u8])>
     ensures { MatchOption result (keyword_of part.now ≡ None) (λ r. keyword_of part.now ≡ Some (r.0.now, r.1.now)) }
 {
-    let (key, behind) = part.split_at(key_len(part));
-    match behind.split_first() {
-        Some((b'=', value)) if !key.is_empty() => Some((key, value)),
-        _ => None,
+    keyed(part, key_len(part))
+}
+
+/// The part that a text begins with, and what stands behind its comma, where one ends it.
+pub(crate) fn begun_part<'a>(text: &'a [u8]) -> (Part<'a>, Option<&'a [u8]>)
+    ensures some { IfSome result.1 (λ behind. places_of text.now ≡ result.0 ∷ places_of behind.now) }
+    ensures shorter { IfSome result.1 (λ behind. length behind.now < length text.now) }
+    ensures none { IfNone result.1 (places_of text.now ≡ result.0 ∷ []) }
+{
+    let key_len = key_len(text);
+    let (_, value) = text.split_at(key_len);
+    let (front, rest) = text.split_at(key_len + plain_len(value));
+    let part = Part::of(front, key_len, None);
+    match rest.split_first() {
+        None => (part, None),
+        Some((b',', behind)) => (part, Some(behind)),
+        Some(_) => marked_part(text),
+    }
+}
+
+/// The same, where parentheses or apostrophes stand in the part.
+fn marked_part<'a>(text: &'a [u8]) -> (Part<'a>, Option<&'a [u8]>)
+    ensures some { IfSome result.1 (λ behind. places_of text.now ≡ result.0 ∷ places_of behind.now) }
+    ensures shorter { IfSome result.1 (λ behind. length behind.now < length text.now) }
+    ensures none { IfNone result.1 (places_of text.now ≡ result.0 ∷ []) }
+{
+    match part_by_characters(text) {
+        Some((part, behind)) => (Part::new(part), Some(behind)),
+        None => (Part::new(text), None),
     }
 }

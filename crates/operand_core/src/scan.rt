@@ -1,8 +1,7 @@
 //! An operand's characters: apostrophes, parentheses and commas.
-ghost use Rattle.std.specs.Prelude.{◌≡◌, ◌≤◌, ◌<◌, length, false};
-ghost use Rattle.std.specs.List.{list_any};
+ghost use Rattle.std.specs.Prelude.{◌≡◌, ◌≤◌, ◌<◌, length, take_while, false};
 ghost use Rattle.card_core.specs.Fields.{quoted_after};
-ghost use Rattle.operand_core.specs.Calm.{is_calm, is_mark};
+ghost use Rattle.operand_core.specs.Calm.{is_mark, is_plain};
 ghost use Rattle.operand_core.specs.Operands.{depth_after, ends_part, closes_nothing, is_balanced, is_closed};
 
 /// Whether an apostrophe is open behind a character.
@@ -47,17 +46,18 @@ fn is_mark(c: u8) -> bool
     c == b'(' || c == b')' || c == b'\''
 }
 
-fn has_mark(text: &[u8]) -> bool
-    ensures { result ≡ list_any is_mark text.now }
+fn is_plain(c: u8) -> bool
+    ensures { result ≡ is_plain c }
 {
-    text.iter().any(|c| is_mark(*c))
+    !(is_mark(c) || c == b',')
 }
 
-/// Whether a text has no parenthesis and no apostrophe, as most have.
-pub(crate) fn is_calm(text: &[u8]) -> bool
-    ensures { result ≡ is_calm text.now }
+/// How many characters stand before the first comma, parenthesis or apostrophe.
+pub(crate) fn plain_len(text: &[u8]) -> usize
+    ensures count { result ≡ length (take_while is_plain text.now) }
+    ensures bound { result ≤ length text.now }
 {
-    !has_mark(text)
+    text.iter().take_while(|c| is_plain(**c)).count()
 }
 
 /// Whether each parenthesis outside apostrophes has its other.

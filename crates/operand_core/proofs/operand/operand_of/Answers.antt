@@ -12,17 +12,17 @@ use Rattle.operand_core.proofs.operand.operand_of.Goals as goal
 pub returns : goal.returns
 returns c =
     let text = c.args.text.now in
-    let found = parts_in c.in_ok-positional.field-0 in
-    let all : found ≡ all_parts (parts_of text) = c.in_ok-positional.ensures in
+    let found = parts_in c.collect.new.found in
+    let all : found ≡ all_parts (parts_of text) = c.in_ok-collect.ensures in
     let faults = flat_map part_faults (parts_of text) in
-    let crowded : c.is_crowded.result ≡ is_crowded c.args.most (parts_of text) =
-    c.is_crowded.ensures ∙ ap (λ n. nat_lt c.args.most n || found.crowded) (ap length c.as_slice.ensures.value) ∙ crowded_by c.args.most text found all in
+    let crowded : c.is_crowded-many.result ≡ is_crowded c.args.most (parts_of text) =
+    c.is_crowded-many.ensures ∙ ap (λ n. nat_lt c.args.most n || found.crowded) (ap length c.as_slice.ensures.value) ∙ crowded_by c.args.most text found all in
     let many : Bool → _ = λ (b : Bool). told (when b (P TooManyPositional)) in
     record {
       positional = ap (λ (s : Parts). s.positional) all;
       keywords = ap (λ (s : Parts). s.keywords) all;
-      fault = c.earlier.ensures
-          ∙ ap (λ (s : Parts). earlier s.fault c.when-many.result) all
-          ∙ ap (earlier (told faults)) (c.when-many.ensures ∙ ap many crowded)
+      fault = c.with_many.ensures
+          ∙ ap (λ (s : Parts). earlier s.fault (many c.is_crowded-many.result)) all
+          ∙ ap (earlier (told faults)) (ap many crowded)
           ∙ sym (told_append faults (when (is_crowded c.args.most (parts_of text)) (P TooManyPositional)));
     }

@@ -1,14 +1,15 @@
 use Rattle.std.proofs.Common.{◌∷◌, sym, ap, ◌∙◌}
 use Rattle.operand_core.specs.Operands.{places_of}
-use Rattle.operand_core.proofs.Calm.{calm_part, one_part}
+use Rattle.operand_core.proofs.Calm.{first_plain, first_whole}
 use Rattle.operand_core.proofs.parts.first_part.Goals as goal
 
 pub returns-in-None-clause-none : goal.returns-in-None-clause-none
-returns-in-None-clause-none c = one_part c.args.text.now (sym c.first_comma.ensures.first ∙ c.in-None.is)
+returns-in-None-clause-none c =
+    first_whole c.args.text.now c.split_at.result.1.now c.plain_len.result c.plain_len.ensures.count c.split_at.ensures.back c.in-None.ensures.cases
 
-pub returns-then-is_calm-clause-some : goal.returns-then-is_calm-clause-some
-returns-then-is_calm-clause-some c =
-    let front = c.split_at.result.0.now in
-    calm_part c.args.text.now front c.in-Some.comma (sym c.first_comma.ensures.first ∙ c.in-Some.is) c.split_at.ensures.front
-    (sym c.is_calm.ensures ∙ c.if-is_calm.true)
-    ∙ ap (λ behind. front ∷ places_of behind) (sym c.split_at-then-is_calm.ensures.back)
+pub returns-in-Some-eq44-default-clause-some : goal.returns-in-Some-eq44-default-clause-some
+returns-in-Some-eq44-default-clause-some c =
+    let behind = c.in-Some-eq44-default.behind.now in
+    first_plain c.args.text.now c.split_at.result.1.now _ behind c.plain_len.result c.plain_len.ensures.count c.split_at.ensures.back
+    c.in-Some-eq44-default.ensures.cases.0 c.in-Some-eq44-default.field-0-0-test
+    ∙ ap (λ front. front ∷ places_of behind) (sym c.split_at.ensures.front)
