@@ -1,5 +1,5 @@
 -- The JOB statement. (GC28-6704, "JOB statement": accounting information, programmer's name, CLASS, PRTY, MSGCLASS, COND)
-use Rattle.std.specs.Prelude.{ℕ, Bool, false, not, ◌==◌, List, [], ◌∷◌, ◌++◌, length, codes, is_some, unwrap_or, if◌then◌else◌}
+use Rattle.std.specs.Prelude.{ℕ, Bool, false, not, ◌==◌, List, [], ◌∷◌, ◌++◌, length, codes, Result, Ok, Err, is_some, unwrap_or, if◌then◌else◌}
 use Rattle.std.specs.List.{flat_map}
 use Rattle.std.specs.Str.{bytes_eq}
 use Rattle.jname_core.specs.Characters.{is_job_class}
@@ -48,6 +48,10 @@ no_tests = record { items = [] }
 abbrev pub is_key : List ℕ → List ℕ → Bool
 is_key wanted key = bytes_eq key wanted
 
+-- what COND codes
+abbrev pub tests_in : List Keyword → Read (ArrayVec CodedTest)
+tests_in keywords = value_in (is_key (codes "COND")) tests no_tests keywords
+
 -- keywords that have an effect, that are read for their form alone, and that are left out
 abbrev pub known_on_job : List ℕ → Bool
 known_on_job key = is_among (codes "CLASS" ∷ codes "PRTY" ∷ codes "MSGCLASS" ∷ codes "COND" ∷ codes "MSGLEVEL" ∷ codes "NOTIFY" ∷ codes "REGION"
@@ -80,6 +84,11 @@ job_with name operand = record {
       ++ (value_in (is_key (codes "COND")) tests no_tests operand.keywords).faults
       ++ flat_map unknown_on_job operand.keywords ++ twice_faults as_it_is operand.keywords;
 }
+
+-- a card by its tests and its other words, where no fault is told
+abbrev pub card_with : ArrayVec CodedTest → Result (((List ℕ × ℕ) × ℕ) × ℕ) Cause → Result JobCard Cause
+card_with tests (Ok words) = Ok (record { name = words.0.0.0; class = words.0.0.1; priority = words.0.1; message_class = words.1; tests = tests })
+card_with tests (Err fault) = Err fault
 
 -- two positional operands are read for their form
 abbrev pub job_card : List ℕ → List ℕ → Read JobCard

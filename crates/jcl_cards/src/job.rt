@@ -1,9 +1,9 @@
 //! The JOB statement. (GC28-6704, "JOB statement")
-ghost use Rattle.std.specs.Prelude.{◌≡◌};
+ghost use Rattle.std.specs.Prelude.{◌≡◌, None};
 ghost use Rattle.operand_core.specs.Faults.{told};
 ghost use Rattle.operand_core.specs.Operands.{operand_of};
 ghost use Rattle.value_core.specs.Reads.{Gives, IsRead, answer};
-ghost use Rattle.jcl_cards.specs.JobCards.{is_class, job_card, job_name_faults, job_with, known_on_job, left_out_on_job, unknown_on_job};
+ghost use Rattle.jcl_cards.specs.JobCards.{card_with, is_class, job_card, job_name_faults, job_with, known_on_job, left_out_on_job, no_tests, tests_in, unknown_on_job};
 ghost use Rattle.jcl_cards.specs.Reading.{ReadsOperand, job_name};
 
 use crate::rules::{KeywordRule, Spelling, each_fault, long_operand, twice_fault};
@@ -15,7 +15,7 @@ use jname_core::name8::Name8;
 use list_values::condition::{CodedTests, Condition};
 use list_values::tests_of::condition;
 use operand_core::fault::written_name_fault;
-use operand_core::keyword::{is_long, unknown_fault};
+use operand_core::keyword::{has_key, is_long, unknown_fault};
 use operand_core::operand::{Keyword, Operand, operand_of};
 use operand_core::value::is_output_class;
 use std::alloc::Global;
@@ -34,6 +34,9 @@ pub struct JobCard {
     pub message_class: u8,
     pub tests: CodedTests,
 }
+
+/// The words of a JOB statement but for its tests: name, class, priority and message class.
+type Words = (((Name8, u8), u8), u8);
 
 /// The priority of a job that codes none.
 const NORMAL_PRIORITY: u8 = 6;
@@ -191,18 +194,54 @@ fn job_name(text: &[u8]) -> Result<Name8, Cause>
     read_name(text)
 }
 
-fn job_of(name: &[u8], operand: &Operand<'_>) -> Result<JobCard, Cause>
-    ensures { ReadsOperand (job_with name.now) operand.now result }
+/// Puts the tests that COND codes in place of those that were found, or tells their fault.
+fn take_tests(keywords: &[Keyword<'_>], found: &mut CodedTests) -> Option<Cause>
+    ensures told { result ≡ told (tests_in keywords.now).faults }
+    ensures value { result ≡ None → found.new ≡ (tests_in keywords.now).value }
+{
+    match value_in::<JobTests>(keywords, b"COND") {
+        Ok(tests) => {
+            *found = tests;
+            None
+        }
+        Err(fault) => Some(fault),
+    }
+}
+
+/// Puts the tests of a JOB statement where there are none yet, or tells their fault.
+fn put_tests(keywords: &[Keyword<'_>], found: &mut CodedTests) -> Option<Cause>
+    requires { found.old ≡ no_tests }
+    ensures told { result ≡ told (tests_in keywords.now).faults }
+    ensures value { result ≡ None → found.new ≡ (tests_in keywords.now).value }
+{
+    if has_key(keywords, b"COND") {
+        take_tests(keywords, found)
+    } else {
+        None
+    }
+}
+
+/// What a JOB statement codes: its tests are put where there are none yet, and the other words are given back.
+fn words_of(name: &[u8], operand: &Operand<'_>, found: &mut CodedTests) -> Result<Words, Cause>
+    requires { found.old ≡ no_tests }
+    ensures { ReadsOperand (job_with name.now) operand.now (card_with found.new result) }
 {
     let keywords = operand.keywords.as_slice();
     let named = with_fault(job_name(name), operand.fault);
     let classed = both(named, value_in::<Class>(keywords, b"CLASS"));
     let ranked = both(classed, value_in::<Priority>(keywords, b"PRTY"));
     let listed = both(ranked, value_in::<MessageClass>(keywords, b"MSGCLASS"));
-    let tested = both(listed, value_in::<JobTests>(keywords, b"COND"));
+    let tested = with_fault(listed, put_tests(keywords, found));
     let known = with_fault(tested, each_fault(&KnownOnJob, keywords));
-    let read = with_fault(known, twice_fault(Spelling::One, keywords));
-    let ((((name, class), priority), message_class), tests) = read?;
+    with_fault(known, twice_fault(Spelling::One, keywords))
+}
+
+fn own_job_card(alloc: Global, name: &[u8], operand: &[u8]) -> Result<JobCard, ReadError>
+    ensures { Gives result (answer (job_with name.now (operand_of 2 operand.now))) }
+{
+    let operand = operand_of(alloc, 2, operand)?;
+    let mut tests = CodedTests::new();
+    let (((name, class), priority), message_class) = words_of(name, &operand, &mut tests)?;
     Ok(JobCard {
         name,
         class,
@@ -210,13 +249,6 @@ fn job_of(name: &[u8], operand: &Operand<'_>) -> Result<JobCard, Cause>
         message_class,
         tests,
     })
-}
-
-fn own_job_card(alloc: Global, name: &[u8], operand: &[u8]) -> Result<JobCard, ReadError>
-    ensures { Gives result (answer (job_with name.now (operand_of 2 operand.now))) }
-{
-    let operand = operand_of(alloc, 2, operand)?;
-    Ok(job_of(name, &operand)?)
 }
 
 /// The card that a JOB statement is.
