@@ -3,10 +3,11 @@ pub mod Answered
 pub mod Symbols
 pub mod Later
 pub mod JobWords
-pub mod Elsewhere
 pub mod ExecNames
 pub mod Conditions
 pub mod DdWords
 pub mod WordCards
 pub mod Beside
+pub mod DdKeywords
+pub mod DdKeys
 pub mod Absent

@@ -10,7 +10,9 @@ use Rattle.jcl_cards.specs.declared.coded.Coded.TheVariants.{NotGiven}
 use Rattle.jcl_cards.specs.declared.dd.DdCard.{DdCard}
 use Rattle.jcl_cards.specs.declared.dd.Word.{Word}
 use Rattle.jcl_cards.specs.DdCards.{dd_card, dd_name_faults, is_word, word_of}
+use Rattle.jcl_cards.specs.DdKeys.{CodesNothing}
 use Rattle.jcl_cards.specs.Dds.{dd_names}
+use Rattle.jcl_cards.proofs.Beside.{card_parts}
 
 abbrev Names : Type 0
 Names = Option (List ℕ) × Option (List ℕ)
@@ -84,6 +86,34 @@ pub word_read : (name text : List ℕ) (cards : Option (List (List ℕ))) {names
 word_read name text cards {names} {found} {word} is read was word_is =
     word_alone name text cards is
     ∙ sym (ok_is (bare word) (dd_names name) (word_only name text cards) read was refl (ap (λ w. bare w (dd_names name).value) (sym word_is)))
+
+-- put into a card that codes nothing
+pub word_put : (name text : List ℕ) (cards : Option (List (List ℕ))) {names : Result Names Cause} {found : Names} {word : Option Word} {card : DdCard} →
+    is_word text ≡ true → CodesNothing card → IsRead names (dd_names name) → names ≡ Ok found → word ≡ word_of (Some text) cards →
+    let put : DdCard = record {
+      qualifier = found.0;
+      name = found.1;
+      word = word;
+      set_name = card.set_name;
+      disposition = card.disposition;
+      unit = card.unit;
+      volume = card.volume;
+      space = card.space;
+      sysout = card.sysout;
+      dd_name = card.dd_name;
+      label = card.label;
+      control_blocks = card.control_blocks;
+      character_set = card.character_set;
+      forms_control = card.forms_control;
+      output_limit = card.output_limit;
+    } in
+    answer (dd_card name text cards) ≡ Ok put
+word_put name text cards {names} {found} {word} {card} is nothing read was word_is =
+    word_read name text cards is read was word_is
+    ∙ ap (λ (put : DdCard). let r : Result DdCard Cause = Ok put in r)
+    (card_parts refl refl refl (sym nothing.set_name) (sym nothing.disposition) (sym nothing.unit) (sym nothing.volume) (sym nothing.space)
+    (sym nothing.sysout) (sym nothing.dd_name) (sym nothing.label) (sym nothing.control_blocks) (sym nothing.character_set) (sym nothing.forms_control)
+    (sym nothing.output_limit))
 
 -- and its fault
 pub word_refused : (name text : List ℕ) (cards : Option (List (List ℕ))) {names : Result Names Cause} {fault : Cause} →

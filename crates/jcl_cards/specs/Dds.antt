@@ -7,8 +7,6 @@ use Rattle.jcl_plan.specs.declared.fault.StatementFault.TheVariants.{ExcludeOneA
 use Rattle.operand_core.specs.Faults.{name_faults, when}
 use Rattle.operand_core.specs.Operands.{Keyword, first_of}
 use Rattle.operand_core.specs.Qualified.{head_of}
-use Rattle.list_values.specs.ControlBlocks.{control_blocks}
-use Rattle.value_core.specs.declared.reference.DdReference.{DdReference}
 use Rattle.value_core.specs.Reads.{Read}
 use Rattle.jcl_cards.specs.declared.coded.Coded.{Coded}
 use Rattle.jcl_cards.specs.declared.dd.DdCard.{DdCard}
@@ -19,10 +17,6 @@ use Rattle.jcl_cards.specs.Keywords.{coded_in, is_given}
 -- whether a keyword is coded
 abbrev pub coding : List ℕ → List Keyword → Coded (Unit {0})
 coding key keywords = (coded_in (is_key key) any_text keywords).value
-
--- DCB
-abbrev pub blocks_in : List Keyword → Read (Coded (List DdReference))
-blocks_in keywords = coded_in (is_key (codes "DCB")) control_blocks keywords
 
 abbrev pub is_coded : List ℕ → List Keyword → Bool
 is_coded key keywords = is_given (coding key keywords)

@@ -1,5 +1,4 @@
 pub mod Keywords
-pub mod Initials
 pub mod JobCards
 pub mod ExecCards
 pub mod ProcedureCards
@@ -7,6 +6,8 @@ pub mod Conditions
 pub mod DdCards
 pub mod Merging
 pub mod Dds
+pub mod DdKeys
+pub mod DdFaults
 pub mod Execs
 pub mod Reading
 pub mod Beside

@@ -1,33 +1,26 @@
 //! The DD statement. (GC28-6704, "DD statement")
-ghost use Rattle.std.specs.Prelude.{◌≡◌, ◌++◌, None, IfOk, count_by, nat_lt, true};
-ghost use Rattle.std.specs.List.{flat_map};
+ghost use Rattle.std.specs.Prelude.{◌≡◌, None, count_by, nat_lt, true};
 ghost use Rattle.std.specs.Option.{option_copied};
-ghost use Rattle.operand_core.specs.Faults.{earlier, told};
-ghost use Rattle.operand_core.specs.Operands.{operand_of};
+ghost use Rattle.operand_core.specs.Faults.{told};
+ghost use Rattle.operand_core.specs.Operands.{Operand as Denoted};
+ghost use Rattle.operand_core.specs.Reading.{IsOperand};
 ghost use Rattle.value_core.specs.Reads.{Gives, IsRead, answer};
-ghost use Rattle.jcl_cards.specs.Beside.{GivesOperand, fault_of};
+ghost use Rattle.jcl_cards.specs.Beside.{GivesInto};
 ghost use Rattle.jcl_cards.specs.DdCards.{behind_period, dd_card, dd_name_faults, dd_name_of, dd_with, has_data, is_read_word, is_word};
-ghost use Rattle.jcl_cards.specs.DdCards.{known_on_dd, left_out_on_dd, positional_faults, qualifier_of, spelled, unknown_on_dd, word_of};
-ghost use Rattle.jcl_cards.specs.Dds.{blocks_in, dd_names, excluded_faults, qualified_names};
-ghost use Rattle.jcl_cards.specs.Keywords.{twice_faults};
+ghost use Rattle.jcl_cards.specs.DdCards.{positional_faults, qualifier_of, word_of};
+ghost use Rattle.jcl_cards.specs.DdKeys.{CodesNothing};
+ghost use Rattle.jcl_cards.specs.Dds.{dd_names, excluded_faults, qualified_names};
 
-use crate::blocks_in::{Blocks, blocks_in};
 use crate::coded::Coded;
-use crate::dd_value::{
-    OfDdName, OfDisposition, OfLabel, OfSetName, OfSpace, OfSysout, OfUnit, OfVolume, coding_by,
-};
+use crate::dd_keywords::read_keywords;
 use crate::given::{excludes_in, is_read_word, is_word};
-use crate::initials::Initials;
-use crate::rules::{
-    KeywordRule, Spelling, each_fault, is_same, long_operand, spelled_by, twice_fault,
-};
-use crate::value_in::coded_by;
+use crate::rules::{Spelling, long_operand, twice_fault};
 use card_core::statement::DataCard;
 use jcl_plan::fault::{Cause, StatementFault};
 use jcl_plan::plan::Space;
 use jname_core::name8::{Name8, UnitName};
 use operand_core::fault::{earlier, name_fault, when, written_name_fault};
-use operand_core::keyword::{is_long, unknown_fault};
+use operand_core::keyword::is_long;
 use operand_core::operand::{Keyword, Operand, Positional, first_of, operand_of};
 use operand_core::qualified::{head_len, head_of, is_qualified};
 use plain::listed::Listed;
@@ -124,54 +117,6 @@ fn dd_name_fault(name: &[u8]) -> Option<Cause>
     }
 }
 
-fn is_known(key: &[u8]) -> bool
-    ensures { result ≡ known_on_dd key.now }
-{
-    let key = spelled_by(Spelling::Two, key);
-    is_same(key, b"DSNAME")
-        || is_same(key, b"DISP")
-        || is_same(key, b"UNIT")
-        || is_same(key, b"VOLUME")
-        || is_same(key, b"SPACE")
-        || is_same(key, b"SYSOUT")
-        || is_same(key, b"DDNAME")
-        || is_same(key, b"LABEL")
-        || is_same(key, b"DCB")
-        || is_same(key, b"UCS")
-        || is_same(key, b"FCB")
-        || is_same(key, b"OUTLIM")
-}
-
-fn is_left_out(key: &[u8]) -> bool
-    ensures { result ≡ left_out_on_dd key.now }
-{
-    key == b"AFF".as_slice()
-        || key == b"SEP".as_slice()
-        || key == b"SPLIT".as_slice()
-        || key == b"SUBALLOC".as_slice()
-        || key == b"QNAME".as_slice()
-        || key == b"DYNAM".as_slice()
-        || key == b"TERM".as_slice()
-}
-
-/// A DD takes the keywords that it knows.
-struct KnownOnDd;
-
-impl KeywordRule for KnownOnDd {
-    ghost use Rattle.jcl_cards.specs.DdCards.{unknown_on_dd};
-
-    ghost faults = { λ rule k. unknown_on_dd k };
-
-    fn fault(&self, keyword: &Keyword<'_>) -> Option<Cause> {
-        let key = keyword.key();
-        if is_known(key) {
-            None
-        } else {
-            Some(unknown_fault(is_left_out(key)))
-        }
-    }
-}
-
 fn positional_fault(part: Option<&[u8]>) -> Option<Cause>
     ensures { result ≡ told (positional_faults (option_copied part.entry)) }
 {
@@ -247,142 +192,103 @@ fn names_of(name: &[u8]) -> Names
     }
 }
 
-/// The fault of keywords that a DD does not take, that stand twice, or that exclude one another.
-#[tactic(auto, using(operand_core::proofs::Told::told_append))]
-fn keywords_fault(positional: &[Positional<'_>], keywords: &[Keyword<'_>]) -> Option<Cause>
-    ensures { result ≡ told (flat_map unknown_on_dd keywords.now ++ twice_faults spelled keywords.now ++ excluded_faults positional.now keywords.now) }
-{
-    let known = each_fault(&KnownOnDd, keywords);
-    let once = earlier(known, twice_fault(Spelling::Two, keywords));
-    earlier(once, excluded_fault(positional, keywords))
-}
-
-/// What is coded, and its fault with those before it. What is coded counts where there is no fault.
-fn beside<T: Drop>(read: Result<Coded<T>, Cause>, fault: &mut Option<Cause>) -> Coded<T>
-    ensures told { fault.new ≡ earlier fault.old (fault_of read) }
-    ensures value { IfOk read (λ coded. result ≡ coded) }
-{
-    match read {
-        Ok(coded) => coded,
-        Err(own) => {
-            *fault = earlier(*fault, Some(own));
-            Coded::NotGiven
-        }
-    }
-}
-
-fn dd_of(
+/// Reads the operand of a DD into a card that codes nothing.
+fn read_operand(
     alloc: Global,
     name: &[u8],
     operand: &Operand<'_>,
     cards: Option<Listed<DataCard>>,
-    blocks: Blocks,
-) -> Result<DdCard, ReadError>
-    ensures { IsRead blocks (blocks_in operand.now.keywords.items) → GivesOperand (λ denoted. dd_with name.now denoted cards) operand.now result }
+    card: &mut DdCard,
+) -> Result<(), ReadError>
+    requires { CodesNothing card.old }
+    ensures { (denoted : Denoted) → IsOperand operand.now denoted → GivesInto result card.new (answer (dd_with name.now denoted cards)) }
 {
     let keywords = operand.keywords.as_slice();
     let positional = operand.positional.as_slice();
     let first = first_of(positional);
-    let initials = Initials::of(keywords);
+    let faults = read_keywords(alloc, keywords, card)?;
     let names = names_of(name);
     let formed = earlier(names.fault, operand.fault);
-    let mut fault = earlier(formed, positional_fault(first));
-    let set_name = beside(
-        coded_by::<OfSetName>(&initials, keywords, b"DSNAME"),
-        &mut fault,
-    );
-    let disposition = beside(
-        coded_by::<OfDisposition>(&initials, keywords, b"DISP"),
-        &mut fault,
-    );
-    let unit = beside(coded_by::<OfUnit>(&initials, keywords, b"UNIT"), &mut fault);
-    let volume = beside(
-        coded_by::<OfVolume>(&initials, keywords, b"VOLUME"),
-        &mut fault,
-    );
-    let space = beside(
-        coded_by::<OfSpace>(&initials, keywords, b"SPACE"),
-        &mut fault,
-    );
-    let sysout = beside(
-        coded_by::<OfSysout>(&initials, keywords, b"SYSOUT"),
-        &mut fault,
-    );
-    let dd_name = beside(
-        coded_by::<OfDdName>(&initials, keywords, b"DDNAME"),
-        &mut fault,
-    );
-    let label = beside(
-        coded_by::<OfLabel>(&initials, keywords, b"LABEL"),
-        &mut fault,
-    );
-    let control_blocks = beside(blocks, &mut fault);
-    let last = earlier(fault, keywords_fault(positional, keywords));
+    let placed = earlier(formed, positional_fault(first));
+    let valued = earlier(placed, faults.told());
+    let once = earlier(valued, twice_fault(Spelling::Two, keywords));
+    let last = earlier(once, excluded_fault(positional, keywords));
     match last {
         Some(fault) => Err(ReadError::Refused(fault)),
-        None => Ok(DdCard {
-            qualifier: names.qualifier,
-            name: names.name,
-            word: word_of(alloc, first, cards),
-            set_name,
-            disposition,
-            unit,
-            volume,
-            space,
-            sysout,
-            dd_name,
-            label,
-            control_blocks,
-            character_set: coding_by(&initials, keywords, b"UCS"),
-            forms_control: coding_by(&initials, keywords, b"FCB"),
-            output_limit: coding_by(&initials, keywords, b"OUTLIM"),
-        }),
+        None => {
+            card.qualifier = names.qualifier;
+            card.name = names.name;
+            card.word = word_of(alloc, first, cards);
+            Ok(())
+        }
     }
 }
 
-fn own_dd_card(
+/// Reads a DD that says `*`, DATA or DUMMY and nothing more: it has no keyword.
+fn read_word(
     alloc: Global,
     name: &[u8],
     operand: &[u8],
     cards: Option<Listed<DataCard>>,
-) -> Result<DdCard, ReadError>
-    ensures { Gives result (answer (dd_with name.now (operand_of 1 operand.now) cards)) }
-{
-    let operand = operand_of(alloc, 1, operand)?;
-    let blocks = blocks_in(alloc, operand.keywords.as_slice())?;
-    dd_of(alloc, name, &operand, cards, blocks)
-}
-
-/// The card of a DD that says `*`, DATA or DUMMY and nothing more: no keyword is looked for.
-fn word_card(
-    alloc: Global,
-    name: &[u8],
-    operand: &[u8],
-    cards: Option<Listed<DataCard>>,
-) -> Result<DdCard, ReadError>
-    requires { is_word operand.now ≡ true }
-    ensures { Gives result (answer (dd_card name.now operand.now cards)) }
+    card: &mut DdCard,
+) -> Result<(), ReadError>
+    requires word { is_word operand.now ≡ true }
+    requires nothing { CodesNothing card.old }
+    ensures { GivesInto result card.new (answer (dd_card name.now operand.now cards)) }
 {
     match dd_names(name) {
-        Ok((qualifier, name)) => Ok(DdCard {
-            qualifier,
-            name,
-            word: word_of(alloc, Some(operand), cards),
-            set_name: Coded::NotGiven,
-            disposition: Coded::NotGiven,
-            unit: Coded::NotGiven,
-            volume: Coded::NotGiven,
-            space: Coded::NotGiven,
-            sysout: Coded::NotGiven,
-            dd_name: Coded::NotGiven,
-            label: Coded::NotGiven,
-            control_blocks: Coded::NotGiven,
-            character_set: Coded::NotGiven,
-            forms_control: Coded::NotGiven,
-            output_limit: Coded::NotGiven,
-        }),
+        Ok((qualifier, name)) => {
+            card.qualifier = qualifier;
+            card.name = name;
+            card.word = word_of(alloc, Some(operand), cards);
+            Ok(())
+        }
         Err(fault) => Err(ReadError::Refused(fault)),
     }
+}
+
+/// A card that codes nothing, into which a DD is read.
+pub fn bare_dd() -> DdCard
+    ensures { CodesNothing result }
+{
+    DdCard {
+        qualifier: None,
+        name: None,
+        word: None,
+        set_name: Coded::NotGiven,
+        disposition: Coded::NotGiven,
+        unit: Coded::NotGiven,
+        volume: Coded::NotGiven,
+        space: Coded::NotGiven,
+        sysout: Coded::NotGiven,
+        dd_name: Coded::NotGiven,
+        label: Coded::NotGiven,
+        control_blocks: Coded::NotGiven,
+        character_set: Coded::NotGiven,
+        forms_control: Coded::NotGiven,
+        output_limit: Coded::NotGiven,
+    }
+}
+
+/// Reads a DD statement, with the data cards behind it, into a card that codes nothing. What the card holds counts where no fault is told.
+pub fn read_dd(
+    alloc: Global,
+    name: &[u8],
+    operand: &[u8],
+    cards: Option<Listed<DataCard>>,
+    card: &mut DdCard,
+) -> Result<(), ReadError>
+    requires { CodesNothing card.old }
+    ensures { GivesInto result card.new (answer (dd_card name.now operand.now cards)) }
+{
+    if is_word(operand) {
+        return read_word(alloc, name, operand, cards, card);
+    }
+    if is_long(operand) {
+        return Err(ReadError::Refused(long_operand(dd_name_fault(name))));
+    }
+    let parts = operand_of(alloc, 1, operand)?;
+    read_operand(alloc, name, &parts, cards, card)
 }
 
 /// The card that a DD statement is, with the data cards behind it.
@@ -394,13 +300,9 @@ pub fn dd_card(
 ) -> Result<DdCard, ReadError>
     ensures { Gives result (answer (dd_card name.now operand.now cards)) }
 {
-    if is_word(operand) {
-        return word_card(alloc, name, operand, cards);
-    }
-    if is_long(operand) {
-        return Err(ReadError::Refused(long_operand(dd_name_fault(name))));
-    }
-    own_dd_card(alloc, name, operand, cards)
+    let mut card = bare_dd();
+    read_dd(alloc, name, operand, cards, &mut card)?;
+    Ok(card)
 }
 
 /// Whether it has data cards behind it.

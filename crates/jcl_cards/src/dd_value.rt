@@ -5,11 +5,9 @@ ghost use Rattle.operand_core.specs.Subparameters.{first_place, subparameters_of
 ghost use Rattle.operand_core.specs.Values.{class_of};
 ghost use Rattle.jcl_cards.specs.DdCards.{any_text, is_sysout};
 ghost use Rattle.jcl_cards.specs.Dds.{coding};
-ghost use Rattle.jcl_cards.specs.Initials.{HasAll};
 ghost use Rattle.jcl_cards.specs.Keywords.{coded_text};
 
 use crate::coded::Coded;
-use crate::initials::Initials;
 use crate::rules::{Spelling, is_key};
 use crate::value_in::ValueReader;
 use jcl_plan::fault::{Cause, StatementFault};
@@ -162,7 +160,7 @@ fn is_sysout(text: &[u8]) -> bool
 }
 
 /// Whether a value is coded.
-fn coding_of(value: Option<&[u8]>) -> Coded<()>
+pub(crate) fn coding_of(value: Option<&[u8]>) -> Coded<()>
     ensures { result ≡ (coded_text any_text (option_copied value.entry)).value }
 {
     match value {
@@ -182,15 +180,4 @@ pub(crate) fn coding(keywords: &[Keyword<'_>], key: &[u8]) -> Coded<()>
         }
     }
     Coded::NotGiven
-}
-
-/// The same, where with these characters all their keys begin.
-pub(crate) fn coding_by(initials: &Initials, keywords: &[Keyword<'_>], key: &[u8]) -> Coded<()>
-    requires { HasAll initials.now keywords.now }
-    ensures { result ≡ coding key.now keywords.now }
-{
-    if !initials.has(key) {
-        return Coded::NotGiven;
-    }
-    coding(keywords, key)
 }

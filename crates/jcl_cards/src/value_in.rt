@@ -1,20 +1,14 @@
-//! The keywords of an operand by their keys, each with its value.
+//! What reads the values of keywords, and those of a JOB by their keys.
 ghost use Rattle.std.specs.Prelude.{◌≡◌};
 ghost use Rattle.std.specs.Option.{option_copied};
 ghost use Rattle.value_core.specs.Reads.{IsRead};
-ghost use Rattle.jcl_cards.specs.Keywords.{coded_in, coded_text, read_or, value_in};
-ghost use Rattle.jcl_cards.specs.DdCards.{is_key};
-ghost use Rattle.jcl_cards.specs.Initials.{HasAll};
+ghost use Rattle.jcl_cards.specs.Keywords.{read_or, value_in};
 ghost use Rattle.jcl_cards.specs.JobCards.{is_key as is_key_of_job};
 ghost use Rattle.jcl_cards.specs.Reading.{IsReadBefore, and_later};
 
-use crate::coded::Coded;
-use crate::initials::Initials;
-use crate::rules::{Spelling, is_key};
 use jcl_plan::fault::Cause;
 use operand_core::fault::lower;
 use operand_core::operand::Keyword;
-use std::mem::replace;
 
 /// What reads the values of a keyword.
 pub(crate) trait ValueReader {
@@ -51,65 +45,6 @@ pub(crate) fn and_later<A: Drop>(
         (Ok(_), Err(fault)) => Err(fault),
         (Err(fault), Err(other)) => Err(lower(fault, other)),
     }
-}
-
-/// The value of a keyword of a DD.
-fn coded_text<R: ValueReader>(text: Option<&[u8]>) -> Result<Coded<R::Value>, Cause>
-    ensures { IsRead result (coded_text R.reads (option_copied text.entry)) }
-{
-    match text {
-        None => Ok(Coded::NotGiven),
-        Some([]) => Ok(Coded::Nullified),
-        Some(text) => match R::read(text) {
-            Ok(value) => Ok(Coded::Value(value)),
-            Err(fault) => Err(fault),
-        },
-    }
-}
-
-/// Puts what a keyword codes, where it is this one, before what the later ones code.
-fn put_before<R: ValueReader>(
-    keyword: &Keyword<'_>,
-    key: &[u8],
-    later: &mut Result<Coded<R::Value>, Cause>,
-)
-    ensures { IsReadBefore (coded_in (is_key key.now) R.reads) keyword.now later.old later.new }
-{
-    if is_key(Spelling::Two, keyword.key(), key) {
-        let behind = replace(later, Ok(Coded::NotGiven));
-        *later = and_later(coded_text::<R>(keyword.value()), behind);
-    }
-}
-
-/// What a DD codes of a keyword: of several the first, and the faults of each.
-pub(crate) fn coded_in<R: ValueReader>(
-    keywords: &[Keyword<'_>],
-    key: &[u8],
-) -> Result<Coded<R::Value>, Cause>
-    ensures { IsRead result (coded_in (is_key key.now) R.reads keywords.now) }
-{
-    let mut found = Ok(Coded::NotGiven);
-    let mut at = keywords.len();
-    while at > 0 {
-        at -= 1;
-        put_before::<R>(&keywords[at], key, &mut found);
-    }
-    found
-}
-
-/// The same, where with these characters all their keys begin.
-pub(crate) fn coded_by<R: ValueReader>(
-    initials: &Initials,
-    keywords: &[Keyword<'_>],
-    key: &[u8],
-) -> Result<Coded<R::Value>, Cause>
-    requires { HasAll initials.now keywords.now }
-    ensures { IsRead result (coded_in (is_key key.now) R.reads keywords.now) }
-{
-    if !initials.has(key) {
-        return Ok(Coded::NotGiven);
-    }
-    coded_in::<R>(keywords, key)
 }
 
 /// The value of a keyword of a JOB, or what stands where it is not read.

@@ -10,7 +10,7 @@ use crate::dd_place::dd_place_fault;
 use crate::deck::{Deck, DeckStep, Procedure};
 use crate::operation::{Operation, operation_of};
 use card_core::statement::Statement;
-use jcl_cards::dd::{DdCard, dd_card};
+use jcl_cards::dd::{DdCard, bare_dd, read_dd};
 use jcl_cards::exec::{ExecCard, exec_card};
 use jcl_cards::job::{JobCard, job_card};
 use jcl_cards::procedure::{ProcedureCard, procedure_card};
@@ -238,8 +238,9 @@ impl Place {
         } = statement;
         let text = operand.as_slice();
         let at = unless_long(text, fault);
-        match dd_card(alloc, name.as_slice(), text, cards) {
-            Ok(dd) => self.add_placed(dd, at),
+        let mut dd = bare_dd();
+        match read_dd(alloc, name.as_slice(), text, cards, &mut dd) {
+            Ok(()) => self.add_placed(dd, at),
             Err(error) => Err(error_with(error, at)),
         }
     }
