@@ -1,11 +1,16 @@
 #!/usr/bin/env python3
 """Runs the gate, and tells what each crate took: the table of docs/GATE.md.
 
-Usage: tests/gate.py [LOG]      at the top of a clone; bind it with `taskset -c 0,1` to measure on two processors
+Usage: tests/gate.py [LOG]            runs it, at the top of a clone; bind it with `taskset -c 0,1` to measure on two processors
+       tests/gate.py --budget [LOG]   runs nothing: compares what a run wrote to LOG with the table of the page
 
-What the gate prints goes to LOG (gate.log by default). Behind it stand the processor seconds of each crate: of its proof, of its
+What the gate prints goes to LOG (gate.log by default). After it stand the processor seconds of each crate: of its proof, of its
 tests, of its edits with the proofs that these begin with; then what the other processes took (compilers, programs, `rt` itself).
-With a line `<!-- the table -->` in docs/GATE.md the table there is replaced.
+Where every proof and edit was done in the run, the table after the line `<!-- the table -->` of docs/GATE.md is replaced. Where
+some were kept from earlier runs it stays: what was kept took no time.
+
+What took over a tenth more than the page says, and two seconds more, is named, crate by crate. A crate that is not in the table is
+named with all that it took.
 """
 import os
 import re
@@ -87,31 +92,78 @@ def table_of(sums, functions):
     return lines
 
 
-def main():
-    log = sys.argv[1] if len(sys.argv) > 1 else "gate.log"
+def figures_in(lines):
+    """Returns what a table says that each crate took in all, in seconds."""
+    found = {}
+    for line in lines:
+        cells = [cell.strip(" `") for cell in line.strip().strip("|").split("|")]
+        if line.startswith("| `") and len(cells) == 5:
+            found[cells[0]] = sum(float(cell.removesuffix(" s")) for cell in cells[2:] if cell != "-")
+    return found
+
+
+def grown(before, now):
+    """Yields a line for each crate that takes over a tenth more, and two seconds more, than before."""
+    for crate, seconds in sorted(now.items(), key=lambda it: before.get(it[0], 0) - it[1]):
+        was = before.get(crate, 0)
+        if seconds > 1.1 * was and seconds > was + 2:
+            yield f"{crate}: {seconds:.0f} s, before {was:.0f} s" if was else f"{crate}: {seconds:.0f} s, and it is not in the table"
+
+
+def told_of(page, table):
+    """Returns what is said of a table beside that of the page."""
+    before, now = figures_in(page.splitlines()), figures_in(table)
+    lines = list(grown(before, now))
+    alike = sum(before.get(crate, 0) for crate in now)
+    return [f"These {len(now)} crates took {sum(now.values()) / 60:.1f} minutes; by the page {alike / 60:.1f}. Over a tenth more:", *(lines or ["none"])]
+
+
+def run_gate(log):
+    """Runs the gate and returns its status, its table, and what is said of the whole."""
     began = time.time()
     with open(log, "w", encoding="utf-8") as out:
         run = subprocess.Popen(["rt", "ci"], stdout=out, stderr=subprocess.STDOUT)
         sums = watched(run)
     took = resource.getrusage(resource.RUSAGE_CHILDREN)
-    table = table_of(sums, functions_in(log))
     whole = took.ru_utime + took.ru_stime
     rest = whole - sum(sums.values())
-    told = [*table, "", f"In all {whole / 60:.1f} processor minutes, of which {rest / 60:.1f} went to compilers, programs and the command itself, in "
-            f"{(time.time() - began) / 60:.1f} minutes."]
-    with open(log, "a", encoding="utf-8") as out:
-        out.write("\n".join(["", *told, ""]))
-    with open(log, encoding="utf-8", errors="replace") as it:
-        last = [line for line in it if " passed, " in line]
-    print("\n".join(told + [last[-1].strip() if last else "the gate said nothing"]))
-    page = "docs/GATE.md"
+    said = (f"In all {whole / 60:.1f} processor minutes, of which {rest / 60:.1f} went to compilers, programs and the command itself, in "
+            f"{(time.time() - began) / 60:.1f} minutes.")
+    return run.returncode, table_of(sums, functions_in(log)), said
+
+
+def main():
+    words = sys.argv[1:]
+    if "--help" in words:
+        print(__doc__)
+        return 0
+    is_budget = words[:1] == ["--budget"]
+    names = words[is_budget:]
+    if len(names) > 1 or any(name.startswith("-") for name in names):
+        print(f"tests/gate.py: {' '.join(words)} is not understood; --help tells what is", file=sys.stderr)
+        return 2
+    log, page = names[0] if names else "gate.log", "docs/GATE.md"
     with open(page, encoding="utf-8") as it:
         text = it.read()
+    if is_budget:
+        with open(log, encoding="utf-8", errors="replace") as it:
+            print("\n".join(told_of(text, it.read().splitlines())))
+        return 0
+    status, table, said = run_gate(log)
+    with open(log, encoding="utf-8", errors="replace") as it:
+        lines = it.read().splitlines()
+    with open(log, "a", encoding="utf-8") as out:
+        out.write("\n".join(["", *table, "", said, ""]))
+    last = next((line for line in reversed(lines) if " passed, " in line), "the gate said nothing")
+    print("\n".join([*table, "", said, "", *told_of(text, table), "", last]))
+    is_whole = any("every proof and must-fail edit was done in this run" in line for line in lines)
     mark = "<!-- the table -->\n"
-    if mark in text:
+    if is_whole and not status and mark in text:
         with open(page, "w", encoding="utf-8") as out:
-            out.write(text[: text.index(mark) + len(mark)] + "\n".join(told) + "\n")
-    return run.returncode
+            out.write(text[: text.index(mark) + len(mark)] + "\n".join([*table, "", said]) + "\n")
+    else:
+        print(f"{page} keeps its table, since {'the gate failed' if status else 'some crates came from kept results'}.")
+    return status
 
 
 if __name__ == "__main__":
