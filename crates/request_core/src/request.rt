@@ -1,5 +1,5 @@
 //! What a program's requests do. (This profile)
-ghost use Rattle.std.specs.Prelude.{◌≡◌, ◌+◌, ◌<◌, ◌++◌, ◌∷◌, [], IfOk, OnErr, OnOk, length, slice_get};
+ghost use Rattle.std.specs.Prelude.{◌≡◌, ◌+◌, ◌^◌, ◌<◌, ◌≤◌, ◌++◌, ◌∷◌, [], IfOk, OnErr, OnOk, length, slice_get};
 ghost use Rattle.jcl_plan.specs.declared.entry.JobLine.TheVariants as line;
 ghost use Rattle.jcl_meaning.specs.RequestActs.{store_appended};
 ghost use Rattle.jcl_meaning.specs.States.{asks_open, wrote};
@@ -22,9 +22,10 @@ use std::alloc::{AllocError, Global};
 use std::mem;
 use store_core::job_store::JobStore;
 
-/// The next number of lines.
+/// The next number of lines. One past a machine word, and no other, is answered as want of memory.
 pub(crate) fn one_more(lines: usize) -> Result<usize, AllocError>
-    ensures { IfOk result (λ n. n ≡ lines + 1) }
+    ensures sum { IfOk result (λ n. n ≡ lines + 1) }
+    ensures past { OnErr result (2 ^ 64 ≤ lines + 1) }
 {
     match lines.checked_add(1) {
         Some(n) => Ok(n),
