@@ -1,9 +1,9 @@
 -- Rows one behind another in one list of words.
-use Rattle.std.proofs.Common.{◌≡◌, ◌++◌, ◌∷◌, ◌∙◌, ◌+◌, ◌-◌, ◌*◌, ◌<◌, ◌≤◌, ℕ, zero, suc, List, [], length, take, drop, refl, sym, ap, arith}
+use Rattle.std.proofs.Common.{◌≡◌, ◌++◌, ◌∷◌, ◌∙◌, ◌+◌, ◌-◌, ◌*◌, ◌<◌, ◌≤◌, ℕ, zero, suc, List, [], length, length-take-le, take, drop, refl, sym, ap, arith, subst}
 use Rattle.std.proofs.lemmas.List.{drop-append-le, length-drop, take-append-le, take_all}
 use Rattle.std.proofs.Math.Nat.{mul-le-mul_right, suc-mul}
 use Rattle.std.specs.Simd.{first_chunks}
-use Rattle.packed_core.specs.Rows.{row_at}
+use Rattle.packed_core.specs.Rows.{AreAsLong, row_at}
 
 pub length-chunks : (width count : ℕ) (words : List ℕ) → length (first_chunks width count words) ≡ count
 length-chunks width zero words = refl
@@ -43,6 +43,16 @@ chunk_more width (suc count) words row many wide =
     let rest : length (drop width words) ≡ count * width = length-drop width words ∙ (let e : length words - width ≡ count * width = omega (arith, many, more) in e) in
     λ i. take-append-le width words row within i
     ∷ (ap (first_chunks width (suc count)) (drop-append-le width words row within) ∙ chunk_more width count (drop width words) row rest wide) i
+
+-- rows of so many words may be taken as long as that
+pub same_chunks : (width count : ℕ) (words : List ℕ) (n : ℕ) → length words ≡ count * width → AreAsLong (first_chunks width count words) n →
+    (first_chunks n count words ≡ first_chunks width count words) × (length words ≡ count * n)
+same_chunks width zero words n many long = (refl, omega (arith, many))
+same_chunks width (suc count) words n many long =
+    let more : suc count * width ≡ count * width + width = suc-mul count width in
+    let within : width ≤ length words = omega (arith, many, more) in
+    let first : width ≡ n = sym (length-take-le width words within) ∙ long zero (omega arith) in
+    subst (λ (k : ℕ). (first_chunks k (suc count) words ≡ first_chunks width (suc count) words) × (length words ≡ suc count * k)) first (refl, many)
 
 -- it stands within
 pub row_within : (width count n many : ℕ) → n < count → many ≡ count * width → n * width + width ≤ many

@@ -1,5 +1,5 @@
 -- Rows of words.
-use Rattle.std.specs.Prelude.{◌≡◌, ℕ, Bool, false, List, [], Option, None, Some, slice_get, slice_index_or, nat_eq, Vec}
+use Rattle.std.specs.Prelude.{◌≡◌, ◌<◌, ℕ, Bool, false, List, [], Option, None, Some, length, slice_get, slice_index_or, nat_eq, Vec}
 use Rattle.std.specs.Global.{Global}
 use Rattle.std.specs.Cmp.Lexicographic.{pointwise}
 use Rattle.std.specs.List.{list_any}
@@ -16,6 +16,10 @@ has_row row rows = list_any (same_words row) rows
 
 abbrev pub row_at : List (List ℕ) → ℕ → List ℕ
 row_at rows n = slice_index_or rows n []
+
+-- each row has so many words
+abbrev pub AreAsLong : List (List ℕ) → ℕ → Type 0
+AreAsLong rows width = (n : ℕ) → n < length rows → length (row_at rows n) ≡ width
 
 -- a row's number, or that it is not among these
 abbrev pub IsFound : List (List ℕ) → List ℕ → Option ℕ → Type 0

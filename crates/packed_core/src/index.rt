@@ -111,12 +111,10 @@ fn index_for(alloc: Global, count: usize) -> Result<Box<Index>, AllocError>
     ensures empty { IfOk result (λ x. IsIndexOf [] x.value) }
     ensures some { IfOk result (λ x. 0 < length x.value.heads.items) }
 {
-    let Some(places) = count.checked_mul(4) else {
-        return Err(AllocError);
-    };
+    let places = count.saturating_mul(4);
     let index = Index {
         hashes: Vec::with_capacity(alloc, places)?,
-        heads: vec![in alloc; 0usize; places + 1]?,
+        heads: vec![in alloc; 0usize; places.saturating_add(1)]?,
         next: Vec::with_capacity(alloc, places)?,
     };
     let index = Box::new(alloc, index)?;

@@ -26,15 +26,12 @@ use view_domain::domain::ViewDomain;
 
 impl<'a, J: Job + Drop> PackedDomain<'a, J> {
     /// No view, before a part.
-    fn none_before(&self, alloc: Global, part: usize) -> Result<PackedViews<'a, J>, AllocError>
-        ensures none { IfOk result (λ views. views ≡ record { part = part; scenes = []; rows = [] }) }
+    fn none_before(&self, alloc: Global, part: usize) -> PackedViews<'a, J>
+        ensures none { result ≡ record { part = part; scenes = []; rows = [] } }
     {
-        let Some(room) = room_of(self.plain.plan, part) else {
-            return Err(AllocError);
-        };
-        Ok(PackedViews {
+        PackedViews {
             part,
-            room,
+            room: room_of(self.plain.plan, part),
             entries: Vec::new(alloc),
             sight: None,
             from: None,
@@ -42,7 +39,7 @@ impl<'a, J: Job + Drop> PackedDomain<'a, J> {
             rows: RowList::none(alloc),
             ways: None,
             job: PhantomData,
-        })
+        }
     }
 
     /// A row before the part of these views without bits.
@@ -84,7 +81,7 @@ impl<'a, J: Job + Drop> PackedDomain<'a, J> {
             view_at J.plan 0 J.fixed.date (at_start (store_of self.now.plain.store.now) (given [])) ∷ []) }
         ensures part { IfOk result (λ views. views.part ≡ 0) }
     {
-        let mut views = self.none_before(alloc, 0)?;
+        let mut views = self.none_before(alloc, 0);
         let scene = self.plain.first_scene(alloc)?;
         let number = self.put_scene(&mut views, &scene, 0)?;
         let row = renumbered(self.blank_row(alloc, &views)?, number);
@@ -120,7 +117,7 @@ impl<'a, J: Job + Drop> ViewDomain for PackedDomain<'a, J> {
     }
 
     fn none(&self, alloc: Global, part: usize) -> Result<PackedViews<'a, J>, AllocError> {
-        self.none_before(alloc, part)
+        Ok(self.none_before(alloc, part))
     }
 
     fn transfer(

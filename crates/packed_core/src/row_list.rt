@@ -1,7 +1,7 @@
 //! Rows in the order in which they were put, each once.
 ghost use Rattle.std.specs.Prelude.{◌≡◌, ◌<◌, ◌++◌, ◌∷◌, [], OnErr, OnOk, false, length};
 ghost use Rattle.packed_core.specs.Indexed.{hash_from};
-ghost use Rattle.packed_core.specs.Rows.{IsFound, has_row, row_at};
+ghost use Rattle.packed_core.specs.Rows.{AreAsLong, IsFound, has_row, row_at};
 ghost use Rattle.packed_core.specs.Words.{joined_words};
 
 use crate::index::{Index, find_among, hash_joined, index_more};
@@ -83,8 +83,10 @@ impl RowList {
         self.find(row, hash).is_some()
     }
 
-    /// Puts a row behind them that is not among them, whose words come to this.
+    /// Puts a row behind them that is as long as they are and not among them, whose words come to this.
     pub fn push(&mut self, alloc: Global, row: &[u64], hash: u64) -> Result<(), AllocError>
+        requires some { 0 < length row.now }
+        requires as_long { AreAsLong self.old (length row.now) }
         requires new { has_row row.now self.old ≡ false }
         requires hash { hash ≡ hash_from 0 row.now }
         ensures put { OnOk result (self.new ≡ self.old ++ row.now ∷ []) }

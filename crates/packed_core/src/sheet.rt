@@ -1,6 +1,6 @@
 //! Rows of words, one behind another in one list of words.
 ghost use Rattle.std.specs.Prelude.{◌≡◌, ◌<◌, ◌≤◌, ◌+◌, ◌++◌, ◌∷◌, [], OnErr, OnOk, drop, length, take};
-ghost use Rattle.packed_core.specs.Rows.{row_at};
+ghost use Rattle.packed_core.specs.Rows.{AreAsLong, row_at};
 
 use std::alloc::{AllocError, Global};
 use std::marker::Model;
@@ -14,14 +14,14 @@ pub struct Sheet {
 }
 
 impl Model for Sheet {
-    ghost use Rattle.std.specs.Prelude.{◌≡◌, ◌*◌, ℕ, List, length};
+    ghost use Rattle.std.specs.Prelude.{◌≡◌, ◌≤◌, ◌*◌, ℕ, List, length};
     ghost use Rattle.std.specs.Simd.{first_chunks};
 
     ghost Value = { List (List ℕ) };
 
     ghost view = { λ s. first_chunks s.width s.count s.words.items };
 
-    ghost invariant = { λ s. length s.words.items ≡ s.count * s.width };
+    ghost invariant = { λ s. (length s.words.items ≡ s.count * s.width) × (s.count ≤ length s.words.items) };
 }
 
 /// So many words, from one of them on.
@@ -71,24 +71,20 @@ impl Sheet {
             return Ok(());
         }
         self.words.reserve(width.saturating_mul(ROOM))?;
-        self.width = width;
         Ok(())
     }
 
-    /// Puts a row behind them.
+    /// Puts a row behind them, as long as they are.
     pub(crate) fn push(&mut self, row: &[u64]) -> Result<(), AllocError>
+        requires some { 0 < length row.now }
+        requires as_long { AreAsLong self.old (length row.now) }
         ensures put { OnOk result (self.new ≡ self.old ++ row.now ∷ []) }
         ensures kept { OnErr result (self.new ≡ self.old) }
     {
         self.begin(row.len())?;
-        let Some(count) = self.count.checked_add(1) else {
-            return Err(AllocError);
-        };
-        if row.len() != self.width {
-            return Err(AllocError);
-        }
         self.words.extend_from_slice(row)?;
-        self.count = count;
+        self.width = row.len();
+        self.count += 1;
         Ok(())
     }
 }

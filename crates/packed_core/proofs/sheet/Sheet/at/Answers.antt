@@ -8,7 +8,7 @@ overflow_mul-number c =
     let many : length c.args.self.now ≡ c.self.inside.count =
     ap (λ (l : List (List ℕ)). length l) (sym c.self.view_is) ∙ length-chunks c.self.inside.width c.self.inside.count c.self.inside.words.items in
     let within : c.args.number * c.self.inside.width + c.self.inside.width ≤ length c.self.inside.words.items =
-    row_within c.self.inside.width c.self.inside.count c.args.number (length c.self.inside.words.items) (omega (arith, many, c.requires)) c.self.invariant in
+    row_within c.self.inside.width c.self.inside.count c.args.number (length c.self.inside.words.items) (omega (arith, many, c.requires)) c.self.invariant.0 in
     omega (arith, within, c.as_slice-words.ensures.len, ap (λ (l : List ℕ). length l) c.as_slice-words.ensures.value)
 
 pub part_of-requires : goal.part_of-requires
@@ -16,7 +16,7 @@ part_of-requires c =
     let many : length c.args.self.now ≡ c.self.inside.count =
     ap (λ (l : List (List ℕ)). length l) (sym c.self.view_is) ∙ length-chunks c.self.inside.width c.self.inside.count c.self.inside.words.items in
     let within : c.args.number * c.self.inside.width + c.self.inside.width ≤ length c.self.inside.words.items =
-    row_within c.self.inside.width c.self.inside.count c.args.number (length c.self.inside.words.items) (omega (arith, many, c.requires)) c.self.invariant in
+    row_within c.self.inside.width c.self.inside.count c.args.number (length c.self.inside.words.items) (omega (arith, many, c.requires)) c.self.invariant.0 in
     omega (arith, within, ap (λ (l : List ℕ). length l) c.as_slice-words.ensures.value)
 
 pub returns : goal.returns
