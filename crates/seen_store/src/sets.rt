@@ -1,5 +1,5 @@
 //! Sets by their places.
-ghost use Rattle.std.specs.Prelude.{◌≡◌, None, Some, IfOk, OnErr, OnOk, true};
+ghost use Rattle.std.specs.Prelude.{◌≡◌, ◌+◌, ◌^◌, ◌≤◌, None, Some, IfOk, IsSomeAnd, OnErr, OnOk, true};
 ghost use Rattle.std.specs.Option.{option_copied};
 ghost use Rattle.jcl_meaning.specs.Programs.{appended, emptied, grown_by};
 ghost use Rattle.jcl_meaning.specs.Stores.{cut, set_in};
@@ -48,7 +48,7 @@ pub(crate) fn drop_set(sets: &mut Sets, key: &Key, serial: Serial)
     sets.remove(&place);
 }
 
-/// Adds tracks to a set. An `Err` changes nothing.
+/// Adds tracks to a set. It takes no memory; more than a number of tracks counts, and no other, is answered as want of it. An `Err` changes nothing.
 pub(crate) fn grow_set(
     sets: &mut Sets,
     key: &Key,
@@ -57,6 +57,7 @@ pub(crate) fn grow_set(
 ) -> Result<(), AllocError>
     ensures ok { OnOk result (ChangesSet (grown_by tracks) sets.old.entries sets.new.entries key.now serial) }
     ensures err { OnErr result (sets.new.entries ≡ sets.old.entries) }
+    ensures past { OnErr result (IsSomeAnd (set_in (sets_of sets.old.entries) key.now serial) (λ set. 2 ^ 64 ≤ set.tracks + tracks)) }
 {
     let place = SetPlace { key: *key, serial };
     match sets.get_mut(&place) {

@@ -1,5 +1,5 @@
 //! The store of a job alone, as lists.
-ghost use Rattle.std.specs.Prelude.{◌≡◌, ◌<◌, ◌≤◌, Some, None, IfOk, IfSome, IfNone, OnOk, OnErr, List, refl, true, ℕ};
+ghost use Rattle.std.specs.Prelude.{◌≡◌, ◌+◌, ◌^◌, ◌<◌, ◌≤◌, Some, None, IfOk, IfSome, IfNone, IsSomeAnd, OnOk, OnErr, List, refl, true, ℕ};
 ghost use Rattle.std.proofs.Common.{◌∙◌};
 ghost use Rattle.std.specs.List.{position};
 ghost use Rattle.group_core.specs.Entries.{group_in};
@@ -180,7 +180,7 @@ fn place_of(sets: &[SoloSet], key: &Key, serial: Serial) -> Option<usize>
     position_of(sets, key, serial)
 }
 
-/// Adds tracks to a set. An `Err` changes nothing.
+/// Adds tracks to a set. It takes no memory; more than a number of tracks counts, and no other, is answered as want of it. An `Err` changes nothing.
 pub(crate) fn grow_set(
     alloc: Global,
     store: &mut SoloStore,
@@ -190,6 +190,7 @@ pub(crate) fn grow_set(
 ) -> Result<(), AllocError>
     ensures ok { OnOk result (store_of store.new ≡ changed_at (grown_by tracks) (store_of store.old) key.now serial) }
     ensures err { OnErr result (store.new ≡ store.old) }
+    ensures past { OnErr result (IsSomeAnd (set_in store.old.sets key.now serial) (λ set. 2 ^ 64 ≤ set.tracks + tracks)) }
     ensures volumes { store.new.volumes ≡ store.old.volumes }
 {
     let Some(at) = place_of(store.sets.as_slice(), key, serial) else {
