@@ -75,9 +75,7 @@ impl Spool {
         ensures listing { OnErr result (listing.new ≡ listing.old) }
         ensures outputs { OnErr result (outputs.new ≡ outputs.old) }
     {
-        let Some(count) = outputs.len().checked_add(1) else {
-            return Err(AllocError);
-        };
+        let count = outputs.as_slice().len() + 1;
         let alloc = self.alloc;
         make_starts(&mut self.starts)?;
         self.sets.reserve(count)?;
