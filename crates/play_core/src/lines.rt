@@ -1,5 +1,5 @@
 //! The lines of a session's text.
-ghost use Rattle.std.specs.Prelude.{◌≡◌, IfOk};
+ghost use Rattle.std.specs.Prelude.{◌≡◌, ◌^◌, ◌≤◌, IfOk, length};
 ghost use Rattle.play_core.specs.Texts.{ended, feeds_in, is_open, line_behind, with_events};
 
 use crate::given::Given;
@@ -28,7 +28,8 @@ fn ended(alloc: Global, text: &[u8]) -> Result<Vec<u8>, AllocError>
 }
 
 fn feeds_in(text: &[u8]) -> usize
-    ensures { result ≡ feeds_in text.now }
+    ensures feeds { result ≡ feeds_in text.now }
+    ensures few { result ≤ length text.now }
 {
     let mut feeds = 0;
     for byte in text {
@@ -41,14 +42,11 @@ fn feeds_in(text: &[u8]) -> usize
 
 /// The number of the line behind the text.
 pub(crate) fn line_behind(alloc: Global, text: &[u8]) -> Result<usize, AllocError>
-    ensures { IfOk result (λ line. line ≡ line_behind text.now) }
+    ensures line { IfOk result (λ line. line ≡ line_behind text.now) }
+    ensures few { IfOk result (λ line. line ≤ 2 ^ 63) }
 {
     let whole = ended(alloc, text)?;
-    let feeds = feeds_in(whole.as_slice());
-    match feeds.checked_add(1) {
-        Some(line) => Ok(line),
-        None => Err(AllocError),
-    }
+    Ok(feeds_in(whole.as_slice()) + 1)
 }
 
 /// The text, and behind it the lines of these events.

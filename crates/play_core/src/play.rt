@@ -1,5 +1,5 @@
 //! A session is played on, and its listing is written.
-ghost use Rattle.std.specs.Prelude.{◌≡◌, ◌++◌, ◌⊎◌, [], Err, IfOk, OnOk, false};
+ghost use Rattle.std.specs.Prelude.{◌≡◌, ◌+◌, ◌^◌, ◌<◌, ◌≤◌, ◌++◌, ◌⊎◌, [], Err, IfOk, OnOk, false, length};
 ghost use Rattle.session_core.specs.Sessions.{session_behind};
 ghost use Rattle.session_core.specs.Streams.{sink_state, source_state};
 ghost use Rattle.play_core.specs.Given.{statements_at};
@@ -47,6 +47,7 @@ fn add_statements(
     line: usize,
     given: &[Given],
 ) -> Result<(), AllocError>
+    requires { line + length given.now < 2 ^ 64 }
     ensures { OnOk result (statements.new ≡ statements.old ++ statements_at line given.now) }
 {
     let mut at = line;
@@ -55,10 +56,7 @@ fn add_statements(
             line: at,
             says: Says::Events(next.event(), 1),
         })?;
-        match at.checked_add(1) {
-            Some(behind) => at = behind,
-            None => return Err(AllocError),
-        }
+        at += 1;
     }
     Ok(())
 }
@@ -70,6 +68,7 @@ fn extend(
     line: usize,
     options: Options,
 ) -> Result<Added, AllocError>
+    requires { line ≤ 2 ^ 63 }
     ensures found { IfOk result (λ added. IsFound options (session_behind [] statements.old) added.given.items) }
     ensures behind { IfOk result (λ added. statements.new ≡ statements.old ++ statements_at line added.given.items) }
 {
