@@ -28,7 +28,7 @@ enum Found {
     Job(JobPlan, Listed<Want>),
 }
 
-/// Reads the records of a job. More unit names than two bytes count are answered as want of memory.
+/// Reads the records of a job.
 fn find<Q: RecordStore>(
     alloc: Global,
     queue: &Q,
@@ -39,9 +39,7 @@ fn find<Q: RecordStore>(
     requires { HasOwnFields (Q.queue queue.now).layout }
     ensures { IfOk result (IsFound (Q.queue queue.now) (length profile.now.units.now) job first) }
 {
-    let Ok(units) = u16::try_from(profile.units.len()) else {
-        return Err(AllocError);
-    };
+    let units = profile.units.len() as u16;
     match read_job(alloc, queue, units, job, first)? {
         Read::Broken(fault) => Ok(Found::Broken(fault)),
         Read::Plan(plan) => {

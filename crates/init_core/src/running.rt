@@ -1,5 +1,6 @@
 //! A job at an initiator, and what is fixed for all jobs.
-ghost use Rattle.std.specs.Prelude.{◌≡◌, drop};
+ghost use Rattle.std.specs.Prelude.{◌≡◌, ◌≤◌, drop, length};
+ghost use Rattle.machine_meaning.specs.declared.config.TheConstants.{MOST_UNITS};
 
 use admit_core::admission::{AdmittedJob, NamedJob};
 use enq_core::table::Want;
@@ -53,6 +54,7 @@ pub struct Profile<'c> {
     pub refuses: bool,
     pub most_views: usize,
     pub explains: bool,
+    pub ghost few_units: { length units.now ≤ MOST_UNITS },
 }
 
 /// What a job was answered: its line, and the lines of the path that this tells, where they are asked for.

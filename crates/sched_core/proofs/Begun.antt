@@ -17,6 +17,7 @@ use Rattle.config_core.proofs.Starting.{nothing_on}
 use Rattle.enq_core.specs.declared.table.Hold.{Hold}
 use Rattle.machine_meaning.specs.declared.config.ConfiguredInitiator.{ConfiguredInitiator}
 use Rattle.machine_meaning.specs.declared.config.ConfiguredUnit.{ConfiguredUnit}
+use Rattle.machine_meaning.specs.declared.config.TheConstants.{MOST_UNITS}
 use Rattle.prog_core.specs.declared.units.Operation.{Operation}
 use Rattle.case_laws.specs.Cases.{IsSupplied, StartsSupplied}
 use Rattle.law_core.specs.Soundness.{IsSound, StartsSound}
@@ -165,6 +166,13 @@ module _ {Q : Type 0} (queue_of : Q → RecordQueue) (store : SharedStore) (q : 
         supplied = subst IsSupplied (sym (world_at k)) (supplied (start_of c p.refuses p.most_views p.explains l FIRST_DAY) is_start);
         fit = begins_fit;
       }
+
+-- no more lists of volumes than units are configured
+pub units_few : (c : Configuration) (store : SharedStore) (fixed : Fixed) → IsConfigured c → IsTakenApart c store fixed →
+    (volumes : List (List (List ℕ))) → volumes ≡ unit_volumes fixed.units → length volumes ≤ MOST_UNITS
+units_few c store fixed is apart volumes those =
+    let listed : length volumes ≡ length fixed.units = ap length those ∙ length-map fixed.units (λ (u : ConfiguredUnit). u.serials) in
+    omega (arith, is.few_units, listed, ap length apart.units)
 
 -- each unit has its name and its volumes
 pub units_counted : (us : List ConfiguredUnit) → length (unit_names us) ≡ length (unit_volumes us)

@@ -1,5 +1,5 @@
 -- The most lines by which what a job is answered next may be explained.
-use Rattle.std.specs.Prelude.{ℕ, if◌then◌else◌}
+use Rattle.std.specs.Prelude.{ℕ, ◌+◌, if◌then◌else◌, length}
 use Rattle.jcl_meaning.specs.Agendas.{budget_of}
 use Rattle.init_core.specs.declared.running.Profile.{Profile}
 use Rattle.init_core.specs.declared.running.Running.{Running}
@@ -14,3 +14,7 @@ most_explained_at p (Admitted job) = 0
 
 abbrev pub most_explained : Profile → Running → ℕ
 most_explained p r = if p.explains then most_explained_at p r.stage else 0
+
+-- the most lines of a turn: two, with those that explain the first, or that of a fault and one for each DD that the step took
+abbrev pub most_lines : Profile → Running → ℕ
+most_lines p r = 2 + length r.walk.course.own.dds + most_explained p r

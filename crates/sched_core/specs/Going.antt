@@ -1,5 +1,5 @@
 -- A turn of a job at its initiator.
-use Rattle.std.specs.Prelude.{◌≡◌, ℕ, ◌+◌, ◌≤◌, List, [], Some, Vec, length, slice_get, slice_set}
+use Rattle.std.specs.Prelude.{◌≡◌, ℕ, ◌≤◌, List, [], Some, Vec, length, slice_get, slice_set}
 use Rattle.std.specs.Global.{Global}
 use Rattle.std.specs.Vec.{vec_capacity, vec_len}
 use Rattle.cb_queue.specs.RecordQueues.{RecordQueue}
@@ -12,7 +12,7 @@ use Rattle.init_core.specs.Running.{lines_told, path_told, runs_after}
 use Rattle.init_core.specs.declared.running.Profile.{Profile}
 use Rattle.init_core.specs.declared.running.Progress.{Progress}
 use Rattle.init_core.specs.declared.running.Running.{Running}
-use Rattle.sched_core.specs.Explaining.{most_explained}
+use Rattle.sched_core.specs.Explaining.{most_lines}
 use Rattle.sched_core.specs.declared.state.Initiator.{Initiator}
 
 -- the job of an initiator went on, with these lines in the listing
@@ -34,8 +34,8 @@ pub record TurnsAt {Q : Type 0} (queue_of : Q → RecordQueue) (c : Config) (pla
   pub turns : TurnsJob queue_of c old it new then lines
   pub leaves : after ≡ slice_set initiators place then
 
--- no entry yet, and room for the lines of a turn: two, with those that explain the first, or that of a fault and one for each DD that the step took
+-- no entry yet, and room for the lines of a turn
 pub record HasRoomFor (profile : Profile) (r : Running) (entries : Vec Entry Global) : Type 0 where
   pub none : entries.items ≡ []
   pub empty : vec_len entries ≡ 0
-  pub room : 2 + length r.walk.course.own.dds + most_explained profile r ≤ vec_capacity entries
+  pub room : most_lines profile r ≤ vec_capacity entries

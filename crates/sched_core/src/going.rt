@@ -1,5 +1,5 @@
 //! An initiator goes on with its job.
-ghost use Rattle.std.specs.Prelude.{◌≡◌, ◌≢◌, ◌+◌, ◌<◌, ◌≤◌, ◌++◌, ◌∷◌, [], All, Err, IfOk, None, OnErr, Some, length, map, OnOk};
+ghost use Rattle.std.specs.Prelude.{◌≡◌, ◌≢◌, ◌+◌, ◌^◌, ◌<◌, ◌≤◌, ◌++◌, ◌∷◌, [], All, Err, IfOk, None, OnErr, Some, length, map, OnOk};
 ghost use Rattle.std.specs.Vec.{vec_capacity, vec_len};
 ghost use Rattle.jcl_plan.specs.declared.entry.Entry.TheVariants as entry;
 ghost use Rattle.jcl_plan.specs.declared.fault.Cause.{Cause};
@@ -11,7 +11,7 @@ ghost use Rattle.init_core.specs.Running.{IsGood, IsReady, config_of, path_befor
 ghost use Rattle.init_core.specs.declared.running.Running.{Running};
 ghost use Rattle.sched_core.specs.Copies.{unless_risk};
 ghost use Rattle.sched_core.specs.Events.{ActsAt, Answers};
-ghost use Rattle.sched_core.specs.Explaining.{most_explained};
+ghost use Rattle.sched_core.specs.Explaining.{most_explained, most_lines};
 ghost use Rattle.sched_core.specs.Fits.{IsFit, IsKept};
 ghost use Rattle.sched_core.specs.Going.{HasRoomFor, TurnsJob};
 ghost use Rattle.sched_core.specs.Machines.{RunsIn, config_in, world_in};
@@ -90,7 +90,8 @@ fn tell_end(entries: &mut Vec<Entry>, job: u16, before: Option<Told>, last: JobL
 
 /// The most lines by which what a job is answered next may be explained.
 fn most_explained(profile: &Profile<'_>, running: &Running) -> Result<usize, AllocError>
-    ensures { IfOk result (λ count. count ≡ most_explained profile.now running.now) }
+    ensures count { IfOk result (λ count. count ≡ most_explained profile.now running.now) }
+    ensures past { OnErr result (2 ^ 64 ≤ most_explained profile.now running.now) }
 {
     if !profile.explains {
         return Ok(0);
@@ -103,8 +104,21 @@ fn most_explained(profile: &Profile<'_>, running: &Running) -> Result<usize, All
     }
 }
 
-/// Room for the lines of a turn: two, with those that explain the first, or that of a fault and one for each DD that the step took. It is this
-/// memory where it is enough.
+/// The most lines of a turn: two, with those that explain the first, or that of a fault and one for each DD that the step took. It takes no memory; a
+/// number past a machine word, and no other, is answered as want of it.
+fn most_lines(profile: &Profile<'_>, running: &Running) -> Result<usize, AllocError>
+    ensures count { IfOk result (λ count. count ≡ most_lines profile.now running.now) }
+    ensures past { OnErr result (2 ^ 64 ≤ most_lines profile.now running.now) }
+{
+    let explained = most_explained(profile, running)?;
+    let lines = running.walk.course.own.dds.as_slice().len() + 2;
+    match lines.checked_add(explained) {
+        Some(count) => Ok(count),
+        None => Err(AllocError),
+    }
+}
+
+/// Room for the lines of a turn. It is this memory where it is enough.
 fn room_for(
     profile: &Profile<'_>,
     running: &Running,
@@ -112,13 +126,7 @@ fn room_for(
 ) -> Result<Vec<Entry>, AllocError>
     ensures { IfOk result (HasRoomFor profile.now running.now) }
 {
-    let explained = most_explained(profile, running)?;
-    let Some(lines) = running.walk.course.own.dds.len().checked_add(2) else {
-        return Err(AllocError);
-    };
-    let Some(count) = lines.checked_add(explained) else {
-        return Err(AllocError);
-    };
+    let count = most_lines(profile, running)?;
     room.clear();
     room.reserve(count)?;
     Ok(room)
