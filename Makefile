@@ -22,7 +22,8 @@ help:
 	@echo 'make pictures             draws each session of examples/ with ./mvt-picture and reads the pictures as XML'
 	@echo 'make play                 compares the sessions of tests/play/ with ./mvt-play and ./mvt'
 	@echo 'make examples             runs each session of examples/ with ./mvt and compares the listings'
-	@echo 'make documents            compares README.md and docs/ with ./mvt: what examples print, what refusals are told'
+	@echo 'make documents            compares README.md and docs/ with ./mvt: what examples print, what refusals are told; and looks for'
+	@echo '                          what they cite'
 	@echo 'make rows                 compares the worked rows that are texts with ./mvt and with the row programs'
 	@echo 'make hostile              refuses each allocation in turn and runs mutated sessions, behind make test'
 	@echo 'make bench                counts the instructions of ./mvt on the sessions of bench/, by callgrind: ten minutes'
@@ -85,6 +86,7 @@ examples: mvt
 # Compares the documents with ./mvt: their examples, and what docs/REFUSALS.md says is told; and the table of examples.
 documents: mvt
 	python3 tests/documents.py ./mvt
+	python3 tests/citations.py
 	python3 tests/document_rows.py --check
 
 # Compares the worked rows that are texts. The row programs are those of the gate, or are proved first.

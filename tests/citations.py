@@ -1,0 +1,84 @@
+#!/usr/bin/env python3
+"""Looks for what the pages cite: each file exists, has the names that stand beside it, and each call named by its crate is there.
+
+Usage: python3 tests/citations.py
+
+A file is cited by its path, with or without `crates/` in front, or by its name alone: then it stands in a crate that was named before
+it in the same passage or in the line of crates above it, or one crate alone has it. The names behind it, each in quotes of its own, have to stand in it. `Admissions`,
+IsTold (as docs/LISTING.md has it) cites a name of the file Admissions.antt of `world_meaning`.
+"""
+
+import functools
+import glob
+import os
+import re
+import sys
+
+PAGES = ["README.md", *sorted(glob.glob("docs/*.md"))]
+FILE = re.compile(r"`([A-Za-z_0-9/]+\.(?:antt|rt))`((?:,? (?:and |with )?`[A-Za-z_0-9:]+`)*)")
+CALL = re.compile(r"`([a-z_0-9]+)::([A-Za-z_0-9:]+)`")
+CLAUSE = re.compile(r"`([A-Z][A-Za-z]+)`, ([A-Za-z_]+)(?=[;)])")
+CRATE = re.compile(r"`([a-z_0-9]+)(?:/[^`]*)?`")
+
+
+@functools.cache
+def text_of(path):
+    with open(path, encoding="utf-8") as file:
+        return file.read()
+
+
+@functools.cache
+def sources_of(crate):
+    return "\n".join(text_of(path) for path in glob.glob(f"crates/{crate}/src/**/*.rt", recursive=True))
+
+
+def place_of(cited, before):
+    """The file that is cited behind a text, or None."""
+    for path in (cited, f"crates/{cited}"):
+        if os.path.isfile(path):
+            return path
+    crates = [name for name in CRATE.findall(before) if os.path.isdir(f"crates/{name}")]
+    for crate in reversed(crates):
+        for path in (f"crates/{crate}/{cited}", f"crates/{crate}/specs/{cited}", f"crates/{crate}/src/{cited}"):
+            if os.path.isfile(path):
+                return path
+    found = glob.glob(f"crates/*/specs/{cited}") + glob.glob(f"crates/*/src/{cited}")
+    return found[0] if len(found) == 1 else None
+
+
+def has_name(text, name):
+    return re.search(rf"(?<![A-Za-z_0-9]){re.escape(name.split('::')[-1])}(?![A-Za-z_0-9])", text)
+
+
+def wrong_in(page):
+    """Yields what a page cites and what is not there."""
+    heading = ""
+    for passage in re.split(r"\n\n|\n(?=- |\||\d+\. )", text_of(page)):
+        passage = " ".join(passage.split())
+        heading = passage if re.fullmatch(r"`[a-z_0-9]+`(, `[a-z_0-9]+`)*", passage) else heading
+        for found in FILE.finditer(passage):
+            path = place_of(found[1], heading + passage[: found.start()])
+            if path is None:
+                yield f"no file {found[1]}"
+                continue
+            for name in re.findall(r"`([A-Za-z_0-9:]+)`", found[2]):
+                if not os.path.isdir(f"crates/{name}") and not has_name(text_of(path), name):
+                    yield f"no {name} in {path}"
+        for crate, name in CALL.findall(passage):
+            if os.path.isdir(f"crates/{crate}") and not has_name(sources_of(crate), name):
+                yield f"no call {crate}::{name}"
+        for file, name in CLAUSE.findall(passage):
+            path = f"crates/world_meaning/specs/{file}.antt"
+            if os.path.isfile(path) and not has_name(text_of(path), name):
+                yield f"no {name} in {path}"
+
+
+def main():
+    os.chdir(os.path.join(os.path.dirname(os.path.abspath(__file__)), ".."))
+    wrong = [f"{page}: {what}" for page in PAGES for what in wrong_in(page)]
+    print("\n".join(wrong or ["each file, name and call that a page cites is there"]))
+    return 1 if wrong else 0
+
+
+if __name__ == "__main__":
+    sys.exit(main())
