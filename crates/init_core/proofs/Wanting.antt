@@ -20,6 +20,7 @@ use Rattle.machine_core.specs.declared.parts.Parts.{Parts}
 use Rattle.machine_core.specs.Shown.{shown}
 use Rattle.machine_core.proofs.Unnamed.{none_given_free}
 use Rattle.shared_core.proofs.Following.{stays_follow}
+use Rattle.init_core.specs.declared.running.Progress.{Progress}
 use Rattle.init_core.specs.declared.running.Progress.TheVariants.{GoesOn}
 use Rattle.init_core.specs.declared.running.Running.{Running}
 use Rattle.init_core.specs.declared.running.Stage.TheVariants as stage
@@ -136,3 +137,17 @@ module _ {Q : Type 0} (queue_of : Q → RecordQueue) (c : Config) (p : Parts Q) 
       others = λ other apart none. subst (λ hs. HoldsNone hs other) (sym w.same) none;
     };
   }
+
+-- the same of the names as they were read
+pub so_wanted : {Q : Type 0} (queue_of : Q → RecordQueue) (c : Config) (p new : Parts Q) (job : ℕ) (walk after : Walk) (plan : JobPlan) (read wants : List Want)
+    (held : Option ℕ) (from : ℕ) (came : Progress) → read ≡ wants → from ≡ length walk.course.lines →
+    came ≡ GoesOn (record { job = job; walk = after; stage = stage_behind plan wants held }) from →
+    Went queue_of c p (record { job = job; walk = walk; stage = stage.Wanting plan read }) new
+    (GoesOn (record { job = job; walk = after; stage = stage_behind plan read held }) (length walk.course.lines)) →
+    Went queue_of c p (record { job = job; walk = walk; stage = stage.Wanting plan wants }) new came
+so_wanted queue_of c p new job walk after plan read wants held from came same at is w =
+    subst (Went queue_of c p (record { job = job; walk = walk; stage = stage.Wanting plan wants }) new) (sym is)
+    (subst (λ n. Went queue_of c p (record { job = job; walk = walk; stage = stage.Wanting plan wants }) new
+    (GoesOn (record { job = job; walk = after; stage = stage_behind plan wants held }) n)) (sym at)
+    (subst (λ (ws : List Want). Went queue_of c p (record { job = job; walk = walk; stage = stage.Wanting plan ws }) new
+    (GoesOn (record { job = job; walk = after; stage = stage_behind plan ws held }) (length walk.course.lines))) same w))

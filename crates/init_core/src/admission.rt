@@ -11,7 +11,7 @@ ghost use Rattle.init_core.specs.Running.{IsGood, config_of};
 ghost use Rattle.init_core.specs.declared.running.Stage.TheVariants as stage;
 
 use crate::ending::release_admitted;
-use crate::running::{Profile, Progress, Running, Stage, Told};
+use crate::running::{Profile, Progress, Running, Stage, Told, over};
 use admit_core::admission::{AdmittedJob, Answer, Behind, NamedJob};
 use admit_core::admit::{Terms, admit};
 use cb_queue::store::RecordStore;
@@ -86,10 +86,7 @@ pub(crate) fn admit_job<Q: RecordStore>(
                 Behind::Admitted(admitted) => {
                     if is_turned_away(profile.refuses, &admitted) {
                         release_admitted(parts, job, admitted);
-                        Ok(Progress::Over {
-                            before: Some(told),
-                            last: JobLine::Refused,
-                        })
+                        Ok(over(walk, Some(told), JobLine::Refused))
                     } else {
                         let walk = begun(alloc, walk);
                         let stage = Stage::Admitted(admitted);

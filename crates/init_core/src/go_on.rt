@@ -31,14 +31,7 @@ pub fn go_on<Q: RecordStore>(
     let Running { job, walk, stage } = running;
     match stage {
         Stage::Selected { first } => read(alloc, parts, profile, job, walk, first),
-        Stage::Wanting { plan, wants } => match want(parts, job, walk, plan, wants) {
-            Ok(came) => Ok(came),
-            Err((walk, plan, wants)) => Err(Running {
-                job,
-                walk,
-                stage: Stage::Wanting { plan, wants },
-            }),
-        },
+        Stage::Wanting { plan, wants } => want(parts, job, walk, plan, wants),
         Stage::Named(named) => admit_job(alloc, parts, profile, job, walk, named),
         Stage::Admitted(admitted) => advance(alloc, parts, profile, job, walk, admitted),
     }

@@ -1,11 +1,12 @@
 //! A job's names are held, all of them or none: NAMES, WAIT NAMES.
-ghost use Rattle.std.specs.Prelude.{◌≡◌, ◌≢◌, IfErr, IfOk, OnErr};
+ghost use Rattle.std.specs.Prelude.{◌≡◌, ◌≢◌, IfErr, IfOk, OnErr, length};
 ghost use Rattle.enq_core.specs.Holds.{AreWants, HoldsNone};
 ghost use Rattle.world_meaning.specs.Holdings.{wants_of};
 ghost use Rattle.world_meaning.specs.Worlds.{Config};
 ghost use Rattle.init_core.specs.Going.{Went};
 ghost use Rattle.init_core.specs.Naming.{Wishes, stage_behind};
 ghost use Rattle.init_core.specs.Running.{IsGood};
+ghost use Rattle.init_core.specs.declared.running.Progress.TheVariants as progress;
 ghost use Rattle.init_core.specs.declared.running.Stage.TheVariants as stage;
 
 use crate::running::{Progress, Running, Stage};
@@ -52,47 +53,70 @@ pub(crate) fn hold(
     }
 }
 
-fn stage_behind(plan: JobPlan, wants: Listed<Want>, held: Option<Held>) -> Stage
-    ensures { result ≡ stage_behind plan wants held }
+/// What comes of the wish of a job whose records are read: its names are held, or it waits for them. An `Err` changes nothing.
+pub(crate) fn wish<Q: RecordStore>(
+    parts: &mut Parts<Q>,
+    job: u16,
+    walk: &mut Walk,
+    wants: &[Want],
+) -> Result<Option<Held>, AllocError>
+    requires some { job ≢ 0 }
+    requires none { HoldsNone parts.old.names job }
+    requires order { AreWants wants.now }
+    ensures ok { IfOk result (λ held. (c : Config) (plan : JobPlan) → wants.now ≡ wants_of plan → IsGood Q.queue c parts.old →
+        Went Q.queue c parts.old (record { job = job; walk = walk.old; stage = stage.Wanting plan wants.now }) parts.new
+        (progress.GoesOn (record { job = job; walk = walk.new; stage = stage_behind plan wants.now held }) (length walk.old.course.lines))) }
+    ensures err { OnErr result ((parts.new ≡ parts.old) × (walk.new ≡ walk.old)) }
 {
-    match held {
+    let held = hold(&mut parts.names, job, &mut walk.course.lines, wants)?;
+    Ok(held)
+}
+
+/// A job that goes on behind its wish.
+pub(crate) fn going_on(
+    job: u16,
+    walk: Walk,
+    plan: JobPlan,
+    wants: Listed<Want>,
+    held: Option<Held>,
+    from: usize,
+) -> Progress
+    ensures { result ≡ progress.GoesOn (record { job = job; walk = walk; stage = stage_behind plan wants held }) from }
+{
+    let stage = match held {
         Some(held) => Stage::Named(NamedJob { plan, held }),
         None => Stage::Wanting { plan, wants },
+    };
+    Progress::GoesOn {
+        job: Running { job, walk, stage },
+        from,
     }
 }
 
-/// A turn of a job whose records are read: its names are held, or it waits for them. Where memory is wanting what the job had is given back, and nothing has
-/// changed.
+/// A turn of a job whose records are read. Where memory is wanting the job is given back as it was, and nothing has changed.
 pub(crate) fn want<Q: RecordStore>(
     parts: &mut Parts<Q>,
     job: u16,
     mut walk: Walk,
     plan: JobPlan,
     wants: Listed<Want>,
-) -> Result<Progress, (Walk, JobPlan, Listed<Want>)>
+) -> Result<Progress, Running>
     requires some { job ≢ 0 }
     requires none { HoldsNone parts.old.names job }
     requires wants { wants ≡ wants_of plan }
-    ensures ok { IfOk result (λ came. (c : Config) → IsGood Q.queue c parts.old →
-        Went Q.queue c parts.old (record { job = job; walk = walk; stage = stage.Wanting plan wants }) parts.new came) }
-    ensures err { IfErr result (λ kept. (kept.0 ≡ walk) × (kept.1 ≡ plan) × (kept.2 ≡ wants)) }
+    ensures ok { (c : Config) → IsGood Q.queue c parts.old →
+        IfOk result (Went Q.queue c parts.old (record { job = job; walk = walk; stage = stage.Wanting plan wants }) parts.new) }
+    ensures err { IfErr result (λ r. r ≡ record { job = job; walk = walk; stage = stage.Wanting plan wants }) }
     ensures same { OnErr result (parts.new ≡ parts.old) }
 {
     wants_are_in_order();
     let from = walk.course.lines.len();
-    match hold(
-        &mut parts.names,
-        job,
-        &mut walk.course.lines,
-        wants.as_slice(),
-    ) {
-        Ok(held) => {
-            let stage = stage_behind(plan, wants, held);
-            Ok(Progress::GoesOn {
-                job: Running { job, walk, stage },
-                from,
-            })
-        }
-        Err(_) => Err((walk, plan, wants)),
+    match wish(parts, job, &mut walk, wants.as_slice()) {
+        Ok(held) => Ok(going_on(job, walk, plan, wants, held, from)),
+        Err(_) => Err(Running {
+            job,
+            walk,
+            stage: Stage::Wanting { plan, wants },
+        }),
     }
 }

@@ -7,12 +7,13 @@ ghost use Rattle.init_core.specs.Going.{Went};
 ghost use Rattle.init_core.specs.Running.{IsGood, config_of};
 ghost use Rattle.init_core.specs.declared.running.Stage.TheVariants as stage;
 
-use crate::names::want;
-use crate::running::{Profile, Progress, Running, Stage};
+use crate::names::{going_on, wish};
+use crate::running::{Profile, Progress, Running, Stage, over};
 use cb_queue::store::RecordStore;
 use enq_core::table::Want;
 use jcl_plan::entry::JobLine;
 use jcl_plan::plan::JobPlan;
+use job_core::laws::wants_are_in_order;
 use job_core::read::{Read, read_job};
 use job_core::wants::wants_of;
 use machine_core::over::release_unnamed;
@@ -59,13 +60,20 @@ fn selected(job: u16, walk: Walk, first: u32) -> Running
     }
 }
 
+/// The job as it was, without what its records say.
+fn unread(job: u16, walk: Walk, first: u32, plan: JobPlan, wants: Listed<Want>) -> Running
+    ensures { result ≡ record { job = job; walk = walk; stage = stage.Selected first } }
+{
+    selected(job, walk, first)
+}
+
 /// A selected job's turn. Where memory is wanting the job is given back as it was, and nothing has changed.
 pub(crate) fn read<Q: RecordStore>(
     alloc: Global,
     parts: &mut Parts<Q>,
     profile: &Profile<'_>,
     job: u16,
-    walk: Walk,
+    mut walk: Walk,
     first: u32,
 ) -> Result<Progress, Running>
     requires some { job ≢ 0 }
@@ -76,17 +84,16 @@ pub(crate) fn read<Q: RecordStore>(
     ensures err { IfErr result (λ r. r ≡ record { job = job; walk = walk; stage = stage.Selected first }) }
     ensures same { OnErr result (parts.new ≡ parts.old) }
 {
+    wants_are_in_order();
+    let from = walk.course.lines.len();
     match find(alloc, &parts.queue, profile, job, first) {
         Ok(Found::Broken(fault)) => {
             release_unnamed(parts, job);
-            Ok(Progress::Over {
-                before: None,
-                last: JobLine::Broken(fault),
-            })
+            Ok(over(walk, None, JobLine::Broken(fault)))
         }
-        Ok(Found::Job(plan, wants)) => match want(parts, job, walk, plan, wants) {
-            Ok(came) => Ok(came),
-            Err((walk, _, _)) => Err(selected(job, walk, first)),
+        Ok(Found::Job(plan, wants)) => match wish(parts, job, &mut walk, wants.as_slice()) {
+            Ok(held) => Ok(going_on(job, walk, plan, wants, held, from)),
+            Err(_) => Err(unread(job, walk, first, plan, wants)),
         },
         Err(_) => Err(selected(job, walk, first)),
     }

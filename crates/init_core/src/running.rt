@@ -1,5 +1,6 @@
 //! A job at an initiator, and what is fixed for all jobs.
 ghost use Rattle.std.specs.Prelude.{◌≡◌, ◌≤◌, drop, length};
+ghost use Rattle.init_core.specs.declared.running.Progress.TheVariants as progress;
 ghost use Rattle.machine_meaning.specs.declared.config.TheConstants.{MOST_UNITS};
 
 use admit_core::admission::{AdmittedJob, NamedJob};
@@ -72,4 +73,11 @@ pub enum Progress {
     Answered { job: Running, told: Told },
     /// It is over, with this last line, and what it was answered before in the same turn.
     Over { before: Option<Told>, last: JobLine },
+}
+
+/// A job that is over: what it had is let go here, at one place.
+pub(crate) fn over(walk: Walk, before: Option<Told>, last: JobLine) -> Progress
+    ensures { result ≡ progress.Over before last }
+{
+    Progress::Over { before, last }
 }

@@ -14,7 +14,7 @@ ghost use Rattle.init_core.specs.declared.running.Progress.TheVariants as progre
 ghost use Rattle.init_core.specs.declared.running.Stage.TheVariants as stage;
 
 use crate::ending::release_admitted;
-use crate::running::{Profile, Progress, Running, Stage};
+use crate::running::{Profile, Progress, Running, Stage, over};
 use admit_core::admission::AdmittedJob;
 use cb_queue::store::RecordStore;
 use disp_core::course::Given;
@@ -102,10 +102,7 @@ fn end<Q: RecordStore>(
     ) {
         Ok(()) => {
             release_admitted(parts, job, admitted);
-            Ok(Progress::Over {
-                before: None,
-                last: JobLine::End,
-            })
+            Ok(over(walk, None, JobLine::End))
         }
         Err(_) => Err(running(job, walk, admitted)),
     }

@@ -14,12 +14,15 @@ pub returns-then-is_turned_away-clause-ok : goal.returns-then-is_turned_away-cla
 returns-then-is_turned_away-clause-ok g c =
     let queue_of = g.Q.RecordStore.queue in
     let p = c.args.parts.now in
-    over_so queue_of c.args.profile.now p c.args.job c.args.walk c.args.named c.requires.good c.requires.some c.requires.its_own c.admit.new.store
+    let config = config_of c.args.profile.now (queue_of p.queue).layout in
+    subst (Went queue_of config p (record { job = c.args.job; walk = c.args.walk; stage = stage.Named c.args.named }) c.release_admitted.new.parts)
+    (sym c.over.ensures)
+    (over_so queue_of c.args.profile.now p c.args.job c.args.walk c.args.named c.requires.good c.requires.some c.requires.its_own c.admit.new.store
     c.admit.new.listing c.in-Ok.field-0 c.told-line.result.0 c.told-line.ensures.line c.in-Ok.ensures.told
     (subst (λ (t : Terms). IsAnswered p.store t c.args.job c.args.named p.date c.admit.new.store c.in-Ok.field-0) c.terms-terms.ensures c.in-Ok.ensures.ok)
     c.release_admitted.new.parts c.release_admitted.ensures.back
-    (c.release_admitted.ensures.released (config_of c.args.profile.now (queue_of p.queue).layout) c.requires.good.layout)
-    c.in-Admitted.admitted (sym c.told-line.ensures.job ∙ c.in-Admitted.is) (sym c.is_turned_away.ensures ∙ c.if-is_turned_away.true)
+    (c.release_admitted.ensures.released config c.requires.good.layout)
+    c.in-Admitted.admitted (sym c.told-line.ensures.job ∙ c.in-Admitted.is) (sym c.is_turned_away.ensures ∙ c.if-is_turned_away.true))
 
 pub returns-else-is_turned_away-clause-ok : goal.returns-else-is_turned_away-clause-ok
 returns-else-is_turned_away-clause-ok g c =

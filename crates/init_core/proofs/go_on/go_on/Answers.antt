@@ -11,13 +11,14 @@ returns-in-Selected-clause-ok g c =
     subst (λ (s : Stage). IfOk c.read.result (Went queue_of (config_of c.args.profile.now (queue_of p.queue).layout) p
     (record { job = c.args.running.job; walk = c.args.running.walk; stage = s }) c.read.new.parts)) (sym c.in-Selected.is) c.read.ensures.ok
 
-pub returns-in-Ok-clause-ok : goal.returns-in-Ok-clause-ok
-returns-in-Ok-clause-ok g c =
+pub returns-in-Wanting-clause-ok : goal.returns-in-Wanting-clause-ok
+returns-in-Wanting-clause-ok g c =
     let queue_of = g.Q.RecordStore.queue in
     let p = c.args.parts.now in
     let config = config_of c.args.profile.now (queue_of p.queue).layout in
-    subst (λ (s : Stage). Went queue_of config p (record { job = c.args.running.job; walk = c.args.running.walk; stage = s }) c.want.new.parts c.in-Ok.came)
-    (sym c.in-Wanting.is) (c.in-Ok.ensures.ok config c.requires.good)
+    subst (λ (s : Stage). IfOk c.want.result (Went queue_of config p
+    (record { job = c.args.running.job; walk = c.args.running.walk; stage = s }) c.want.new.parts)) (sym c.in-Wanting.is)
+    (c.want.ensures.ok config c.requires.good)
 
 pub returns-in-Admitted-clause-ok : goal.returns-in-Admitted-clause-ok
 returns-in-Admitted-clause-ok g c =

@@ -1,16 +1,9 @@
-use Rattle.std.proofs.Common.{subst, sym}
-use Rattle.init_core.specs.Going.{Went}
-use Rattle.init_core.specs.Naming.{Wishes}
-use Rattle.init_core.specs.declared.running.Progress.TheVariants.{GoesOn}
-use Rattle.init_core.specs.declared.running.Stage.TheVariants as stage
-use Rattle.init_core.proofs.Wanting.{wanted, with_lines}
+use Rattle.std.proofs.Common.{◌∙◌}
+use Rattle.init_core.proofs.Wanting.{so_wanted}
 use Rattle.init_core.proofs.names.want.Goals as goal
 
 pub returns-in-Ok-clause-ok : goal.returns-in-Ok-clause-ok
 returns-in-Ok-clause-ok g c = λ config good.
-    let queue_of = g.Q.RecordStore.queue in
-    let p = c.args.parts.now in
-    subst (Went queue_of config p (record { job = c.args.job; walk = c.args.walk; stage = stage.Wanting c.args.plan c.args.wants }) (record p { names = c.hold.new.names }))
-    (λ i. GoesOn (record { job = c.args.job; walk = with_lines c.args.walk c.hold.new.listing; stage = sym c.stage_behind-stage.ensures i }) (sym c.len-from.ensures i))
-    (wanted queue_of config p c.hold.new.names c.args.job c.args.walk c.hold.new.listing c.args.plan c.args.wants c.requires.some c.requires.none c.requires.wants good c.in-Ok.held
-    (subst (λ ws. Wishes p.names c.args.job ws c.args.walk.course.lines c.in-Ok.held c.hold.new.names c.hold.new.listing) c.as_slice.ensures c.in-Ok.ensures.ok))
+    so_wanted g.Q.RecordStore.queue config c.args.parts.now c.wish.new.parts c.args.job c.args.walk c.wish.new.walk c.args.plan c.as_slice.result.now c.args.wants
+    c.in-Ok.held c.len-from.result c.going_on.result c.as_slice.ensures c.len-from.ensures c.going_on.ensures
+    (c.in-Ok.ensures.ok config c.args.plan (c.as_slice.ensures ∙ c.requires.wants) good)
