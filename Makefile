@@ -5,9 +5,6 @@
 # The session that `make run` runs.
 SESSION ?= examples/first.session
 
-# The programs that compare worked rows with their tables.
-ROW_PROGRAMS = volume_rows record_rows machine_rows store_rows session_rows path_rows
-
 # What the program is made from.
 SOURCES = crates.txt $(wildcard crates/*/src/*.rt crates/*/src/*/*.rt)
 
@@ -24,7 +21,7 @@ help:
 	@echo 'make examples             runs each session of examples/ with ./mvt and compares the listings'
 	@echo 'make documents            compares README.md and docs/ with ./mvt: what examples print, what refusals are told; and looks for'
 	@echo '                          what they cite'
-	@echo 'make rows                 compares the worked rows that are texts with ./mvt and with the row programs'
+	@echo 'make rows                 compares the worked rows that are texts with ./mvt, and their tables with worked_rows'
 	@echo 'make hostile              refuses each allocation in turn and runs mutated sessions, behind make test'
 	@echo 'make bench                counts the instructions of ./mvt on the sessions of bench/, by callgrind: ten minutes'
 	@echo 'make test                 the gate: every proof from nothing, the edits that must fail, the tests, the programs'
@@ -89,9 +86,9 @@ documents: mvt
 	python3 tests/citations.py
 	python3 tests/document_rows.py --check
 
-# Compares the worked rows that are texts. The row programs are those of the gate, or are proved first.
+# Compares the worked rows that are texts. The program that compares their tables is that of the gate, or is proved first.
 rows: mvt
-	for crate in $(ROW_PROGRAMS); do test -x crates/$$crate/out/$$crate || (cd crates/$$crate && rt run </dev/null) || exit 1; done
+	test -x crates/worked_rows/out/worked_rows || (cd crates/worked_rows && rt run </dev/null)
 	python3 tests/rows.py ./mvt
 	tests/examples.sh ./mvt
 

@@ -4,8 +4,8 @@
     python3 bench/plans.py [PROGRAM [WORD..]]
     python3 bench/plans.py --rows
 
-PROGRAM is the proved row program, crates/path_rows/out/path_rows where none is given; with WORDs only the cases in whose description
-one of them stands. It prints a row a case: the instructions of the whole process, those with half the views, those with half the steps,
+PROGRAM is the proved program that compares tables, crates/worked_rows/out/worked_rows where none is given; with WORDs only the cases in
+whose description one of them stands. It prints a row a case: the instructions of the whole process, those with half the views, those with half the steps,
 the most memory, and the instructions as a multiple of those of a plain program. With --rows it prints the rows that are measured.
 """
 
@@ -15,7 +15,7 @@ import subprocess
 import sys
 import tempfile
 
-PROGRAM = "crates/path_rows/out/path_rows"
+PROGRAM = "crates/worked_rows/out/worked_rows"
 # Instructions, in millions, of a plain program without proofs on sessions whose jobs have such plans: it reads and analyses them, and
 # runs the first two kinds to their ends. It is not in this repository.
 PLAIN = {"subsets": 445, "chain": 236, "chain_and_one": 212, "both_ways": 380}
@@ -91,7 +91,7 @@ def written(folder, name, text):
 def instructions(program, text):
     """The instructions of one run, in whole."""
     with tempfile.TemporaryDirectory() as folder:
-        command = ["valgrind", "--tool=callgrind", f"--callgrind-out-file={folder}/counts", program, written(folder, "plan.rows", text)]
+        command = ["valgrind", "--tool=callgrind", f"--callgrind-out-file={folder}/counts", program, "paths", written(folder, "plan.rows", text)]
         ran = subprocess.run(command, stdout=subprocess.DEVNULL, stderr=subprocess.PIPE, check=False)
         found = re.search(rb"Collected : (\d+)", ran.stderr)
         if ran.returncode or not found:
@@ -102,7 +102,7 @@ def instructions(program, text):
 def memory(program, text):
     """The most memory of a run without callgrind, in bytes."""
     with tempfile.TemporaryDirectory() as folder:
-        child = subprocess.Popen([program, written(folder, "plan.rows", text)], stdout=subprocess.DEVNULL)
+        child = subprocess.Popen([program, "paths", written(folder, "plan.rows", text)], stdout=subprocess.DEVNULL)
         used = os.wait4(child.pid, 0)[2]
         child.returncode = 0
         return used.ru_maxrss * 1024

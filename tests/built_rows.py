@@ -1,4 +1,4 @@
-"""Makes crates/path_rows/data/built.rows: 200 jobs that are built by a rule, and what is told of each before it runs.
+"""Makes crates/worked_rows/data/paths/built.rows: 200 jobs that are built by a rule, and what is told of each before it runs.
 
 What is wanted comes from a reference: a command that reads a session on standard input and writes, for each deck that the session
 reads, a line `== n` and what an analysis answers, with the option --views N of mvt.
@@ -9,7 +9,7 @@ import os
 import subprocess
 import sys
 
-TABLE = "crates/path_rows/data/built.rows"
+TABLE = "crates/worked_rows/data/paths/built.rows"
 COUNT = 200
 REMARK = """Jobs that are built by a rule, and what is told of each before it runs: tests/built_rows.py makes them. The commands are those of
 verdicts.rows.

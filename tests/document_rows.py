@@ -1,4 +1,4 @@
-"""Makes the table crates/session_rows/data/documents.rows.
+"""Makes the table crates/worked_rows/data/sessions/documents.rows.
 
 It has each session that README.md or docs/ shows with what it prints, and those of examples/ that they do not
 show. The examples are those that tests/documents.py finds. Each is run with a program that keeps its input,
@@ -14,7 +14,7 @@ import tempfile
 
 from documents import examples_of, printed, text_of
 
-TABLE = "crates/session_rows/data/documents.rows"
+TABLE = "crates/worked_rows/data/sessions/documents.rows"
 REMARK = """Sessions that README.md and docs/ show, and the others of examples/, with what they print.
 tests/document_rows.py makes this table.
 

@@ -1,4 +1,4 @@
-"""Makes tables of crates/session_rows by a rule: damaged records, crossed links, cancels, failing streams.
+"""Makes tables of crates/worked_rows/data/sessions by a rule: damaged records, crossed links, cancels, failing streams.
 
 What is wanted comes from a reference: a command that reads a session on standard input and writes its listing, with the
 options of mvt. Where a row says so its session is run once for each of some numbers, and equal answers that follow one
@@ -14,7 +14,7 @@ import sys
 
 from rows import answers_by_number, session_with
 
-FOLDER = "crates/session_rows/data"
+FOLDER = "crates/worked_rows/data/sessions"
 # How many bytes a write takes, where one fails.
 BYTES_OF_A_WRITE = 50
 MACHINE = """./ VOLUME VOL001 100

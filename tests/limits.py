@@ -1,4 +1,4 @@
-"""Tells of a listing on standard input what a row of crates/session_rows wants where it has the command !last N.
+"""Tells of a listing on standard input what a row of a session wants where it has the command !last N.
 
 That is how many lines it has, its digest, and its last N lines. The digest is the sum of all bytes times their
 places, which count from 1, modulo 2 ^ 32.

@@ -1,6 +1,6 @@
 """Runs mutated sessions, and asks of each that the program ends well: in ten seconds, by no signal, with status 0, 1 or 3 and what is said of it.
 
-The sessions are those of crates/session_rows and examples/, of which lines and bytes are changed: a number stands for
+The sessions are those of crates/worked_rows and examples/, of which lines and bytes are changed: a number stands for
 one of them. With a reference's command what it lists, says and ends with is asked for too. A session that fails is
 kept in out/mutated, and the numbers of those that fail are told.
 Usage: python3 tests/mutated_sessions.py PROGRAM FIRST COUNT [COMMAND..]
@@ -33,7 +33,7 @@ EVENTS = ("TURN {i}", "TURN {i}*{n}", "WRITE A*{n}", "DEV VOL001", "CANCEL {i}",
 def sessions():
     """The sessions that are mutated, and options."""
     found = set()
-    for path in sorted(glob.glob("crates/session_rows/data/*.rows")):
+    for path in sorted(glob.glob("crates/worked_rows/data/sessions/*.rows")):
         for _, put_in, _ in rows_of(path):
             found.add(unescaped("\n".join(repeated(session_with(put_in, 9).rstrip("\n").split("\n"))) + "\n"))
     for path in sorted(glob.glob("examples/*.session")):

@@ -1,11 +1,11 @@
 #!/bin/sh
 # Refuses the allocations of proved programs one at a time, the first, then the second and so on, until a run asks for no more.
-# - The row programs show the values of a call that wants memory before and behind it, and make the call again: no row may come out as
-#   another than it is, but by a line MEMORY. Of a session they drive the events too: the event for which memory was wanting is done again.
+# - worked_rows shows the values of a call that wants memory before and behind it, and makes the call again: no row may come out as
+#   another than it is, but by a line MEMORY. Of a session it drives the events too: the event for which memory was wanting is done again.
 # - The program, on a session of examples/ or of wanting.rows, must write the listing of a whole number of its events and end with status
 #   3, or write all of it; a run writes never less than one in which an earlier allocation is refused, and the last that wants memory all
 #   but at most one event's.
-# It needs a C compiler, ./mvt (make mvt) and the row programs that the gate built.
+# It needs a C compiler, ./mvt (make mvt) and worked_rows as the gate built it.
 # Usage: tests/refused_memory.sh
 
 cd "$(dirname "$0")/.." || exit 2
@@ -50,16 +50,18 @@ if [ ! -x ./mvt ]; then
 fi
 failed=0
 
-# The rows of a table: CRATE TABLE STEP NAME tries each STEPth allocation.
+program=$PWD/crates/worked_rows/out/worked_rows
+tables=crates/worked_rows/data
+if [ ! -x "$program" ]; then
+    echo "$program is not there: make test builds it"
+    exit 2
+fi
+
+# The rows of a table: TOPIC TABLE STEP NAME tries each STEPth allocation.
 try_table() {
-    program=$PWD/crates/$1/out/$1
-    if [ ! -x "$program" ]; then
-        echo "$program is not there: make test builds it"
-        exit 2
-    fi
     input=/dev/null
     number=1
-    while refusing "$number" "$program" "$2"; status=$?; [ -s "$work/told" ]; do
+    while refusing "$number" "$program" "$1" "$2"; status=$?; [ -s "$work/told" ]; do
         if [ $status -gt 3 ] || grep -qx CHANGED "$work/err" || { grep -qx -e '-- came' "$work/err" && ! grep -qx MEMORY "$work/err"; }; then
             echo "$1: $4: allocation $number: status $status"
             cat "$work/err"
@@ -70,10 +72,10 @@ try_table() {
     echo "$1: $4: of $((number - 1)) allocations one in $3 was refused in turn"
 }
 
-for table in volumes catalog groups extents records mounted; do try_table volume_rows crates/volume_rows/data/$table.rows 1 $table; done
-try_table machine_rows crates/machine_rows/data/places.rows 1 places
-try_table store_rows crates/store_rows/data/stores.rows 7 stores
-try_table session_rows crates/session_rows/data/configurations.rows 7 configurations
+for table in volumes catalog groups extents records mounted; do try_table volumes $tables/volumes/$table.rows 1 $table; done
+try_table machine $tables/machine/places.rows 1 places
+try_table stores $tables/stores/stores.rows 7 stores
+try_table sessions $tables/sessions/configurations.rows 7 configurations
 
 # How many bytes the events of the session list: the first, the first two, and so on.
 sizes_of() {
@@ -130,9 +132,9 @@ try_session() {
 
 # Each row of wanting.rows in a table of its own, and its session with the program.
 mkdir "$work/rows"
-awk -v folder="$work/rows" '/^== /{name = sprintf("%s/%02d", folder, ++count)} count {print >name}' crates/session_rows/data/wanting.rows
+awk -v folder="$work/rows" '/^== /{name = sprintf("%s/%02d", folder, ++count)} count {print >name}' $tables/sessions/wanting.rows
 for row in "$work"/rows/*; do
-    try_table session_rows "$row" 1 "$(head -n 1 "$row")"
+    try_table sessions "$row" 1 "$(head -n 1 "$row")"
     sed '1d; /^=>$/,$d; /^!/d' "$row" >"$work/session"
     sed '1,/^=>$/d; /^$/d' "$row" >"$work/listing"
     options=$(sed -n 's/^!\(risk [a-z]*\|views [0-9]*\|explain\)$/--\1/p' "$row")

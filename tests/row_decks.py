@@ -1,9 +1,9 @@
 """Analyses the decks of all rows over both ways to keep views, and tells where these answer differently.
 
-The decks are those of the tables of session_rows, store_rows, record_rows and path_rows, each with the volumes, units, sets, entries
-and procedures that stand before it; groups are left out. Those of the laws of jcl_rows find nothing and may make their sets on one
-volume. path_rows compares the two answers, with path, step and DD.
-Usage: python3 tests/row_decks.py [FILE]      behind `make test` or `make rows`, which build path_rows; FILE keeps the table
+The decks are those of the tables of sessions, stores, records and paths, each with the volumes, units, sets, entries and procedures that
+stand before it; groups are left out. Those of the laws of jcl_rows find nothing and may make their sets on one volume. worked_rows
+compares the two answers, with path, step and DD.
+Usage: python3 tests/row_decks.py [FILE]      behind `make test` or `make rows`, which build worked_rows; FILE keeps the table
 """
 
 import glob
@@ -16,8 +16,9 @@ import tempfile
 
 from rows import repeated, rows_of, session_with, unescaped
 
-PROGRAM = "crates/path_rows/out/path_rows"
-# What a row of path_rows keeps of a table whose commands it shares.
+PROGRAM = "crates/worked_rows/out/worked_rows"
+TABLES = "crates/worked_rows/data"
+# What a row of a path keeps of a table whose commands it shares.
 KEPT = ("UNIT ", "ENTRY ", "CARD ", "PLACE ")
 # What a job finds of which a row says nothing.
 FOUND = ["UNIT SYSDA", "UNIT DISK", "VOLUME VOL001", "PLACES VOL001"]
@@ -59,7 +60,7 @@ def blocks_of(lines):
 
 
 def of_session(text):
-    """The input of a row of path_rows for each deck of a session."""
+    """The input of a row of a path for each deck of a session."""
     found, procedures, serials = [], [], []
     for words, block in blocks_of(text.split("\n")):
         kind = words[0]
@@ -79,7 +80,7 @@ def of_session(text):
 
 
 def of_table(lines):
-    """The input of a row of path_rows for a row that has the job's cards and what it finds."""
+    """The input of a row of a path for a row that has the job's cards and what it finds."""
     found, procedure, procedures, serials = [], [], [], []
     for line in lines:
         words = line.split()
@@ -102,7 +103,7 @@ def of_table(lines):
 
 
 def of_records(lines):
-    """The input of a row of path_rows for each deck of a row about records."""
+    """The input of a row of a path for each deck of a row about records."""
     deck = None
     for line in lines:
         if line == "/ENDDECK":
@@ -115,7 +116,7 @@ def of_records(lines):
 
 
 def of_laws(text):
-    """The input of a row of path_rows for each deck that stands as a text in a file of laws."""
+    """The input of a row of a path for each deck that stands as a text in a file of laws."""
     for deck in re.findall(r'"(//\w+ +JOB\b[^"\\]*(?:\\n[^"\\]*)*)"', text):
         yield FOUND + [f"CARD {card}" for card in deck.split("\\n") if card]
 
@@ -130,22 +131,22 @@ def sessions_of(put_in):
 
 
 def inputs():
-    """The name and the input of each row of path_rows."""
-    for path in sorted(glob.glob("crates/*/data/*.rows")):
-        crate = path.split("/")[1]
+    """What each deck is from, its name, and its input as a row of a path."""
+    for path in sorted(glob.glob(f"{TABLES}/*/*.rows")):
+        topic = os.path.basename(os.path.dirname(path))
         for name, put_in, _ in rows_of(path):
-            if crate == "session_rows":
+            if topic == "sessions":
                 made = [it for session in sessions_of(put_in) for it in itertools.islice(of_session(session), MOST_OF_A_SESSION)]
-            elif crate == "store_rows":
+            elif topic == "stores":
                 made = list(of_table(put_in.split("\n")))
-            elif crate == "record_rows":
+            elif topic == "records":
                 made = list(of_records(put_in.split("\n")))
-            elif crate == "path_rows":
+            elif topic == "paths":
                 made = [put_in.rstrip("\n").split("\n")]
             else:
                 made = []
             for number, lines in enumerate(made, 1):
-                yield crate, f"{path} {name} {number}", lines
+                yield topic, f"{path} {name} {number}", lines
     for path in sorted(glob.glob("crates/jcl_rows/specs/*.antt")):
         with open(path, encoding="utf-8") as file:
             for number, lines in enumerate(of_laws(file.read()), 1):
@@ -155,23 +156,23 @@ def inputs():
 def main():
     os.chdir(os.path.join(os.path.dirname(os.path.abspath(__file__)), ".."))
     seen, table, counts = set(), [], {}
-    for crate, name, lines in inputs():
+    for origin, name, lines in inputs():
         text = "\n".join(line for line in lines if line.isascii())
         if text in seen:
             continue
         seen.add(text)
-        counts[crate] = counts.get(crate, 0) + 1
+        counts[origin] = counts.get(origin, 0) + 1
         table.append(f"== {name}\n{text}\n=>\nnothing is wanted\n")
     with tempfile.TemporaryDirectory() as folder:
         path = sys.argv[1] if len(sys.argv) > 1 else os.path.join(folder, "decks.rows")
         with open(path, "w", encoding="ascii") as file:
             file.write("\n".join(table))
-        run = subprocess.run([PROGRAM, path], capture_output=True, text=True, check=False)
+        run = subprocess.run([PROGRAM, "paths", path], capture_output=True, text=True, check=False)
     told = run.stderr.split("\n")
     kinds = {word: sum(1 for line in told if line.startswith(word)) for word in ("SAFE", "RISK", "TOOMANY", "REFUSED")}
     wrong = [line for line in told if line.startswith(("BY PLAIN VIEWS", "ITS PATH IS NOT TAKEN"))]
     print(run.stdout.strip())
-    print("decks that differ: " + ", ".join(f"{count} of {crate}" for crate, count in sorted(counts.items())))
+    print("decks that differ: " + ", ".join(f"{count} of {origin}" for origin, count in sorted(counts.items())))
     print("answers: " + ", ".join(f"{count} {word}" for word, count in kinds.items()) + f"; {len(wrong)} where the two ways differ")
     sys.exit(1 if wrong or not kinds["SAFE"] else 0)
 

@@ -1,6 +1,6 @@
-"""Compares all worked rows that are texts: the row programs with their tables, and ./mvt with the rows that are whole sessions.
+"""Compares all worked rows that are texts: worked_rows with their tables, and ./mvt with the rows that are whole sessions.
 
-Usage: python3 tests/rows.py PROGRAM       behind `make test` or `make rows`, which build the row programs
+Usage: python3 tests/rows.py PROGRAM       behind `make test` or `make rows`, which build worked_rows
 """
 
 import glob
@@ -10,7 +10,7 @@ import re
 import subprocess
 import sys
 
-PROGRAMS = ("volume_rows", "record_rows", "machine_rows", "store_rows", "session_rows", "path_rows")
+FOLDER = "crates/worked_rows"
 # The commands of a session's row that the program can be asked by its options, or that leave the listing as it is.
 PLAIN = ("risk ", "views ", "explain", "read ", "write ", "driven", "times ", "end")
 
@@ -20,14 +20,13 @@ def text_of(path):
         return file.read()
 
 
-def compare_tables(crate):
-    """Runs a row program on its tables, and returns whether it said what stands in its file stdout."""
-    folder = os.path.join("crates", crate)
-    command = [os.path.abspath(os.path.join(folder, "out", crate)), *text_of(os.path.join(folder, "args")).split()]
-    run = subprocess.run(command, cwd=os.path.join(folder, "data"), capture_output=True, text=True, check=False)
+def compare_tables():
+    """Runs worked_rows on its tables, and returns whether it said what stands in its file stdout."""
+    command = [os.path.abspath(f"{FOLDER}/out/worked_rows"), *text_of(f"{FOLDER}/args").split()]
+    run = subprocess.run(command, cwd=f"{FOLDER}/data", capture_output=True, text=True, check=False)
     sys.stdout.write(run.stdout)
     sys.stderr.write(run.stderr)
-    return run.returncode == 0 and run.stdout == text_of(os.path.join(folder, "stdout"))
+    return run.returncode == 0 and run.stdout == text_of(f"{FOLDER}/stdout")
 
 
 def rows_of(path):
@@ -102,8 +101,8 @@ def compare_sessions(program, path):
 
 def main():
     os.chdir(os.path.join(os.path.dirname(os.path.abspath(__file__)), ".."))
-    holds = all([compare_tables(crate) for crate in PROGRAMS])
-    sums = [compare_sessions(sys.argv[1], path) for path in sorted(glob.glob("crates/session_rows/data/*.rows"))]
+    holds = compare_tables()
+    sums = [compare_sessions(sys.argv[1], path) for path in sorted(glob.glob(f"{FOLDER}/data/sessions/*.rows"))]
     print(f"{sys.argv[1]}: {sum(count for count, _ in sums)} rows that are whole sessions")
     sys.exit(0 if holds and not any(failed for _, failed in sums) else 1)
 

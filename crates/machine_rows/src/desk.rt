@@ -125,7 +125,7 @@ fn watches_in(alloc: Global, line: &mut Line<'_>) -> Listed<Text> {
 }
 
 /// What the commands of a row tell, in turn. All names are given free behind them.
-pub(crate) fn answer(alloc: Global, input: &[u8], told: &mut Told) {
+pub fn answer(alloc: Global, input: &[u8], told: &mut Told) {
     let mut line = Line::new(alloc, input);
     let watches = watches_in(alloc, &mut line);
     let mut table = EnqTable::new(alloc);

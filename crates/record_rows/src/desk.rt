@@ -102,7 +102,7 @@ fn act(alloc: Global, desk: &mut Desk, line: &mut Line<'_>) {
 }
 
 /// What the commands of a row tell, in turn.
-pub(crate) fn answer(alloc: Global, input: &[u8], told: &mut Told) {
+pub fn answer(alloc: Global, input: &[u8], told: &mut Told) {
     let Some(store) = told.got(ListStore::new(alloc, LAYOUT_1)) else {
         return;
     };

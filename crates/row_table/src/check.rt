@@ -2,9 +2,8 @@
 use crate::table::{Row, Table};
 use crate::told::Told;
 use std::alloc::{AllocError, Global};
+use std::fs;
 use std::io::{self, Write};
-use std::process::ExitCode;
-use std::{env, fs};
 
 /// What a table is about: it answers a row's input.
 pub trait Subject {
@@ -61,22 +60,9 @@ fn check_rows<S: Subject>(
 }
 
 /// Compares the rows of a file, says how many there are, and tells whether each of them holds.
-fn check_file<S: Subject>(rt: &HostRuntime, subject: &S, name: &str) -> io::Result<bool> {
+pub fn check_file<S: Subject>(rt: &HostRuntime, subject: &S, name: &str) -> io::Result<bool> {
     let text = fs::read(rt, name)?;
     let (count, holds) = check_rows(rt, subject, name, text.as_slice())?;
     println!(rt; "{name}: {count} rows")?;
     Ok(holds)
-}
-
-/// Compares the rows of the files that the command line names: status 0 where each row holds, else 1.
-pub fn check_tables<S: Subject>(rt: &HostRuntime, subject: &S) -> io::Result<ExitCode> {
-    let mut holds = true;
-    for name in env::args(rt)?.skip(1) {
-        holds &= check_file(rt, subject, name.as_str())?;
-    }
-    Ok(if holds {
-        ExitCode::SUCCESS
-    } else {
-        ExitCode::from(1)
-    })
 }

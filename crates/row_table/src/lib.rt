@@ -1,4 +1,4 @@
-//! Tables of worked rows that a person can read and add to, and the program that compares them.
+//! Tables of worked rows that a person can read and add to, and how they are compared.
 #![tactic(auto)]
 
 pub mod check;

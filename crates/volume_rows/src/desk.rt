@@ -49,7 +49,7 @@ fn answer_all(alloc: Global, line: &mut Line<'_>) {
 }
 
 /// Answers each line of a row.
-pub(crate) fn answer(alloc: Global, input: &[u8], told: &mut Told) {
+pub fn answer(alloc: Global, input: &[u8], told: &mut Told) {
     let mut line = Line::new(alloc, input);
     if line.next() {
         answer_all(alloc, &mut line);

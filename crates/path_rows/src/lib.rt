@@ -1,5 +1,4 @@
-//! Compares the rows of the tables that the command line names: what is told of jobs before they run, and whether paths that are told lead to their
-//! faults.
+//! Worked jobs before they run: what is told of each, and whether paths that are told lead to their faults. The tables say which commands there are.
 #![tactic(auto)]
 
 mod case;
@@ -13,14 +12,9 @@ mod words;
 use crate::case::{Case, Reader, Unread};
 use crate::job::push_job;
 use plain::draft::Draft;
-use row_table::check::{Subject, check_tables};
 use row_table::told::Told;
 use std::alloc::{AllocError, Global};
-use std::process::ExitCode;
-use std::{io, str};
-
-/// Jobs before they run, and what is told of each.
-struct Jobs;
+use std::str;
 
 /// Reads a job and what it finds. A line that is not understood is told.
 fn read_case<'a>(alloc: Global, text: &'a str, out: &mut Draft) -> Result<Case<'a>, AllocError> {
@@ -53,15 +47,10 @@ fn tell(alloc: Global, input: &[u8]) -> Result<Draft, AllocError> {
     Ok(out)
 }
 
-impl Subject for Jobs {
-    fn answer(&self, alloc: Global, input: &[u8], told: &mut Told) {
-        let out = tell(alloc, input);
-        if let Some(out) = told.got(out) {
-            told.word(out.kept());
-        }
+/// Tells what a row asks for.
+pub fn answer(alloc: Global, input: &[u8], told: &mut Told) {
+    let out = tell(alloc, input);
+    if let Some(out) = told.got(out) {
+        told.word(out.kept());
     }
-}
-
-fn main(rt: HostRuntime) -> io::Result<ExitCode> {
-    check_tables(&rt, &Jobs)
 }

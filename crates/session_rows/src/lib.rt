@@ -1,4 +1,4 @@
-//! Compares the rows of the tables that the command line names: sessions with their listings, and texts with the statements that they are.
+//! Worked sessions with their listings, and texts with the statements that they are. The tables say which commands there are.
 #![tactic(auto)]
 
 mod commands;
@@ -15,15 +15,9 @@ use crate::each::tell_each;
 use crate::listing::tell_runs;
 use crate::row::new_row;
 use crate::statements::tell_statements;
-use row_table::check::{Subject, check_tables};
 use row_table::escapes::unescaped;
 use row_table::told::Told;
 use std::alloc::Global;
-use std::io;
-use std::process::ExitCode;
-
-/// Sessions, and what is told of each.
-struct Sessions;
 
 /// Tells the listing of a session, and that of its events where these are driven one after another and list something else.
 fn tell_listing(alloc: Global, asked: &Asked, text: &[u8], told: &mut Told) {
@@ -47,21 +41,15 @@ fn tell_text(alloc: Global, asked: &Asked, shown: &[u8], told: &mut Told) {
     }
 }
 
-impl Subject for Sessions {
-    /// Tells what a row asks for.
-    fn answer(&self, alloc: Global, input: &[u8], told: &mut Told) {
-        let mut row = new_row(alloc);
-        row.take(input, told);
-        if row.text.is_wanting() {
-            told.want();
-        }
-        match row.asked.each {
-            Some(span) => tell_each(alloc, &row.asked, row.text.as_slice(), span, told),
-            None => tell_text(alloc, &row.asked, row.text.as_slice(), told),
-        }
+/// Tells what a row asks for.
+pub fn answer(alloc: Global, input: &[u8], told: &mut Told) {
+    let mut row = new_row(alloc);
+    row.take(input, told);
+    if row.text.is_wanting() {
+        told.want();
     }
-}
-
-fn main(rt: HostRuntime) -> io::Result<ExitCode> {
-    check_tables(&rt, &Sessions)
+    match row.asked.each {
+        Some(span) => tell_each(alloc, &row.asked, row.text.as_slice(), span, told),
+        None => tell_text(alloc, &row.asked, row.text.as_slice(), told),
+    }
 }
