@@ -10,7 +10,7 @@ ghost use Rattle.mvt_check.specs.Checking.{AddsAll, AddsDeck, AddsEvent, AddsSai
 
 use answer_core::answer::{Answer, Answered};
 use answer_core::session::answers_of;
-use answer_words::words::push_answer;
+use answer_core::words::push_answer;
 use check_core::deck::{Sources, check_deck};
 use check_core::report::Checked;
 use check_core::text::push_checked;

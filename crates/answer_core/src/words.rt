@@ -1,10 +1,10 @@
 //! The words for an answer.
 ghost use Rattle.std.specs.Prelude.{◌≡◌, ℕ, ◌++◌, List, OnOk, codes, decimal};
-ghost use Rattle.answer_words.specs.Words.{beginning, number_text, verdict_text};
+ghost use Rattle.answer_core.specs.Words.{beginning, number_text, verdict_text};
 
+use crate::answer::{Answer, Answered};
 use crate::names::{push_count, push_number, push_step};
 use crate::risk::push_risk;
-use answer_core::answer::{Answer, Answered};
 use jcl_plan::plan::JobPlan;
 use std::alloc::{AllocError, Global};
 
