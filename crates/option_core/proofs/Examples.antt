@@ -4,7 +4,7 @@ use Rattle.std.specs.Borrow.{Bor}
 use Rattle.clap.specs.Words.{Text}
 use Rattle.clap.proofs.OnLiterals.{clap_on_literals}
 use Rattle.option_core.specs.CommandLines.{AreChoices, Choices, program_with}
-use Rattle.option_core.specs.Examples.{AreExamples, AreOwnExamples}
+use Rattle.option_core.specs.Examples.{AreExamples, AreOwnExamples, own_flags}
 
 abbrev pub choices_at : (whole first second : ℕ × ℕ) → Choices
 choices_at whole first second =
@@ -32,30 +32,8 @@ at_places P each choices so = by choices.ref_ptr choices.now so
 
 pub examples : (whole first second : ℕ × ℕ) → AreExamples (program_with (codes "mvt") [] (choices_at whole first second))
 unfolding clap_on_literals
-examples whole first second = record {
-  nothing = (refl, refl);
-  refuses = (refl, refl);
-  views = (refl, refl);
-  both = (refl, refl);
-  explains = (refl, refl);
-  help = refl;
-  version = refl;
-  no_view = refl;
-  too_many = refl;
-  other_risk = refl;
-  twice = refl;
-  explain_with_value = refl;
-  explain_twice = refl;
-  own_of_another = refl;
-}
+examples whole first second = record { takes = refl; refuses = refl }
 
-pub own_examples : (whole first second : ℕ × ℕ) → AreOwnExamples (program_with (codes "mvt-play") (codes "events" ∷ []) (choices_at whole first second))
+pub own_examples : (whole first second : ℕ × ℕ) → AreOwnExamples (program_with (codes "mvt-play") own_flags (choices_at whole first second))
 unfolding clap_on_literals
-own_examples whole first second = record {
-  nothing = ((refl, refl), refl);
-  own = ((refl, refl), refl);
-  both = ((refl, refl), refl);
-  version = refl;
-  twice = refl;
-  with_value = refl;
-}
+own_examples whole first second = record { takes = refl; refuses = refl }

@@ -1,15 +1,15 @@
 //! Laws of what command lines ask for, without code.
-ghost use Rattle.std.specs.Prelude.{[], ◌∷◌, codes};
+ghost use Rattle.std.specs.Prelude.{[], codes};
 ghost use Rattle.clap.specs.Words.{App};
 ghost use Rattle.option_core.specs.CommandLines.{IsProgram};
-ghost use Rattle.option_core.specs.Examples.{AreExamples, AreOwnExamples};
+ghost use Rattle.option_core.specs.Examples.{AreExamples, AreOwnExamples, own_flags};
 
 /// Worked command lines: the options that they ask for, or the kind of error that they are told.
 pub fn reads_command_lines()
     ensures { (program : App) → IsProgram (codes "mvt") [] program → AreExamples program }
 {}
 
-/// Worked command lines of a program with an option of its own.
+/// Worked command lines of a program with two options of its own.
 pub fn reads_own_options()
-    ensures { (program : App) → IsProgram (codes "mvt-play") (codes "events" ∷ []) program → AreOwnExamples program }
+    ensures { (program : App) → IsProgram (codes "mvt-play") own_flags program → AreOwnExamples program }
 {}

@@ -6,5 +6,3 @@ pub mod ended;
 pub mod laws;
 pub mod options;
 pub mod program;
-#[cfg(test)]
-mod tests;

@@ -34,6 +34,8 @@ pub(crate) struct Asked {
     pub(crate) each: Option<Span>,
     /// Whether the events are driven one after another too.
     pub(crate) driven: bool,
+    /// Whether the lines are the words of a command line.
+    pub(crate) command_line: bool,
     /// How the text ends, where its statements are told and it is not run.
     pub(crate) statements: Option<Ending>,
 }
@@ -45,16 +47,18 @@ enum Command {
     Explain,
     Calls,
     Driven,
+    CommandLine,
     Statements(Ending),
     Fails(Failing, Failure),
 }
 
-const COMMANDS: [(&str, Command); 13] = [
+const COMMANDS: [(&str, Command); 14] = [
     ("risk run", Command::Risk(RiskChoice::Run)),
     ("risk refuse", Command::Risk(RiskChoice::Refuse)),
     ("explain", Command::Explain),
     ("calls", Command::Calls),
     ("driven", Command::Driven),
+    ("command line", Command::CommandLine),
     ("statements", Command::Statements(Ending::Whole)),
     (
         "statements of a long text",
@@ -128,6 +132,7 @@ pub(crate) fn asked_first() -> Asked {
         failing: None,
         each: None,
         driven: false,
+        command_line: false,
         statements: None,
     }
 }
@@ -177,6 +182,7 @@ impl Asked {
             Some(Command::Explain) => self.options.explains = true,
             Some(Command::Calls) => self.counts = true,
             Some(Command::Driven) => self.driven = true,
+            Some(Command::CommandLine) => self.command_line = true,
             Some(Command::Statements(ending)) => self.statements = Some(ending),
             Some(Command::Fails(failing, failure)) => self.fail(failing, failure),
             None => {}

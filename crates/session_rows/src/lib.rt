@@ -1,6 +1,7 @@
 //! Worked sessions with their listings, and texts with the statements that they are. The tables say which commands there are.
 #![tactic(auto)]
 
+mod command_lines;
 mod commands;
 mod driven;
 mod each;
@@ -9,6 +10,7 @@ mod row;
 mod statements;
 mod streams;
 
+use crate::command_lines::tell_command_line;
 use crate::commands::Asked;
 use crate::driven::list_driven;
 use crate::each::tell_each;
@@ -36,6 +38,7 @@ fn tell_text(alloc: Global, asked: &Asked, shown: &[u8], told: &mut Told) {
         return;
     };
     match asked.statements {
+        _ if asked.command_line => tell_command_line(alloc, text.as_slice(), told),
         Some(ending) => tell_statements(alloc, told, text.as_slice(), ending),
         None => tell_listing(alloc, asked, text.as_slice(), told),
     }
