@@ -1,8 +1,15 @@
 //! A session is run, and what is seen of it is kept.
 ghost use Rattle.std.specs.Prelude.{◌≡◌, false};
+ghost use Rattle.cb_meaning.specs.declared.layout.TheConstants.{LAYOUT_1};
+ghost use Rattle.cb_queue.specs.RecordQueues.{empty_queue};
+ghost use Rattle.config_core.specs.Configs.{Configuration};
+ghost use Rattle.config_core.specs.Configured.{IsConfigured};
+ghost use Rattle.config_core.specs.Starts.{IsTakenApart};
+ghost use Rattle.session_core.specs.Opening.{IsOpened};
 
 use crate::watch::Watch;
 use cb_queue::list_store::ListStore;
+use config_core::start::Fixed;
 use history_core::history::History;
 use input_core::event::Event;
 use sched_core::system::System;
@@ -13,6 +20,7 @@ use session_core::{Options, SessionEnd, SessionFault};
 use session_text::fault::Fault;
 use session_text::parse::statements;
 use session_text::statement::{Says, Statement};
+use shared_core::store::SharedStore;
 use std::alloc::{AllocError, Global};
 use std::io::Read;
 
@@ -59,17 +67,38 @@ fn run_from(
     Ok(SessionEnd)
 }
 
-/// Runs these statements.
-fn run(
+/// Starts a machine of these parts, and runs the statements behind the configuration.
+fn run_on(
     alloc: Global,
+    parts: (SharedStore, ListStore),
+    fixed: &Fixed,
+    statements: &[Statement<'_>],
+    late: Option<Fault>,
+    options: Options,
+    history: &mut History,
+) -> Result<SessionEnd, SessionFault>
+    requires configured { (c : Configuration) × IsConfigured c × IsTakenApart c parts.0 fixed.now }
+    requires empty { parts.1 ≡ empty_queue LAYOUT_1 }
+{
+    let (store, queue) = parts;
+    let Ok(mut system) = start(alloc, store, queue, fixed, options) else {
+        return Err(SessionFault::Memory);
+    };
+    let outcome = run_from(alloc, statements, late, &mut system, history);
+    system.close();
+    outcome
+}
+
+/// Runs the statements of a session that is opened.
+fn run_opened(
+    alloc: Global,
+    opened: Opened,
     statements: &[Statement<'_>],
     options: Options,
     history: &mut History,
-) -> Result<SessionEnd, SessionFault> {
-    let opened = match open(alloc, statements) {
-        Ok(opened) => opened,
-        Err(fault) => return Err(fault),
-    };
+) -> Result<SessionEnd, SessionFault>
+    requires { IsOpened statements.now opened }
+{
     let Opened {
         store,
         fixed,
@@ -77,13 +106,21 @@ fn run(
         from,
         late,
     } = opened;
-    let Ok(mut system) = start(alloc, store, queue, &fixed, options) else {
-        return Err(SessionFault::Memory);
-    };
     let (_, rest) = statements.split_at(from);
-    let outcome = run_from(alloc, rest, late, &mut system, history);
-    system.close();
-    outcome
+    run_on(alloc, (store, queue), &fixed, rest, late, options, history)
+}
+
+/// Runs these statements.
+fn run(
+    alloc: Global,
+    statements: &[Statement<'_>],
+    options: Options,
+    history: &mut History,
+) -> Result<SessionEnd, SessionFault> {
+    match open(alloc, statements) {
+        Ok(opened) => run_opened(alloc, opened, statements, options, history),
+        Err(fault) => Err(fault),
+    }
 }
 
 /// Reads a session of a source, runs it with these options, and keeps what is seen of it.

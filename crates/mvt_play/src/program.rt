@@ -1,5 +1,8 @@
 //! What the program does, over its streams: its status, and what it says on the stream of errors.
-ghost use Rattle.std.specs.Prelude.{◌≡◌, false};
+ghost use Rattle.std.specs.Prelude.{◌≡◌, codes, false};
+ghost use Rattle.option_core.specs.CommandLines.{has_text, texts};
+ghost use Rattle.session_core.specs.Streams.{sink_state, source_state};
+ghost use Rattle.mvt_play.specs.Endings.{IsStatus, PlaysAsAsked, status_of, status_of_text};
 
 use option_core::ended::{ALL_READ, Ended, SESSION_FAULT, end_out_of_memory};
 use option_core::options::Asked;
@@ -26,7 +29,9 @@ pub(crate) fn mvt_play<'a>() -> Program<'a> {
 }
 
 /// Says it, and ends so.
-fn end_saying<E: Write>(errors: &mut E, status: u8, text: &str) -> Ended {
+fn end_saying<E: Write>(errors: &mut E, status: u8, text: &str) -> Ended
+    ensures { result.status ≡ status }
+{
     Ended {
         status,
         said: write!(errors, "{text}\n").is_ok(),
@@ -34,7 +39,9 @@ fn end_saying<E: Write>(errors: &mut E, status: u8, text: &str) -> Ended {
 }
 
 /// Says how a session ended.
-fn end_session<E: Write>(errors: &mut E, outcome: Result<SessionEnd, SessionFault>) -> Ended {
+fn end_session<E: Write>(errors: &mut E, outcome: Result<SessionEnd, SessionFault>) -> Ended
+    ensures { result.status ≡ status_of outcome }
+{
     match outcome {
         Ok(SessionEnd) => Ended {
             status: ALL_READ,
@@ -65,7 +72,9 @@ fn end_with<E: Write>(
     errors: &mut E,
     waits: &[Waits],
     outcome: Result<SessionEnd, SessionFault>,
-) -> Ended {
+) -> Ended
+    ensures { IsStatus (status_of outcome) result.status }
+{
     match say_waits(alloc, errors, waits) {
         Ok(waits_said) => {
             let ended = end_session(errors, outcome);
@@ -79,7 +88,9 @@ fn end_with<E: Write>(
 }
 
 /// Says what came of the text with the added events.
-fn end_extended<E: Write>(alloc: Global, errors: &mut E, extended: Extended) -> Ended {
+fn end_extended<E: Write>(alloc: Global, errors: &mut E, extended: Extended) -> Ended
+    ensures { IsStatus (status_of_text extended) result.status }
+{
     match extended {
         Extended::Written(waits) => end_with(alloc, errors, waits.as_slice(), Ok(SessionEnd)),
         Extended::Cut => end_saying(
@@ -109,6 +120,9 @@ pub(crate) fn run_program<R: Read, W: Write, E: Write>(
 ) -> Ended
     requires source_unfailed { source.old.failed ≡ false }
     requires sink_unfailed { sink.old.failed ≡ false }
+    ensures { PlaysAsAsked (has_text (codes "events") (texts asked.now.given.items)) asked.now.options
+        (source_state R.remaining source.old) (source_state R.remaining source.new)
+        (sink_state W.contents sink.old) (sink_state W.contents sink.new) result.status }
 {
     if asked.has("events") {
         let extended = extend_streams(alloc, source, sink, asked.options);
