@@ -1,5 +1,5 @@
 -- What is told of a session's decks is what its machine tells.
-use Rattle.std.proofs.Common.{◌≡◌, inl, ℕ, true, List, [], drop, map, ap, subst, ◌∙◌}
+use Rattle.std.proofs.Common.{◌≡◌, ℕ, ◌+◌, true, List, [], None, ap, arith, drop, get_or, map, sym, ◌∙◌}
 use Rattle.cb_meaning.specs.declared.layout.TheConstants.{LAYOUT_1}
 use Rattle.config_core.specs.Configs.{Configuration}
 use Rattle.sched_core.specs.Starting.{IsStarted}
@@ -11,18 +11,19 @@ use Rattle.session_text.specs.declared.statement.Statement.{Statement}
 use Rattle.play_core.specs.Playing.{IsFound}
 use Rattle.play_core.specs.declared.given.Given.{Given}
 use Rattle.answer_core.specs.Answers.{statement_of}
-use Rattle.answer_core.specs.Telling.{AreAnswered, AreUntold, TellsAll}
-use Rattle.answer_core.specs.declared.answer.Answered.{Answered}
+use Rattle.answer_core.specs.Reading.{reading_from}
+use Rattle.answer_core.specs.Telling.{AreAnsweredFrom, TellsAll}
+use Rattle.answer_core.specs.declared.answer.Answers.{Answers}
+use Rattle.answer_core.proofs.Reading.{reading_behind, statements_of_decks}
+use Rattle.answer_core.proofs.Runs.{Kept}
 
-pub answered : (o : Options) (statements rest : List Statement) (at : ℕ) (config : Configuration) → IsConfiguredBy statements at config → (first : Machine) →
-    IsStarted config (refuses_in o) o.views true LAYOUT_1 first → (given added : List Given) → IsFound o (session_behind [] statements) given → added ≡ given →
-    rest ≡ drop at statements → (before start after : List Answered) → AreUntold statements before → start ≡ before → TellsAll first start rest added after →
-    map statement_of after ≡ map statement_of start → AreAnswered o statements after
-answered o statements rest at config by first started given added found is_given is before start after none is_before all same =
-    let from : TellsAll first before rest added after = subst (λ xs. TellsAll first xs rest added after) is_before all in
-    let with_given : TellsAll first before rest given after = subst (λ g. TellsAll first before rest g after) is_given from in
-    let now : TellsAll first before (drop at statements) given after = subst (λ xs. TellsAll first before xs given after) is with_given in
-    inl (record {
+pub answered : (o : Options) (statements : List Statement) (at : ℕ) (config : Configuration) (first last : Machine) (given : List Given) (before : Kept)
+    (answers : Answers) → IsConfiguredBy statements at config → IsStarted config (refuses_in o) o.views true LAYOUT_1 first →
+    IsFound o (session_behind [] statements) given → before ≡ [] → TellsAll statements at given first last before answers →
+    AreAnsweredFrom o statements answers
+answered o statements at config first last given before answers by started found none all =
+    let here : 0 + at ≡ at = omega arith in
+    record {
       at = at;
       config = config;
       configured = by;
@@ -30,9 +31,11 @@ answered o statements rest at config by first started given added found is_given
       started = started;
       given = given;
       found = found;
-      last = now.last;
-      entries = now.tells.entries;
-      drives = now.tells.drives;
-      decks = same ∙ ap (map statement_of) is_before ∙ none.decks;
-      told = now.tells.told [] none.untold;
-    })
+      last = last;
+      entries = all.entries;
+      drives = all.drives;
+      in_order = ap (map statement_of) all.decks_so ∙ statements_of_decks at (drop at statements) all.entries
+          ∙ sym (reading_behind 0 at statements by.not_begun by.within ∙ ap (λ n. reading_from n (drop at statements)) here);
+      decks = all.decks_so;
+      kept = all.kept [] (λ job. ap (λ b. get_or b job None) none);
+    }

@@ -1,4 +1,5 @@
 pub mod Answering
-pub mod Decks
 pub mod Noting
+pub mod Owning
+pub mod Reading
 pub mod Runs

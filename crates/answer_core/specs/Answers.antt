@@ -1,13 +1,13 @@
 -- What is kept of the lines that a machine writes: which jobs decks became, and what admission answers them. (This profile)
-use Rattle.std.specs.Prelude.{◌≡◌, ℕ, Bool, true, false, All, List, [], ◌∷◌, Option, Some, None, slice_get, if◌then◌else◌}
-use Rattle.std.specs.List.{Contains, flat_map}
+use Rattle.std.specs.Prelude.{◌≡◌, ℕ, Bool, true, false, List, [], ◌∷◌, Option, Some, None, fold, nat_eq, option_map, slice_index_or, if◌then◌else◌}
+use Rattle.std.specs.List.{flat_map}
 use Rattle.jcl_plan.specs.declared.entry.Entry.{Entry}
 use Rattle.jcl_plan.specs.declared.entry.Entry.TheVariants as entry
 use Rattle.jcl_plan.specs.declared.entry.JobLine.{JobLine}
 use Rattle.jcl_plan.specs.declared.entry.JobLine.TheVariants as line
 use Rattle.answer_core.specs.declared.answer.Answer.{Answer}
 use Rattle.answer_core.specs.declared.answer.Answer.TheVariants.{Assured, Risk, SpaceWait, TooMany}
-use Rattle.answer_core.specs.declared.answer.Answered.{Answered}
+use Rattle.answer_core.specs.declared.answer.DeckRead.{DeckRead}
 
 -- a line of a job that a deck became, also where the deck was refused
 abbrev pub has_number : JobLine → Bool
@@ -47,29 +47,38 @@ path_of other = []
 abbrev pub path_in : List Entry → List JobLine
 path_in lines = flat_map path_of lines
 
--- a line of these answers a job so
-abbrev pub Answers : List Entry → ℕ → Answer → Type 0
-Answers lines job answer = (l : JobLine) × Contains lines (entry.Job job l) × (answer_by (path_in lines) l ≡ Some answer)
+-- the number that lines of an event tell
+abbrev pub number_in : List Entry → Option ℕ
+number_in lines = fold number_behind None lines
 
--- lines of one of these events do
-abbrev pub IsAnsweredBy : List (List Entry) → ℕ → Answer → Type 0
-IsAnsweredBy entries job answer = (lines : List Entry) × Contains entries lines × Answers lines job answer
+-- the first number that events tell
+abbrev pub first_of : Option ℕ → Option ℕ → Option ℕ
+first_of (Some number) later = Some number
+first_of None later = later
 
--- what is told of a deck was told by one of these events
-abbrev pub TellsAnswer : List (List Entry) → Option ℕ → Option Answer → Type 0
-TellsAnswer entries job None = Unit {0}
-TellsAnswer entries None (Some answer) = ⊥
-TellsAnswer entries (Some job) (Some answer) = IsAnsweredBy entries job answer
+abbrev pub first_number : List (List Entry) → Option ℕ
+first_number [] = None
+first_number (lines ∷ more) = first_of (number_in lines) (first_number more)
 
-abbrev pub IsTold : List (List Entry) → Answered → Type 0
-IsTold entries a = TellsAnswer entries a.job a.answer
+-- the job that lines of an event answer, and what
+abbrev pub answered_by : List JobLine → Option (ℕ × JobLine) → Option (ℕ × Answer)
+answered_by path None = None
+answered_by path (Some (job, l)) = option_map (λ answer. (job, answer)) (answer_by path l)
 
-abbrev pub AreTold : List (List Entry) → List Answered → Type 0
-AreTold entries answers = All (IsTold entries) answers
+abbrev pub answered_in : List Entry → Option (ℕ × Answer)
+answered_in lines = answered_by (path_in lines) (fold answer_behind None lines)
 
--- the deck at a place became this job
-abbrev pub IsOfJob : List Answered → ℕ → ℕ → Type 0
-IsOfJob answers place job = (a : Answered) × (slice_get answers place ≡ Some a) × (a.job ≡ Some job)
+-- what a job is answered last, where it was answered so before
+abbrev pub answer_for : ℕ → Option Answer → Option (ℕ × Answer) → Option Answer
+answer_for job before None = before
+answer_for job before (Some (other, answer)) = if nat_eq other job then Some answer else before
 
-abbrev pub statement_of : Answered → ℕ
-statement_of a = a.statement
+abbrev pub last_answer : ℕ → List (List Entry) → Option Answer
+last_answer job entries = fold (λ before lines. answer_for job before (answered_in lines)) None entries
+
+-- each job has what these events answered it last
+abbrev pub AreKept : List (List Entry) → List (Option Answer) → Type 0
+AreKept entries answers = (job : ℕ) → slice_index_or answers job None ≡ last_answer job entries
+
+abbrev pub statement_of : DeckRead → ℕ
+statement_of deck = deck.statement

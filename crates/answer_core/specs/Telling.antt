@@ -1,5 +1,5 @@
 -- What becomes of the decks of a session, as a machine that it configures tells it. (This profile)
-use Rattle.std.specs.Prelude.{◌≡◌, ◌⊎◌, ℕ, Bool, true, false, List, [], ◌∷◌, ◌++◌, None, drop, is_some, map, replicate}
+use Rattle.std.specs.Prelude.{◌≡◌, ◌⊎◌, ℕ, ◌+◌, Bool, true, false, List, [], ◌∷◌, ◌++◌, Option, drop, is_some, map, replicate, take}
 use Rattle.cb_meaning.specs.declared.layout.TheConstants.{LAYOUT_1}
 use Rattle.config_core.specs.Configs.{Configuration}
 use Rattle.input_core.specs.declared.event.Event.{Event}
@@ -15,9 +15,11 @@ use Rattle.session_core.specs.declared.Options.{Options}
 use Rattle.play_core.specs.Given.{event_of}
 use Rattle.play_core.specs.Playing.{IsFound}
 use Rattle.play_core.specs.declared.given.Given.{Given}
-use Rattle.answer_core.specs.Answers.{AreTold, statement_of}
-use Rattle.answer_core.specs.Reading.{reading_from}
-use Rattle.answer_core.specs.declared.answer.Answered.{Answered}
+use Rattle.answer_core.specs.Answers.{AreKept, first_number, statement_of}
+use Rattle.answer_core.specs.Reading.{is_read, reading_from}
+use Rattle.answer_core.specs.declared.answer.Answer.{Answer}
+use Rattle.answer_core.specs.declared.answer.Answers.{Answers}
+use Rattle.answer_core.specs.declared.answer.DeckRead.{DeckRead}
 
 -- the events of these statements, up to the first statement that is none
 abbrev pub own_by : Says → List Event → List Event
@@ -29,30 +31,52 @@ abbrev pub own_events : List Statement → List Event
 own_events [] = []
 own_events (s ∷ statements) = own_by s.says (own_events statements)
 
--- Events lead from one machine to another, and what is told of decks behind them was told before or by one of these events.
-pub record Tells (old : Machine) (before : List Answered) (events : List Event) (new : Machine) (after : List Answered) : Type 0 where
+-- the deck of a statement, if it reads one: its job has the number that lines of its own event tell
+abbrev pub deck_if : Bool → ℕ → Option ℕ → List DeckRead
+deck_if true at job = record { statement = at; job = job } ∷ []
+deck_if false at job = []
+
+abbrev pub deck_of : ℕ → Says → List (List Entry) → List DeckRead
+deck_of at (says.Events e times) entries = deck_if (is_read e) at (first_number (take times entries))
+deck_of at (says.Config s has_end) entries = []
+deck_of at (says.Refused f) entries = []
+
+-- what the events behind a statement write; behind one that is no event none comes
+abbrev pub behind_of : Says → List (List Entry) → List (List Entry)
+behind_of (says.Events e times) entries = drop times entries
+behind_of (says.Config s has_end) entries = []
+behind_of (says.Refused f) entries = []
+
+-- the decks of these statements, of which the first has this number, where their events write this
+abbrev pub decks_from : ℕ → List Statement → List (List Entry) → List DeckRead
+decks_from at [] entries = []
+decks_from at (s ∷ statements) entries = deck_of at s.says entries ++ decks_from (at + 1) statements (behind_of s.says entries)
+
+-- Events lead from one machine to another; a number is the first that they tell, and what jobs were answered last is kept.
+pub record Tells (old : Machine) (before : List (Option Answer)) (events : List Event) (new : Machine) (after : List (Option Answer)) (number : Option ℕ) : Type 0 where
   pub entries : List (List Entry)
   pub drives : Drives old events entries new
-  pub told : (earlier : List (List Entry)) → AreTold earlier before → AreTold (earlier ++ entries) after
+  pub first : number ≡ first_number entries
+  pub kept : (earlier : List (List Entry)) → AreKept earlier before → AreKept (earlier ++ entries) after
 
--- the events of these statements, and those that are added, do so
-pub record TellsAll (first : Machine) (before : List Answered) (statements : List Statement) (given : List Given) (after : List Answered) : Type 0 where
-  pub last : Machine
-  pub tells : Tells first before (own_events statements ++ map event_of given) last after
+-- so do those of the statements from this one on, whose decks are these, whatever is written behind them
+pub record TellsOwn (all : List Statement) (from : ℕ) (first last : Machine) (decks : List DeckRead) (before after : List (Option Answer)) : Type 0 where
+  pub entries : List (List Entry)
+  pub drives : Drives first (own_events (drop from all)) entries last
+  pub decks_so : (more : List (List Entry)) → decks_from from (drop from all) (entries ++ more) ≡ decks
+  pub kept : (earlier : List (List Entry)) → AreKept earlier before → AreKept (earlier ++ entries) after
 
--- the deck of a statement that reads one
-abbrev pub deck_if : Bool → ℕ → List Answered
-deck_if true at = record { statement = at; job = None; answer = None } ∷ []
-deck_if false at = []
+-- the events of these statements, and those that are added
+pub record TellsAll (all : List Statement) (from : ℕ) (given : List Given) (first last : Machine) (before : List (Option Answer)) (after : Answers) : Type 0 where
+  pub entries : List (List Entry)
+  pub drives : Drives first (own_events (drop from all) ++ map event_of given) entries last
+  pub decks_so : after.decks.items ≡ decks_from from (drop from all) entries
+  pub kept : (earlier : List (List Entry)) → AreKept earlier before → AreKept (earlier ++ entries) after.by_job.items
 
--- the decks of these statements, each by the number of its statement, of which nothing is told
-pub record AreUntold (statements : List Statement) (answers : List Answered) : Type 0 where
-  pub decks : map statement_of answers ≡ reading_from 0 statements
-  pub untold : AreTold [] answers
-
--- Each deck of the session has a place, in their order. What is told of one is told by a machine that the statements before the first event configure,
--- started with these options and so that risks are explained, as it goes through the session's events and those that are added.
-pub record AreAnsweredFrom (o : Options) (statements : List Statement) (answers : List Answered) : Type 0 where
+-- A machine that the statements before the first event configure, started with these options and so that risks are explained, goes through the session's
+-- events and those that are added. The decks are those of the session in their order, each with the number that the lines of its own READ tell; and each
+-- job has what it was answered last.
+pub record AreAnsweredFrom (o : Options) (statements : List Statement) (answers : Answers) : Type 0 where
   pub at : ℕ
   pub config : Configuration
   pub configured : IsConfiguredBy statements at config
@@ -63,10 +87,15 @@ pub record AreAnsweredFrom (o : Options) (statements : List Statement) (answers 
   pub last : Machine
   pub entries : List (List Entry)
   pub drives : Drives first (own_events (drop at statements) ++ map event_of given) entries last
-  pub decks : map statement_of answers ≡ reading_from 0 statements
-  pub told : AreTold entries answers
+  pub in_order : map statement_of answers.decks.items ≡ reading_from 0 statements
+  pub decks : answers.decks.items ≡ decks_from at (drop at statements) entries
+  pub kept : AreKept entries answers.by_job.items
 
--- or the session has a fault, and no deck is told of
-abbrev pub AreAnswered : Options → List Statement → List Answered → Type 0
-AreAnswered o statements answers =
-    AreAnsweredFrom o statements answers ⊎ ((is_some (session_behind [] statements).fault ≡ true) × (answers ≡ []))
+-- or the session has a fault, and nothing is told
+pub record AreUnknown (statements : List Statement) (answers : Answers) : Type 0 where
+  pub fault : is_some (session_behind [] statements).fault ≡ true
+  pub decks : answers.decks.items ≡ []
+  pub kept : answers.by_job.items ≡ []
+
+abbrev pub AreAnswered : Options → List Statement → Answers → Type 0
+AreAnswered o statements answers = AreAnsweredFrom o statements answers ⊎ AreUnknown statements answers

@@ -1,4 +1,6 @@
-//! What became of a deck.
+//! What became of decks.
+ghost use Rattle.std.specs.Prelude.{◌≡◌, None, option_map, slice_index_or};
+
 use jcl_plan::entry::JobLine;
 use jcl_plan::fault::Fault;
 use jcl_plan::outcome::Outcome;
@@ -28,13 +30,32 @@ pub enum Answer {
     SpaceWait(Serial),
 }
 
-/// What became of a deck.
-#[derive(Drop)]
-pub struct Answered {
+/// A deck of a session.
+#[derive(Clone, Copy)]
+pub struct DeckRead {
     /// Which statement of the session reads it, counted from 0.
     pub statement: usize,
     /// The number of its job. A deck that is not read, since its event is never reached or is refused, has none.
     pub job: Option<u16>,
-    /// What admission answered its job, if it came so far.
-    pub answer: Option<Answer>,
+}
+
+/// What became of the decks of a session.
+#[derive(Drop)]
+pub struct Answers {
+    /// In the order of their statements.
+    pub decks: Vec<DeckRead>,
+    /// What admission answered each job last, at the place of the job's number.
+    pub by_job: Vec<Option<Answer>>,
+}
+
+impl Answers {
+    /// What admission answered this job last, if it came so far.
+    pub fn of_job(&self, job: u16) -> Option<&Answer>
+        ensures { option_map (λ a. a.now) result ≡ slice_index_or self.now.by_job.items job None }
+    {
+        match self.by_job.as_slice().get(usize::from(job)) {
+            Some(Some(answer)) => Some(answer),
+            _ => None,
+        }
+    }
 }

@@ -1,94 +1,42 @@
-//! What is told is noted at its deck.
-ghost use Rattle.std.specs.Prelude.{◌≡◌, List, IfSome, fold, map, true};
-ghost use Rattle.std.specs.List.{Contains};
-ghost use Rattle.jcl_plan.specs.declared.entry.Entry.{Entry};
-ghost use Rattle.answer_core.specs.Answers.{AreTold, IsOfJob, answer_behind, path_in, statement_of};
+//! What an event answers a job is noted at the job's number.
+ghost use Rattle.std.specs.Prelude.{◌≡◌, ◌≤◌, ℕ, None, OnOk, length, slice_index_or};
+ghost use Rattle.answer_core.specs.Answers.{answer_for, answered_by};
 
-use crate::answer::Answered;
-use crate::told::{Told, answer_by};
+use crate::answer::Answer;
+use crate::told::answer_by;
 use jcl_plan::entry::JobLine;
 use plain::listed::Listed;
+use std::alloc::AllocError;
 
-/// Notes the number of the job that a deck became, unless it has one.
-fn note_number(answers: &mut [Answered], place: usize, number: Option<u16>)
-    ensures statements { map statement_of answers.new ≡ map statement_of answers.old }
-    ensures told { (entries : List (List Entry)) → AreTold entries answers.old → AreTold entries answers.new }
+/// Makes places for the jobs below this number, without answers.
+fn make_places(by_job: &mut Vec<Option<Answer>>, count: usize) -> Result<(), AllocError>
+    ensures enough { OnOk result (count ≤ length by_job.new.items) }
+    ensures same { OnOk result ((job : ℕ) → slice_index_or by_job.new.items job None ≡ slice_index_or by_job.old.items job None) }
 {
-    let Some(job) = number else {
-        return;
-    };
-    if place >= answers.len() {
-        return;
+    for place in by_job.len()..count {
+        let _ = place;
+        by_job.push(None)?;
     }
-    let answered = &mut answers[place];
-    if answered.job.is_none() {
-        answered.job = Some(job);
-    }
-}
-
-/// Whether the deck became this job.
-fn is_of(answered: &Answered, job: u16) -> bool
-    ensures { result ≡ true → answered.now.job ≡ Some job }
-{
-    match answered.job {
-        Some(own) => own == job,
-        None => false,
-    }
-}
-
-/// The place of the deck that became this job, looked for deck by deck.
-fn place_among(answers: &[Answered], job: u16) -> Option<usize>
-    ensures { IfSome result (λ place. IsOfJob answers.now place job) }
-{
-    for (place, answered) in answers.iter().enumerate() {
-        if is_of(answered, job) {
-            return Some(place);
-        }
-    }
-    None
-}
-
-/// The place of the deck that became this job. Decks are mostly numbered as they stand, so the place of its number is tried first.
-fn place_of(answers: &[Answered], job: u16) -> Option<usize>
-    ensures { IfSome result (λ place. IsOfJob answers.now place job) }
-{
-    let near = usize::from(job).saturating_sub(1);
-    if near < answers.len() && is_of(&answers[near], job) {
-        return Some(near);
-    }
-    place_among(answers, job)
+    Ok(())
 }
 
 /// Notes what admission answers a job, by a line and those that explain it.
-fn note_answer(answers: &mut [Answered], told: Option<(u16, JobLine)>, path: Listed<JobLine>)
-    ensures statements { map statement_of answers.new ≡ map statement_of answers.old }
-    ensures told { (entries : List (List Entry)) (lines : List Entry) → Contains entries lines → told ≡ fold answer_behind None lines → path ≡ path_in lines →
-        AreTold entries answers.old → AreTold entries answers.new }
+pub(crate) fn note_answer(
+    by_job: &mut Vec<Option<Answer>>,
+    told: Option<(u16, JobLine)>,
+    path: Listed<JobLine>,
+) -> Result<(), AllocError>
+    ensures { OnOk result ((job : ℕ) →
+        slice_index_or by_job.new.items job None ≡ answer_for job (slice_index_or by_job.old.items job None) (answered_by path told)) }
 {
     let Some((job, line)) = told else {
-        return;
+        return Ok(());
     };
     let Some(answer) = answer_by(line, path) else {
-        return;
+        return Ok(());
     };
-    let Some(place) = place_of(answers, job) else {
-        return;
-    };
-    let answered = &mut answers[place];
-    answered.answer = Some(answer);
-}
-
-/// Notes what an event tells. A number is that of the deck at this place.
-pub(crate) fn note(answers: &mut [Answered], place: usize, told: Told)
-    ensures statements { map statement_of answers.new ≡ map statement_of answers.old }
-    ensures told { (entries : List (List Entry)) (lines : List Entry) → Contains entries lines → told.answer ≡ fold answer_behind None lines →
-        told.path ≡ path_in lines → AreTold entries answers.old → AreTold entries answers.new }
-{
-    let Told {
-        number,
-        answer,
-        path,
-    } = told;
-    note_number(answers, place, number);
-    note_answer(answers, answer, path);
+    let place = usize::from(job);
+    make_places(by_job, place + 1)?;
+    by_job[place] = Some(answer);
+    Ok(())
 }

@@ -1,12 +1,15 @@
 //! What admission answers the jobs of a session.
-ghost use Rattle.std.specs.Prelude.{◌≡◌, ◌∷◌, ◌++◌, [], IfOk, OnOk, map, replicate};
+ghost use Rattle.std.specs.Prelude.{◌≡◌, ◌≤◌, ◌∷◌, ◌++◌, [], IfOk, OnOk, drop, length, map, replicate};
 ghost use Rattle.play_core.specs.Given.{event_of};
-ghost use Rattle.answer_core.specs.Answers.{statement_of};
-ghost use Rattle.answer_core.specs.Reading.{reads};
-ghost use Rattle.answer_core.specs.Telling.{AreAnswered, AreUntold, TellsAll, Tells, deck_if, own_events};
+ghost use Rattle.answer_core.specs.Answers.{first_of};
+ghost use Rattle.answer_core.specs.Reading.{is_read};
+ghost use Rattle.play_core.specs.Playing.{IsFound};
+ghost use Rattle.session_core.specs.Opening.{IsOpened};
+ghost use Rattle.session_core.specs.Sessions.{session_behind};
+ghost use Rattle.answer_core.specs.Telling.{AreAnswered, AreAnsweredFrom, Tells, TellsAll, TellsOwn, deck_if, deck_of, decks_from};
 
-use crate::answer::Answered;
-use crate::noted::note;
+use crate::answer::{Answer, Answers, DeckRead};
+use crate::noted::note_answer;
 use crate::told::told_by;
 use cb_queue::list_store::ListStore;
 use input_core::event::Event;
@@ -18,154 +21,180 @@ use session_core::{Options, SessionFault};
 use session_text::statement::{Says, Statement};
 use std::alloc::{AllocError, Global};
 
-/// Whether the statement reads a deck.
-fn reads(says: &Says<'_>) -> bool
-    ensures { result ≡ reads says.now }
+/// Whether the event reads a deck.
+fn is_read(event: &Event<'_>) -> bool
+    ensures { result ≡ is_read event.now }
 {
-    matches!(says, Says::Events(Event::Read(_), _))
+    matches!(event, Event::Read(_))
 }
 
-/// Adds the deck of a statement, if it reads one.
+/// Adds the deck of a statement, if its event reads one, whose job got this number.
 fn add_deck(
-    answers: &mut Vec<Answered>,
+    decks: &mut Vec<DeckRead>,
     statement: usize,
-    says: &Says<'_>,
+    event: &Event<'_>,
+    job: Option<u16>,
 ) -> Result<(), AllocError>
-    ensures { OnOk result (answers.new.items ≡ answers.old.items ++ deck_if (reads says.now) statement) }
+    ensures { OnOk result (decks.new.items ≡ decks.old.items ++ deck_if (is_read event.now) statement job) }
 {
-    if !reads(says) {
+    if !is_read(event) {
         return Ok(());
     }
-    answers.push(Answered {
-        statement,
-        job: None,
-        answer: None,
-    })?;
+    decks.push(DeckRead { statement, job })?;
     Ok(())
 }
 
-/// The decks of a session, of which nothing is told yet.
-fn untold(alloc: Global, statements: &[Statement<'_>]) -> Result<Vec<Answered>, AllocError>
-    ensures { IfOk result (λ answers. AreUntold statements.now answers.items) }
+/// Adds the deck of a statement that is not reached, if it has one.
+fn add_unread(decks: &mut Vec<DeckRead>, at: usize, says: &Says<'_>) -> Result<(), AllocError>
+    ensures { OnOk result (decks.new.items ≡ decks.old.items ++ deck_of at says.now []) }
 {
-    let mut answers = Vec::new(alloc);
-    for (at, statement) in statements.iter().enumerate() {
-        add_deck(&mut answers, at, &statement.says)?;
+    match says {
+        Says::Events(event, _) => add_deck(decks, at, event, None),
+        _ => Ok(()),
     }
-    Ok(answers)
 }
 
-/// Gives an event to the machine, and notes what it tells. A deck that it reads is that of this place.
+/// Adds the decks of the statements from this one on, none of which is reached.
+fn add_all_unread(
+    decks: &mut Vec<DeckRead>,
+    statements: &[Statement<'_>],
+    from: usize,
+) -> Result<(), AllocError>
+    requires { from ≤ length statements.now }
+    ensures { OnOk result (decks.new.items ≡ decks.old.items ++ decks_from from (drop from statements.now) []) }
+{
+    for at in from..statements.len() {
+        add_unread(decks, at, &statements[at].says)?;
+    }
+    Ok(())
+}
+
+/// The first of two numbers, where there is one.
+fn first_of(one: Option<u16>, later: Option<u16>) -> Option<u16>
+    ensures { result ≡ first_of one later }
+{
+    match one {
+        Some(number) => Some(number),
+        None => later,
+    }
+}
+
+/// Gives an event to the machine, notes what it answers, and tells the number that a job gets.
 fn apply(
     alloc: Global,
     event: &Event<'_>,
-    place: usize,
     system: &mut System<'_, ListStore>,
-    answers: &mut [Answered],
-) -> Result<(), AllocError>
-    ensures statements { map statement_of answers.new ≡ map statement_of answers.old }
-    ensures tells { OnOk result (Tells system.old answers.old (event.now ∷ []) system.new answers.new) }
+    by_job: &mut Vec<Option<Answer>>,
+) -> Result<Option<u16>, AllocError>
+    ensures { IfOk result (Tells system.old by_job.old.items (event.now ∷ []) system.new by_job.new.items) }
 {
     let lines = system.apply_shown(event)?;
     let told = told_by(alloc, lines)?;
-    note(answers, place, told);
-    Ok(())
+    note_answer(by_job, told.answer, told.path)?;
+    Ok(told.number)
 }
 
-/// Gives an event so many times.
+/// Gives an event so many times, and tells the first number that a job gets.
 fn repeat(
     alloc: Global,
     event: &Event<'_>,
     times: u16,
-    place: usize,
     system: &mut System<'_, ListStore>,
-    answers: &mut [Answered],
-) -> Result<(), AllocError>
-    ensures statements { map statement_of answers.new ≡ map statement_of answers.old }
-    ensures tells { OnOk result (Tells system.old answers.old (replicate times event.now) system.new answers.new) }
+    by_job: &mut Vec<Option<Answer>>,
+) -> Result<Option<u16>, AllocError>
+    ensures { IfOk result (Tells system.old by_job.old.items (replicate times event.now) system.new by_job.new.items) }
 {
+    let mut number = None;
     for done in 0..times {
         let _ = done;
-        apply(alloc, event, place, system, answers)?;
+        let next = apply(alloc, event, system, by_job)?;
+        number = first_of(number, next);
     }
-    Ok(())
+    Ok(number)
 }
 
-/// Gives the events of the statements, up to the first statement that is none.
+/// Gives the events of the statements from this one on, up to the first statement that is none.
 fn run_own(
     alloc: Global,
     statements: &[Statement<'_>],
+    from: usize,
     system: &mut System<'_, ListStore>,
-    answers: &mut [Answered],
+    decks: &mut Vec<DeckRead>,
+    by_job: &mut Vec<Option<Answer>>,
 ) -> Result<(), AllocError>
-    ensures statements { map statement_of answers.new ≡ map statement_of answers.old }
-    ensures tells { OnOk result (Tells system.old answers.old (own_events statements.now) system.new answers.new) }
+    requires within { from ≤ length statements.now }
+    requires empty { decks.old.items ≡ [] }
+    ensures { OnOk result (TellsOwn statements.now from system.old system.new decks.new.items by_job.old.items by_job.new.items) }
 {
-    let mut place: usize = 0;
-    for statement in statements {
-        match &statement.says {
+    for at in from..statements.len() {
+        match &statements[at].says {
             Says::Events(event, times) => {
-                repeat(alloc, event, *times, place, system, answers)?;
+                let job = repeat(alloc, event, *times, system, by_job)?;
+                add_deck(decks, at, event, job)?;
             }
-            Says::Config { .. } => return Ok(()),
-            Says::Refused(_) => return Ok(()),
-        }
-        if reads(&statement.says) {
-            place = place.saturating_add(1);
+            Says::Config { .. } => return add_all_unread(decks, statements, at),
+            Says::Refused(_) => return add_all_unread(decks, statements, at),
         }
     }
     Ok(())
 }
 
-/// Gives the events that are added. None of them reads a deck.
+/// Gives the events that are added.
 fn run_added(
     alloc: Global,
     given: &[Given],
     system: &mut System<'_, ListStore>,
-    answers: &mut [Answered],
-) -> Result<(), AllocError>
-    ensures statements { map statement_of answers.new ≡ map statement_of answers.old }
-    ensures tells { OnOk result (Tells system.old answers.old (map event_of given.now) system.new answers.new) }
+    by_job: &mut Vec<Option<Answer>>,
+) -> Result<Option<u16>, AllocError>
+    ensures { IfOk result (Tells system.old by_job.old.items (map event_of given.now) system.new by_job.new.items) }
 {
-    let behind = answers.len();
+    let mut number = None;
     for next in given {
-        apply(alloc, &next.event(), behind, system, answers)?;
+        let told = apply(alloc, &next.event(), system, by_job)?;
+        number = first_of(number, told);
     }
-    Ok(())
+    Ok(number)
 }
 
-/// Gives a machine the events that a session has itself, and then those that are added.
+/// Gives a machine the events of the statements from this one on, and then those that are added.
 fn run_all(
     alloc: Global,
     statements: &[Statement<'_>],
+    from: usize,
     given: &[Given],
     system: &mut System<'_, ListStore>,
-    answers: &mut [Answered],
+    answers: &mut Answers,
 ) -> Result<(), AllocError>
-    ensures statements { map statement_of answers.new ≡ map statement_of answers.old }
-    ensures tells { OnOk result (TellsAll system.old answers.old statements.now given.now answers.new) }
+    requires within { from ≤ length statements.now }
+    requires empty { answers.old.decks.items ≡ [] }
+    ensures { OnOk result (TellsAll statements.now from given.now system.old system.new answers.old.by_job.items answers.new) }
 {
-    run_own(alloc, statements, system, answers)?;
-    run_added(alloc, given, system, answers)?;
+    run_own(
+        alloc,
+        statements,
+        from,
+        system,
+        &mut answers.decks,
+        &mut answers.by_job,
+    )?;
+    run_added(alloc, given, system, &mut answers.by_job)?;
     Ok(())
 }
 
-/// For each statement of a session that reads a deck, in their order, what became of its job: as the session's events leave it, and those by which
-/// `mvt-play` plays it on. A session whose configuration has a fault reads none; one with a later fault is not played on.
-pub fn answers_of(
+/// Runs a session that is opened, and then the events that are added.
+fn run_opened(
     alloc: Global,
     statements: &[Statement<'_>],
     options: Options,
-) -> Result<Vec<Answered>, AllocError>
-    ensures { IfOk result (λ answers. AreAnswered options statements.now answers.items) }
+    opened: Opened,
+    given: &[Given],
+    answers: &mut Answers,
+) -> Result<(), AllocError>
+    requires opened { IsOpened statements.now opened }
+    requires given { IsFound options (session_behind [] statements.now) given.now }
+    requires empty { (answers.old.decks.items ≡ []) × (answers.old.by_job.items ≡ []) }
+    ensures { OnOk result (AreAnsweredFrom options statements.now answers.new) }
 {
-    let opened = match open(alloc, statements) {
-        Ok(opened) => opened,
-        Err(SessionFault::Stopped(_, _)) => return Ok(Vec::new(alloc)),
-        Err(_) => return Err(AllocError),
-    };
-    let given = added_events(alloc, statements, options)?;
-    let mut answers = untold(alloc, statements)?;
     let Opened {
         store,
         fixed,
@@ -178,15 +207,32 @@ pub fn answers_of(
         ..options
     };
     let mut system = start(alloc, store, queue, &fixed, explaining)?;
-    let (_, rest) = statements.split_at(from);
-    let ran = run_all(
-        alloc,
-        rest,
-        given.as_slice(),
-        &mut system,
-        answers.as_mut_slice(),
-    );
+    let ran = run_all(alloc, statements, from, given, &mut system, answers);
     system.close();
-    ran?;
-    Ok(answers)
+    ran
+}
+
+/// What became of the decks of a session: as the session's events leave it, and those by which `mvt-play` plays it on. A session whose configuration has a
+/// fault reads none; one with a later fault is not played on.
+pub fn answers_of(
+    alloc: Global,
+    statements: &[Statement<'_>],
+    options: Options,
+) -> Result<Answers, AllocError>
+    ensures { IfOk result (AreAnswered options statements.now) }
+{
+    let mut answers = Answers {
+        decks: Vec::new(alloc),
+        by_job: Vec::new(alloc),
+    };
+    let given = added_events(alloc, statements, options)?;
+    match open(alloc, statements) {
+        Ok(opened) => {
+            let added = given.as_slice();
+            run_opened(alloc, statements, options, opened, added, &mut answers)?;
+            Ok(answers)
+        }
+        Err(SessionFault::Stopped(_, _)) => Ok(answers),
+        Err(_) => Err(AllocError),
+    }
 }

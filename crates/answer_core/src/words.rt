@@ -1,16 +1,16 @@
 //! The words for an answer.
-ghost use Rattle.std.specs.Prelude.{◌≡◌, ℕ, ◌++◌, List, OnOk, codes, decimal};
+ghost use Rattle.std.specs.Prelude.{◌≡◌, ℕ, ◌++◌, List, OnOk, codes, decimal, option_map};
 ghost use Rattle.answer_core.specs.Words.{beginning, number_text, verdict_text};
 
-use crate::answer::{Answer, Answered};
+use crate::answer::Answer;
 use crate::names::{push_count, push_number, push_step};
 use crate::risk::push_risk;
 use jcl_plan::plan::JobPlan;
 use std::alloc::{AllocError, Global};
 
 /// What admission answers, behind the job's name.
-fn verdict_of(answer: &Option<Answer>) -> &'static [u8]
-    ensures { result.now ≡ verdict_text answer.now }
+fn verdict_of(answer: Option<&Answer>) -> &'static [u8]
+    ensures { result.now ≡ verdict_text (option_map (λ a. a.now) answer.entry) }
 {
     match answer {
         Some(Answer::Assured { .. }) => b" is ASSURED: ",
@@ -25,7 +25,7 @@ fn verdict_of(answer: &Option<Answer>) -> &'static [u8]
 fn push_said(
     text: &mut Vec<u8>,
     plan: &JobPlan,
-    answer: &Option<Answer>,
+    answer: Option<&Answer>,
 ) -> Result<(), AllocError> {
     match answer {
         Some(Answer::Assured { tracks, actions }) => {
@@ -68,7 +68,7 @@ fn push_said(
 }
 
 /// What is said of an answer, with the line's end.
-fn said_of(alloc: Global, plan: &JobPlan, answer: &Option<Answer>) -> Result<Vec<u8>, AllocError> {
+fn said_of(alloc: Global, plan: &JobPlan, answer: Option<&Answer>) -> Result<Vec<u8>, AllocError> {
     let mut text = Vec::new(alloc);
     push_said(&mut text, plan, answer)?;
     text.push(b'\n')?;
@@ -86,24 +86,25 @@ fn push_job_number(text: &mut Vec<u8>, job: Option<u16>) -> Result<(), AllocErro
     Ok(())
 }
 
-/// Writes what admission answers the job of a deck, as a paragraph of one line. The deck's first card stands on this line of the session, which counts
-/// from 1, and the plan is what the deck denotes.
+/// Writes what admission answers the job of a deck, which has this number, as a paragraph of one line. The deck's first card stands on this line of the
+/// session, which counts from 1, and the plan is what the deck denotes.
 pub fn push_answer(
     text: &mut Vec<u8>,
     line: usize,
     plan: &JobPlan,
-    answered: &Answered,
+    job: Option<u16>,
+    answer: Option<&Answer>,
 ) -> Result<(), AllocError>
     ensures line { OnOk result ((rest : List ℕ) × (text.new.items ≡ text.old.items ++ codes "line " ++ decimal line ++ codes ": job " ++ rest)) }
     ensures verdict { OnOk result ((rest : List ℕ) ×
-        (text.new.items ≡ text.old.items ++ beginning line answered.now.job plan.now.name answered.now.answer ++ rest)) }
+        (text.new.items ≡ text.old.items ++ beginning line job plan.now.name (option_map (λ a. a.now) answer.entry) ++ rest)) }
 {
-    let said = said_of(*text.allocator(), plan, &answered.answer)?;
+    let said = said_of(*text.allocator(), plan, answer)?;
     text.extend_from_slice(b"line ")?;
     push_number(text, line as u64)?;
     text.extend_from_slice(b": job ")?;
-    push_job_number(text, answered.job)?;
+    push_job_number(text, job)?;
     text.extend_from_slice(plan.name.as_slice())?;
-    text.extend_from_slice(verdict_of(&answered.answer))?;
+    text.extend_from_slice(verdict_of(answer))?;
     text.extend_from_slice(said.as_slice())
 }

@@ -1,3 +1,4 @@
 pub mod Adding
+pub mod Decks
 pub mod Faults
 pub mod Later

@@ -4,9 +4,10 @@ use Rattle.std.specs.Io.KnownBytes.{Appends}
 use Rattle.std.specs.List.{list_any}
 use Rattle.answer_core.specs.declared.answer.Answer.{Answer}
 use Rattle.answer_core.specs.declared.answer.Answer.TheVariants as answer
-use Rattle.answer_core.specs.declared.answer.Answered.{Answered}
+use Rattle.answer_core.specs.declared.answer.Answers.{Answers}
 use Rattle.answer_core.specs.Telling.{AreAnswered}
 use Rattle.check_core.specs.declared.report.Checked.{Checked}
+use Rattle.check_core.specs.declared.report.Checked.TheVariants.{Refused, Taken}
 use Rattle.check_core.specs.Reports.{AreTold}
 use Rattle.check_core.specs.Texts.{AddsToldText}
 use Rattle.config_core.specs.Configs.{unit_names}
@@ -46,13 +47,22 @@ some_refused units library statements = list_any (λ s. is_refused units library
 abbrev pub GoesOn : List ℕ → List ℕ → Type 0
 GoesOn old new = (more : List ℕ) × (new ≡ old ++ more)
 
--- Behind a text comes what is told of a deck, whose first card stands on this line; and behind that, warnings and what is told of its job.
-pub record AddsDeck (units : List (List ℕ)) (library : List LibraryProcedure) (first : ℕ) (lines : List (List ℕ)) (old new : List ℕ) : Type 0 where
-  pub checked : Checked
-  pub told : AreTold units library lines checked
+-- Behind a text comes what is found of a deck, whose first card stands on this line; and behind that, warnings and what is told of its job.
+pub record AddsFound (first : ℕ) (lines : List (List ℕ)) (checked : Checked) (old new : List ℕ) : Type 0 where
   pub between : List ℕ
   pub added : AddsToldText first lines checked old between
   pub on : GoesOn between new
+
+-- so of what is found of it with these units and procedures
+pub record AddsDeck (units : List (List ℕ)) (library : List LibraryProcedure) (first : ℕ) (lines : List (List ℕ)) (old new : List ℕ) : Type 0 where
+  pub checked : Checked
+  pub told : AreTold units library lines checked
+  pub adds : AddsFound first lines checked old new
+
+-- a deck of which this is found is refused
+abbrev pub is_refused_so : Checked → Bool
+is_refused_so (Taken plan) = false
+is_refused_so (Refused first later) = true
 
 abbrev pub AddsEvent : List (List ℕ) → List LibraryProcedure → ℕ → Event → List ℕ → List ℕ → Type 0
 AddsEvent units library first (event.Read lines) old new = AddsDeck units library first lines old new
@@ -100,15 +110,12 @@ later_fault late [] = None
 later_fault late (s ∷ statements) = or_later (fault_at late s) (later_fault late statements)
 
 -- a job may fail, or has too many paths
-abbrev pub is_risk_answer : Option Answer → Bool
-is_risk_answer None = false
-is_risk_answer (Some (answer.Assured tracks actions)) = false
-is_risk_answer (Some (answer.Risk fault step dd path lines)) = true
-is_risk_answer (Some (answer.TooMany step)) = true
-is_risk_answer (Some (answer.SpaceWait serial)) = false
-
-abbrev pub is_risk : Answered → Bool
-is_risk answered = is_risk_answer answered.answer
+abbrev pub is_risk : Option Answer → Bool
+is_risk None = false
+is_risk (Some (answer.Assured tracks actions)) = false
+is_risk (Some (answer.Risk fault step dd path lines)) = true
+is_risk (Some (answer.TooMany step)) = true
+is_risk (Some (answer.SpaceWait serial)) = false
 
 -- no deck is looked at, for the session has a fault
 pub record IsUnopened (statements : List Statement) (found : Found) : Type 0 where
@@ -130,9 +137,9 @@ pub record IsLookedAt (o : Options) (statements : List Statement) (found : Found
   pub is : IsOpened statements opened
   pub text : AddsAll (unit_names opened.fixed.units) opened.fixed.library statements (fault_text (fault_of statements)) found.text.items
   pub refused : found.refused ≡ (is_some (fault_of statements) || some_refused (unit_names opened.fixed.units) opened.fixed.library statements)
-  pub answers : List Answered
+  pub answers : Answers
   pub answered : AreAnswered o statements answers
-  pub risk : found.at_risk ≡ list_any is_risk answers
+  pub risk : found.at_risk ≡ list_any is_risk answers.by_job.items
 
 abbrev pub IsFound : Options → List Statement → Found → Type 0
 IsFound o statements found = IsUnopened statements found ⊎ IsLookedAt o statements found

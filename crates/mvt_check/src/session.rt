@@ -6,9 +6,9 @@ ghost use Rattle.config_core.specs.Configs.{unit_names};
 ghost use Rattle.jcl_job.specs.Jobs.{job_of};
 ghost use Rattle.proc_library.specs.declared.library.LibraryProcedure.{LibraryProcedure};
 ghost use Rattle.session_core.specs.Opening.{IsOpened};
-ghost use Rattle.mvt_check.specs.Checking.{AddsAll, AddsDeck, AddsEvent, AddsSaid, IsFound, TellsStop, fault_at, fault_of, fault_text, is_refused, is_refused_event, is_risk, some_refused};
+ghost use Rattle.mvt_check.specs.Checking.{AddsAll, AddsDeck, AddsEvent, AddsFound, AddsSaid, IsFound, IsLookedAt, TellsStop, fault_at, fault_of, fault_text, is_refused, is_refused_event, is_refused_so, is_risk, some_refused};
 
-use answer_core::answer::{Answer, Answered};
+use answer_core::answer::{Answer, Answers, DeckRead};
 use answer_core::session::answers_of;
 use answer_core::words::push_answer;
 use check_core::deck::{Sources, check_deck};
@@ -161,17 +161,32 @@ fn push_unconfigured(
     Ok(())
 }
 
+/// What is known of a session: what it configures, and what became of its decks.
+#[derive(Clone, Copy)]
+struct Known<'a> {
+    fixed: &'a Fixed,
+    answers: &'a Answers,
+}
+
+/// What admission answers the job of a deck, if it came so far.
+fn answer_of<'a>(answers: &'a Answers, deck: &DeckRead) -> Option<&'a Answer> {
+    match deck.job {
+        Some(job) => answers.of_job(job),
+        None => None,
+    }
+}
+
 /// What else is told of a job: what is not configured for it, and what admission answers it.
 fn push_job(
-    fixed: &Fixed,
+    known: Known<'_>,
     text: &mut Vec<u8>,
     first: usize,
     plan: &JobPlan,
-    answered: Option<&Answered>,
+    deck: Option<DeckRead>,
 ) -> Result<(), AllocError> {
-    push_unconfigured(fixed, text, first, plan)?;
-    match answered {
-        Some(answered) => push_answer(text, first, plan, answered),
+    push_unconfigured(known.fixed, text, first, plan)?;
+    match deck {
+        Some(deck) => push_answer(text, first, plan, deck.job, answer_of(known.answers, &deck)),
         None => Ok(()),
     }
 }
@@ -179,16 +194,16 @@ fn push_job(
 /// What else is told of a deck: what it warns of, and what is told of its job.
 fn asides_of(
     alloc: Global,
-    fixed: &Fixed,
+    known: Known<'_>,
     first: usize,
     lines: &[Lent<'_>],
     checked: &Checked,
-    answered: Option<&Answered>,
+    deck: Option<DeckRead>,
 ) -> Result<Vec<u8>, AllocError> {
     let mut text = Vec::new(alloc);
     push_warnings(&mut text, first, lines)?;
     match checked {
-        Checked::Taken(plan) => push_job(fixed, &mut text, first, plan, answered)?,
+        Checked::Taken(plan) => push_job(known, &mut text, first, plan, deck)?,
         Checked::Refused { .. } => {}
     }
     Ok(text)
@@ -196,8 +211,7 @@ fn asides_of(
 
 /// Whether the deck of which this is told is refused.
 fn is_refused(checked: &Checked) -> bool
-    ensures { (units : List (List ℕ)) (library : List LibraryProcedure) (lines : List (List ℕ)) → AreTold units library lines checked.now →
-        result ≡ is_err (job_of units library lines) }
+    ensures { result ≡ is_refused_so checked.now }
 {
     match checked {
         Checked::Taken(_) => false,
@@ -205,43 +219,59 @@ fn is_refused(checked: &Checked) -> bool
     }
 }
 
+/// Writes what was found of a deck, whose first card stands on this line of the session, and tells whether it is refused.
+fn tell_deck(
+    alloc: Global,
+    known: Known<'_>,
+    first: usize,
+    lines: &[Lent<'_>],
+    checked: &Checked,
+    deck: Option<DeckRead>,
+    text: &mut Vec<u8>,
+) -> Result<bool, AllocError>
+    ensures refused { IfOk result (λ refused. refused ≡ is_refused_so checked.now) }
+    ensures added { OnOk result (AddsFound first lines.now checked.now text.old.items text.new.items) }
+{
+    let asides = asides_of(alloc, known, first, lines, checked, deck)?;
+    push_checked(text, first, lines, checked)?;
+    text.extend_from_slice(asides.as_slice())?;
+    Ok(is_refused(checked))
+}
+
 /// Looks at a deck, whose first card stands on this line of the session, and tells whether it is refused.
 fn check_lines(
     alloc: Global,
     sources: &Sources<'_>,
-    fixed: &Fixed,
+    known: Known<'_>,
     first: usize,
     lines: &[Lent<'_>],
-    answered: Option<&Answered>,
+    deck: Option<DeckRead>,
     text: &mut Vec<u8>,
 ) -> Result<bool, AllocError>
     ensures refused { IfOk result (λ refused. refused ≡ is_err (job_of sources.now.units.now sources.now.library.now lines.now)) }
     ensures added { OnOk result (AddsDeck sources.now.units.now sources.now.library.now first lines.now text.old.items text.new.items) }
 {
     let checked = check_deck(alloc, sources, lines)?;
-    let asides = asides_of(alloc, fixed, first, lines, &checked, answered)?;
-    push_checked(text, first, lines, &checked)?;
-    text.extend_from_slice(asides.as_slice())?;
-    Ok(is_refused(&checked))
+    tell_deck(alloc, known, first, lines, &checked, deck, text)
 }
 
 /// Looks at the deck of an event, if it has one, and tells whether it is refused.
 fn check_event(
     alloc: Global,
     sources: &Sources<'_>,
-    fixed: &Fixed,
+    known: Known<'_>,
     first: usize,
     event: &Event<'_>,
-    answered: Option<&Answered>,
+    deck: Option<DeckRead>,
     text: &mut Vec<u8>,
 ) -> Result<bool, AllocError>
     ensures refused { IfOk result (λ refused. refused ≡ is_refused_event sources.now.units.now sources.now.library.now event.now) }
     ensures added { OnOk result (AddsEvent sources.now.units.now sources.now.library.now first event.now text.old.items text.new.items) }
 {
     match event {
-        Event::Read(deck) => {
-            let lines = deck.get().as_slice();
-            check_lines(alloc, sources, fixed, first, lines, answered, text)
+        Event::Read(cards) => {
+            let lines = cards.get().as_slice();
+            check_lines(alloc, sources, known, first, lines, deck, text)
         }
         _ => Ok(false),
     }
@@ -251,9 +281,9 @@ fn check_event(
 fn check_statement(
     alloc: Global,
     sources: &Sources<'_>,
-    fixed: &Fixed,
+    known: Known<'_>,
     statement: &Statement<'_>,
-    answered: Option<&Answered>,
+    deck: Option<DeckRead>,
     text: &mut Vec<u8>,
 ) -> Result<bool, AllocError>
     ensures refused { IfOk result (λ refused. refused ≡ is_refused sources.now.units.now sources.now.library.now statement.now.says) }
@@ -264,9 +294,7 @@ fn check_statement(
         return Err(AllocError);
     };
     match &statement.says {
-        Says::Events(event, _) => {
-            check_event(alloc, sources, fixed, first, event, answered, text)
-        }
+        Says::Events(event, _) => { check_event(alloc, sources, known, first, event, deck, text) }
         _ => Ok(false),
     }
 }
@@ -278,20 +306,19 @@ fn either(one: bool, other: bool) -> bool
     one || other
 }
 
-/// The answer at this place, if it is for this statement.
-fn answer_at(answers: &[Answered], place: usize, statement: usize) -> Option<&Answered> {
-    match answers.get(place) {
-        Some(answered) if answered.statement == statement => Some(answered),
+/// The deck at this place, if it is that of this statement.
+fn deck_at(decks: &[DeckRead], place: usize, statement: usize) -> Option<DeckRead> {
+    match decks.get(place) {
+        Some(deck) if deck.statement == statement => Some(*deck),
         _ => None,
     }
 }
 
-/// Looks at all decks, and tells whether one of them is refused. The answers stand in the order of their statements.
+/// Looks at all decks, and tells whether one of them is refused.
 fn check_statements(
     alloc: Global,
     sources: &Sources<'_>,
-    fixed: &Fixed,
-    answers: &[Answered],
+    known: Known<'_>,
     statements: &[Statement<'_>],
     text: &mut Vec<u8>,
 ) -> Result<bool, AllocError>
@@ -301,28 +328,25 @@ fn check_statements(
     let mut refused = false;
     let mut place: usize = 0;
     for (n, statement) in statements.iter().enumerate() {
-        let answered = answer_at(answers, place, n);
-        if answered.is_some() {
+        let deck = deck_at(known.answers.decks.as_slice(), place, n);
+        if deck.is_some() {
             place = place.saturating_add(1);
         }
-        let own = check_statement(alloc, sources, fixed, statement, answered, text)?;
+        let own = check_statement(alloc, sources, known, statement, deck, text)?;
         refused = either(refused, own);
     }
     Ok(refused)
 }
 
 /// Whether a job may fail, or has too many paths.
-fn is_risk(answered: &Answered) -> bool
-    ensures { result ≡ is_risk answered.now }
+fn is_risk(answer: &Option<Answer>) -> bool
+    ensures { result ≡ is_risk answer.now }
 {
-    matches!(
-        &answered.answer,
-        Some(Answer::Risk { .. } | Answer::TooMany(_))
-    )
+    matches!(answer, Some(Answer::Risk { .. } | Answer::TooMany(_)))
 }
 
 /// Whether one of the jobs may fail, or has too many paths.
-fn some_risk(answers: &[Answered]) -> bool
+fn some_risk(answers: &[Option<Answer>]) -> bool
     ensures { result ≡ list_any is_risk answers.now }
 {
     answers.iter().any(is_risk)
@@ -358,27 +382,46 @@ fn names_in(alloc: Global, statements: &[Statement<'_>]) -> Result<Names, AllocE
 /// Looks at the decks of a session whose configuration has no fault, behind what is found of it already.
 fn check_opened(
     alloc: Global,
-    fixed: &Fixed,
-    answers: &[Answered],
+    known: &Known<'_>,
     statements: &[Statement<'_>],
     found: &mut Found,
 ) -> Result<(), AllocError>
-    ensures text { OnOk result (AddsAll (unit_names fixed.now.units) fixed.now.library statements.now found.old.text.items found.new.text.items) }
+    ensures text { OnOk result (AddsAll (unit_names known.now.fixed.now.units) known.now.fixed.now.library statements.now found.old.text.items found.new.text.items) }
     ensures refused { OnOk result (found.new.refused
-        ≡ (found.old.refused || some_refused (unit_names fixed.now.units) fixed.now.library statements.now)) }
-    ensures risk { OnOk result (found.new.at_risk ≡ list_any is_risk answers.now) }
+        ≡ (found.old.refused || some_refused (unit_names known.now.fixed.now.units) known.now.fixed.now.library statements.now)) }
+    ensures risk { OnOk result (found.new.at_risk ≡ list_any is_risk known.now.answers.now.by_job.items) }
 {
     let names = names_in(alloc, statements)?;
     let sources = Sources {
-        units: fixed.units.names(),
-        library: &fixed.library,
+        units: known.fixed.units.names(),
+        library: &known.fixed.library,
         unit_names: names.units.as_slice(),
         procedure_names: names.procedures.as_slice(),
     };
-    let own = check_statements(alloc, &sources, fixed, answers, statements, &mut found.text)?;
+    let own = check_statements(alloc, &sources, *known, statements, &mut found.text)?;
     found.refused = found.refused || own;
-    found.at_risk = some_risk(answers);
+    found.at_risk = some_risk(known.answers.by_job.as_slice());
     Ok(())
+}
+
+/// Looks at the decks of a session that is opened. Its own fault, if it has one, is told first.
+fn found_opened(
+    alloc: Global,
+    opened: &Opened,
+    statements: &[Statement<'_>],
+    options: Options,
+) -> Result<Found, AllocError>
+    requires { IsOpened statements.now opened.now }
+    ensures { IfOk result (IsLookedAt options statements.now) }
+{
+    let answers = answers_of(alloc, statements, options)?;
+    let mut found = found_by(alloc, later_fault(opened, statements))?;
+    let known = Known {
+        fixed: &opened.fixed,
+        answers: &answers,
+    };
+    check_opened(alloc, &known, statements, &mut found)?;
+    Ok(found)
 }
 
 /// Looks at the decks of a session. Its own fault, if it has one, is told first.
@@ -390,13 +433,7 @@ pub(crate) fn check_session(
     ensures { IfOk result (IsFound options statements.now) }
 {
     match open(alloc, statements) {
-        Ok(opened) => {
-            let mut found = found_by(alloc, later_fault(&opened, statements))?;
-            let answers = answers_of(alloc, statements, options)?;
-            let answers = answers.as_slice();
-            check_opened(alloc, &opened.fixed, answers, statements, &mut found)?;
-            Ok(found)
-        }
+        Ok(opened) => found_opened(alloc, &opened, statements, options),
         Err(why) => found_unopened(alloc, why),
     }
 }

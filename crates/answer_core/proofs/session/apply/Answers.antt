@@ -1,9 +1,12 @@
+use Rattle.std.proofs.Common.{◌∙◌, None, get_or}
+use Rattle.answer_core.specs.Answers.{answer_for, answered_by}
 use Rattle.answer_core.proofs.Runs.{Tells-one}
 use Rattle.answer_core.proofs.session.apply.Goals as goal
 
-pub returns-clause-tells : goal.returns-clause-tells
-returns-clause-tells c =
-    let lines = c.in_ok-lines.lines in
-    Tells-one c.args.system.now c.apply_shown.new.self c.args.event.now lines c.args.answers.now c.note.new.answers c.in_ok-lines.ensures.step
-    c.apply_shown.ensures.next
-    (λ entries among told. c.note.ensures.told entries lines among c.in_ok-told.ensures.answer c.in_ok-told.ensures.path told)
+pub returns : goal.returns
+returns c =
+    let before = c.args.by_job.now.items in
+    Tells-one c.args.system.now c.apply_shown.new.self c.args.event.now c.in_ok-lines.lines before c.note_answer.new.by_job.items c.in_ok-told.told.number
+    c.in_ok-lines.ensures.step c.apply_shown.ensures.next c.in_ok-told.ensures.number
+    (λ job. c.in_ok-note_answer.ensures job
+    ∙ (λ i. answer_for job (get_or before job None) (answered_by (c.in_ok-told.ensures.path i) (c.in_ok-told.ensures.answer i))))

@@ -1,11 +1,7 @@
-use Rattle.std.proofs.Common.{◌≡◌, map, take}
+use Rattle.std.proofs.Common.{map, take}
 use Rattle.play_core.specs.Given.{event_of}
-use Rattle.answer_core.specs.Answers.{statement_of}
 use Rattle.answer_core.specs.Telling.{Tells}
 use Rattle.answer_core.proofs.session.run_added.Given as goal
 
 abbrev pub invariant-loop-next : goal.invariant-loop-next
-invariant-loop-next l = record {
-  statements : map statement_of l.answers ≡ map statement_of l.fn.answers;
-  tells : Tells l.fn.system l.fn.answers (map event_of (take l.next-index l.given)) l.system l.answers;
-}
+invariant-loop-next l = Tells l.fn.system l.fn.by_job.items (map event_of (take l.next-index l.given)) l.system l.by_job.items l.number

@@ -1,12 +1,9 @@
-use Rattle.std.proofs.Common.{map}
-use Rattle.play_core.specs.Given.{event_of}
-use Rattle.answer_core.specs.Telling.{own_events}
-use Rattle.answer_core.proofs.Runs.{Tells-then}
+use Rattle.std.proofs.Common.{refl}
+use Rattle.answer_core.proofs.Owning.{all_told}
 use Rattle.answer_core.proofs.session.run_all.Goals as goal
 
-pub returns-clause-tells : goal.returns-clause-tells
-returns-clause-tells c = record {
-  last = c.run_added.new.system;
-  tells = Tells-then c.args.system.now c.run_own.new.system c.run_added.new.system c.args.answers.now c.run_own.new.answers c.run_added.new.answers
-      (own_events c.args.statements.now) (map event_of c.args.given.now) c.in_ok-run_own.ensures.tells c.in_ok-run_added.ensures.tells;
-}
+pub returns : goal.returns
+returns c =
+    all_told c.args.statements.now c.args.from c.args.given.now c.args.system.now c.run_own.new.system c.run_added.new.system c.run_own.new.decks.items
+    c.args.answers.now.by_job.items c.run_own.new.by_job.items (record { decks = c.run_own.new.decks; by_job = c.run_added.new.by_job })
+    c.in_ok-run_added.field-0 c.in_ok-run_own.ensures c.in_ok-run_added.ensures refl

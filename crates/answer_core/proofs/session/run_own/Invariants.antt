@@ -1,10 +1,5 @@
-use Rattle.std.proofs.Common.{◌≡◌, map}
-use Rattle.answer_core.specs.Answers.{statement_of}
-use Rattle.answer_core.proofs.Runs.{HasGiven}
+use Rattle.answer_core.proofs.Owning.{HasRun}
 use Rattle.answer_core.proofs.session.run_own.Given as goal
 
-abbrev pub invariant-loop-statement : goal.invariant-loop-statement
-invariant-loop-statement l = record {
-  statements : map statement_of l.answers ≡ map statement_of l.fn.answers;
-  given : HasGiven l.statements l.statement-index l.fn.system l.fn.answers l.system l.answers;
-}
+abbrev pub invariant-loop-at : goal.invariant-loop-at
+invariant-loop-at l = HasRun l.statements l.fn.from l.at l.fn.system l.system l.decks.items l.fn.by_job.items l.by_job.items
