@@ -80,9 +80,9 @@ pub primary_is_refused : PrimaryIsRefused
 primary_is_refused old e lines new s job cancel admission x n dd d p key backs is at kind means told =
     let facts = (known old e lines new s job cancel admission x is).1 in
     let does : x.done ≡ act admission.fixed (Take n dd d) x.before = did old e lines new s job cancel admission x is (Take n dd d) at in
-    let no : is.primary ≡ false = sym facts.its_primary
-    ∙ primary_refused admission.fixed n dd d p key x.before backs kind means (ap (λ (z : Done). z.lines) (sym does) ∙ told) in
-    volume_refused (answers_of job old.parts.store).new admission.fixed n dd d p key x.before.store x.before.own kind means
+    let r = primary_refused admission.fixed n dd d p key x.before backs kind means (ap (λ (z : Done). z.lines) (sym does) ∙ told) in
+    let no : is.primary ≡ false = sym facts.its_primary ∙ r.1 in
+    volume_refused (answers_of job old.parts.store).new admission.fixed n dd d p key x.before kind means r.0
     (primary_is old e lines new s job cancel admission x is (Take n dd d) at no)
 
 pub sets_are_placed : SetsArePlaced

@@ -8,7 +8,6 @@ use Rattle.jcl_plan.specs.declared.plan.DdKind.{DdKind}
 use Rattle.jcl_plan.specs.declared.plan.DdKind.TheVariants.{Set}
 use Rattle.jcl_plan.specs.declared.plan.DdPlan.{DdPlan}
 use Rattle.jcl_plan.specs.declared.plan.SetPlan.{SetPlan}
-use Rattle.jcl_meaning.specs.declared.state.Own.{Own}
 use Rattle.jcl_meaning.specs.declared.state.Place.{Place}
 use Rattle.jcl_meaning.specs.declared.state.Resolution.{Resolution}
 use Rattle.jcl_meaning.specs.declared.state.Resolution.TheVariants.{Means}
@@ -20,18 +19,16 @@ use Rattle.jcl_meaning.specs.Acts.{act}
 use Rattle.jcl_meaning.specs.Agendas.{Take}
 use Rattle.jcl_meaning.specs.Resolutions.{meaning_at}
 use Rattle.jcl_meaning.specs.States.{Done, Fixed, State, if_runs}
-use Rattle.jcl_meaning.specs.Stores.{Store}
 use Rattle.jcl_meaning.specs.TakeActs.{decided, decision_at, takes, takes_set, target_at}
-use Rattle.jcl_meaning.specs.Takes.{decide, looked_at, primary_of}
+use Rattle.jcl_meaning.specs.Takes.{decide, is_known, looked_at, primary_of}
 use Rattle.disp_core.specs.Grants.{granted_on, primary_granted}
-use Rattle.disp_core.specs.Takings.{target_in}
 
-decides_f6 : (t : Target) (known there space granted : Bool) → decide t known there space granted ≡ Refuses F6 → granted ≡ false
+decides_f6 : (t : Target) (known there space granted : Bool) → decide t known there space granted ≡ Refuses F6 → (known ≡ true) × (granted ≡ false)
 decides_f6 (target.Makes None) known there space granted e = cc
 decides_f6 (target.Makes (Some serial)) false there space granted e = cc
 decides_f6 (target.Makes (Some serial)) true true space granted e = cc
 decides_f6 (target.Makes (Some serial)) true false false granted e = cc
-decides_f6 (target.Makes (Some serial)) true false true false e = refl
+decides_f6 (target.Makes (Some serial)) true false true false e = (refl, refl)
 decides_f6 (target.Makes (Some serial)) true false true true e = cc
 decides_f6 (target.Finds serial) false there space granted e = cc
 decides_f6 (target.Finds serial) true false space granted e = cc
@@ -50,9 +47,10 @@ tells_f6 fixed n dd name p key s (Takes serial how) backs e = absurd cc
 abbrev TellsF6 : ℕ → ℕ → List JobLine → Done → Type 0
 TellsF6 n dd backs done = done.lines ≡ line.Fault F6 n dd ∷ backs
 
--- so it is of the answer with which the DD was taken
+-- so it is of the answer with which the DD was taken, and the volume that it looks at is known
 pub primary_refused : (fixed : Fixed) (n dd : ℕ) (d : DdPlan) (p : SetPlan) (key : Key) (s : State) (backs : List JobLine) → d.kind ≡ Set p →
-    meaning_at fixed.meanings n dd ≡ Means key → (act fixed (Take n dd d) s).lines ≡ line.Fault F6 n dd ∷ backs → s.answers.primary ≡ false
+    meaning_at fixed.meanings n dd ≡ Means key → (act fixed (Take n dd d) s).lines ≡ line.Fault F6 n dd ∷ backs →
+    (is_known fixed.volumes (looked_at (target_at fixed n dd p key s)) ≡ true) × (s.answers.primary ≡ false)
 unfolding act
 primary_refused fixed n dd d p key s backs kind means e = by s.own.runs e
   where
@@ -60,20 +58,24 @@ primary_refused fixed n dd d p key s backs kind means e = by s.own.runs e
     at_key h = subst (λ (m : Resolution). TellsF6 n dd backs (takes_set fixed n dd d.name p s m)) means
         (subst (λ (k : DdKind). TellsF6 n dd backs (takes fixed n dd d.name k s)) kind h)
 
-    by : (runs : Bool) → TellsF6 n dd backs (if_runs runs s (takes fixed n dd d.name d.kind s)) → s.answers.primary ≡ false
+    by : (runs : Bool) → TellsF6 n dd backs (if_runs runs s (takes fixed n dd d.name d.kind s)) →
+        (is_known fixed.volumes (looked_at (target_at fixed n dd p key s)) ≡ true) × (s.answers.primary ≡ false)
     by false h = absurd cc
     by true h =
         decides_f6 (target_at fixed n dd p key s) _ _ (is_some p.space) s.answers.primary
         (tells_f6 fixed n dd d.name p key s (decision_at fixed p key s (target_at fixed n dd p key s)) backs (at_key h))
 
--- and the store, if it answered so, has no room on some volume
-pub volume_refused : (grants : Key → Place → ℕ → Bool) (fixed : Fixed) (n dd : ℕ) (d : DdPlan) (p : SetPlan) (key : Key) (seen : Store) (own : Own) → d.kind ≡ Set p →
-    meaning_at fixed.meanings n dd ≡ Means key → primary_granted grants fixed n dd d.kind seen own ≡ false →
-    (serial : List ℕ) × (grants key (record { step = n; dd = dd; serial = serial }) (primary_of p.space) ≡ false)
-volume_refused grants fixed n dd d p key seen own kind means e =
-    by (looked_at (target_in fixed n dd p key seen own)) (rw (kind, means) at e)
+-- and the store, if it answered so, has no room on that volume
+pub volume_refused : (grants : Key → Place → ℕ → Bool) (fixed : Fixed) (n dd : ℕ) (d : DdPlan) (p : SetPlan) (key : Key) (s : State) → d.kind ≡ Set p →
+    meaning_at fixed.meanings n dd ≡ Means key → is_known fixed.volumes (looked_at (target_at fixed n dd p key s)) ≡ true →
+    primary_granted grants fixed n dd d.kind s.store s.own ≡ false →
+    (serial : List ℕ) × (looked_at (target_at fixed n dd p key s) ≡ Some serial) × (is_known fixed.volumes (Some serial) ≡ true)
+    × (grants key (record { step = n; dd = dd; serial = serial }) (primary_of p.space) ≡ false)
+volume_refused grants fixed n dd d p key s kind means known e = by (looked_at (target_at fixed n dd p key s)) refl known (rw (kind, means) at e)
   where
-    by : (place : Option (List ℕ)) → granted_on (grants key) n dd p place ≡ false →
-        (serial : List ℕ) × (grants key (record { step = n; dd = dd; serial = serial }) (primary_of p.space) ≡ false)
-    by None refused = absurd cc
-    by (Some serial) refused = (serial, refused)
+    by : (place : Option (List ℕ)) → looked_at (target_at fixed n dd p key s) ≡ place → is_known fixed.volumes place ≡ true →
+        granted_on (grants key) n dd p place ≡ false →
+        (serial : List ℕ) × (looked_at (target_at fixed n dd p key s) ≡ Some serial) × (is_known fixed.volumes (Some serial) ≡ true)
+        × (grants key (record { step = n; dd = dd; serial = serial }) (primary_of p.space) ≡ false)
+    by None here there refused = absurd cc
+    by (Some serial) here there refused = (serial, here, there, refused)

@@ -1,5 +1,5 @@
 -- What the volumes decide, as they were before an event: which sets grow, which are made, and where a job's sets are placed.
-use Rattle.std.specs.Prelude.{◌≡◌, ℕ, Bool, false, List, [], ◌∷◌, Some}
+use Rattle.std.specs.Prelude.{◌≡◌, ℕ, Bool, true, false, List, [], ◌∷◌, Some}
 use Rattle.jname_core.specs.declared.key.Key.{Key}
 use Rattle.jcl_plan.specs.declared.entry.Entry.{Entry}
 use Rattle.jcl_plan.specs.declared.entry.JobLine.{JobLine}
@@ -16,7 +16,8 @@ use Rattle.jcl_meaning.specs.declared.state.Place.{Place}
 use Rattle.jcl_meaning.specs.declared.state.Resolution.TheVariants.{Means}
 use Rattle.jcl_meaning.specs.Agendas.{Ask, Take}
 use Rattle.jcl_meaning.specs.Resolutions.{meaning_at}
-use Rattle.jcl_meaning.specs.Takes.{primary_of}
+use Rattle.jcl_meaning.specs.TakeActs.{target_at}
+use Rattle.jcl_meaning.specs.Takes.{is_known, looked_at, primary_of}
 use Rattle.request_core.specs.Requests.{Growth, growth_asked}
 use Rattle.input_core.specs.declared.event.Event.{Event}
 use Rattle.world_meaning.specs.Choices.{AtAction, AtAdmission, choice_of}
@@ -47,12 +48,13 @@ GrowthIsRefusedAt old e lines new s = (job : ℕ) (cancel : Bool) (admission : A
 abbrev pub GrowthIsRefused : Type 0
 GrowthIsRefused = (old : Machine) (e : Event) (lines : List Entry) (new : World) (s : Steps old e lines new) → GrowthIsRefusedAt old e lines new s
 
--- Where F6 is told of a DD with a key, a volume had no room for its primary.
+-- Where F6 is told of a DD with a key, the volume where its set is looked for, one that is configured, had no room for its primary.
 abbrev pub PrimaryIsRefusedAt : (old : Machine) (e : Event) (lines : List Entry) (new : World) → Steps old e lines new → Type 0
 PrimaryIsRefusedAt old e lines new s = (job : ℕ) (cancel : Bool) (admission : Admission) (x : Advanced) (n dd : ℕ) (d : DdPlan) (p : SetPlan) (key : Key)
     (backs : List JobLine) → IsAction old e lines new s job cancel admission x →
     x.action ≡ Take n dd d → d.kind ≡ Set p → meaning_at admission.fixed.meanings n dd ≡ Means key → x.done.lines ≡ line.Fault F6 n dd ∷ backs →
-    (serial : List ℕ) × (grants_new job old.parts.store key (record { step = n; dd = dd; serial = serial }) (primary_of p.space) ≡ false)
+    (serial : List ℕ) × (looked_at (target_at admission.fixed n dd p key x.before) ≡ Some serial) × (is_known admission.fixed.volumes (Some serial) ≡ true)
+    × (grants_new job old.parts.store key (record { step = n; dd = dd; serial = serial }) (primary_of p.space) ≡ false)
 
 abbrev pub PrimaryIsRefused : Type 0
 PrimaryIsRefused = (old : Machine) (e : Event) (lines : List Entry) (new : World) (s : Steps old e lines new) → PrimaryIsRefusedAt old e lines new s

@@ -22,7 +22,7 @@ pub fn growth_is_refused()
     ensures { GrowthIsRefused }
 {}
 
-/// F6 is told of a DD with a key only where a volume, as it was, had no room for its primary.
+/// F6 is told of a DD with a key only where the configured volume on which its set is looked for had, as it was, no room for its primary.
 pub fn primary_is_refused()
     ensures { PrimaryIsRefused }
 {}

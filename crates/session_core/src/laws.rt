@@ -36,7 +36,7 @@ pub fn answers_of_a_session()
 }
 
 /// Along a session SB37 stands in the place of a request only where the volumes, as they were before its event, had no room for the tracks that it asked for; F6
-/// is told of a DD with a key only where a volume had none for its primary; and sets are placed by the rule.
+/// is told of a DD with a key only where the configured volume on which its set is looked for had none for its primary; and sets are placed by the rule.
 pub fn volumes_decide_a_session()
     ensures { VolumesDecideSession }
 {
