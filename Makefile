@@ -1,8 +1,8 @@
 # Needs the Rattle toolchain (`rt` on the path).
 
-.PHONY: help test run mvt tools check play picture pictures examples documents rows hostile bench
+.PHONY: help test run mvt tools check play picture test-check test-play pictures examples documents rows hostile bench
 
-# The session that `make run` runs.
+# The session that `make run`, `make check`, `make play` and `make picture` read.
 SESSION ?= examples/first.session
 
 # What the program is made from.
@@ -14,10 +14,11 @@ help:
 	@echo 'make mvt                  proves the program and all that it stands on, and builds it to ./mvt'
 	@echo 'make tools                so for ./mvt-check, which says why decks are refused, ./mvt-play, which plays a session on until nothing'
 	@echo '                          moves, and ./mvt-picture, which draws one'
-	@echo 'make check                compares the sessions of tests/check/ with ./mvt-check'
-	@echo 'make picture [SESSION=FILE]  draws a session to picture.svg with the program as it stands, not proved'
+	@echo 'make check [SESSION=FILE]    says why the decks of a session are refused; make play [SESSION=FILE] plays it on;'
+	@echo '                          make picture [SESSION=FILE] draws it to picture.svg: with the programs as they stand, not proved'
+	@echo 'make test-check           compares the sessions of tests/check/ with ./mvt-check'
 	@echo 'make pictures             draws each session of examples/ with ./mvt-picture and reads the pictures as XML'
-	@echo 'make play                 compares the sessions of tests/play/ with ./mvt-play and ./mvt'
+	@echo 'make test-play            compares the sessions of tests/play/ with ./mvt-play and ./mvt'
 	@echo 'make examples             runs each session of examples/ with ./mvt and compares the listings'
 	@echo 'make documents            compares README.md and docs/ with ./mvt: what examples print, what refusals are told; and looks for'
 	@echo '                          what they cite'
@@ -35,7 +36,7 @@ run:
 
 # The program as it stands, built and not proved.
 mvt-unproved: $(SOURCES)
-	tests/unproved.sh $@
+	@tests/unproved.sh $@
 
 # The proved program.
 mvt:
@@ -57,23 +58,35 @@ mvt-picture: $(SOURCES)
 	cd crates/mvt_picture && rt run </dev/null >/dev/null
 	cp crates/mvt_picture/out/mvt_picture mvt-picture
 
-# Draws a session. Nothing is proved.
+# The tools on a session. Nothing is proved.
+check: mvt-check-unproved
+	@./mvt-check-unproved <'$(SESSION)'
+
+play: mvt-play-unproved
+	@./mvt-play-unproved <'$(SESSION)'
+
 picture: mvt-picture-unproved
-	./mvt-picture-unproved <$(SESSION) >picture.svg
+	@./mvt-picture-unproved <'$(SESSION)' >picture.svg
+
+mvt-check-unproved: $(SOURCES)
+	@tests/unproved.sh $@ mvt_check
+
+mvt-play-unproved: $(SOURCES)
+	@tests/unproved.sh $@ mvt_play
 
 mvt-picture-unproved: $(SOURCES)
-	tests/unproved.sh $@ mvt_picture
+	@tests/unproved.sh $@ mvt_picture
 
 # Draws the examples, and reads the pictures.
 pictures: mvt-picture
 	tests/pictures.sh ./mvt-picture
 
 # Compares what ./mvt-check says of the decks of tests/check/, and its first numbers with those of ./mvt.
-check: mvt tools
+test-check: mvt tools
 	tests/check.sh ./mvt-check ./mvt
 
 # Compares what ./mvt-play writes with the sessions that were played on.
-play: mvt tools
+test-play: mvt tools
 	tests/play.sh ./mvt-play ./mvt
 
 # Compares the listings of the examples with those that ./mvt writes.
