@@ -1,6 +1,6 @@
 #!/bin/sh
 # Compares what the first program says of the decks of tests/check/ with what stands beside them, and the first numbers of its refused decks with
-# the REJECTED lines of the second one.
+# the REJECTED lines of the second one. Statuses are compared too: 1 where something is refused or may fail, 2 for a command line that cannot be used.
 # Usage: tests/check.sh [CHECK [MVT]], by default ./mvt-check and ./mvt
 
 cd "$(dirname "$0")/.." || exit 2
@@ -10,9 +10,33 @@ work=$(mktemp -d) || exit 2
 trap 'rm -rf "$work"' EXIT
 differ=0
 
+# ends NAME WANTED GOT
+ends() {
+    if [ "$2" != "$3" ]; then
+        echo "DIFFERS $1: status $3, not $2"
+        differ=1
+    fi
+}
+
+for words in '--views 0' '--risk stop' '--events' 'first.session' '--help' '--version'; do
+    # shellcheck disable=SC2086
+    "$check" $words <examples/first.session >"$work/told" 2>/dev/null
+    ends "$words" 2 $?
+    [ ! -s "$work/told" ] || { echo "DIFFERS $words: something is written"; differ=1; }
+done
+"$check" <examples/first.session >/dev/null
+ends 'examples/first.session' 0 $?
+"$check" --risk refuse --views 1 <examples/first.session >/dev/null
+ends 'examples/first.session, with one view' 1 $?
+{ cat examples/first.session; echo './ UNIT LATE'; } | "$check" >/dev/null
+ends 'examples/first.session, with a fault behind it' 1 $?
+
 for session in tests/check/*.session; do
     told=${session%.session}.told
+    wanted=0
+    grep -Eq '^line [0-9]+: ([CNP][0-9]+ |session fault|job .* (is at RISK|fails|has too many paths))' "$told" && wanted=1
     "$check" <"$session" >"$work/told"
+    ends "$session" "$wanted" $?
     if ! cmp -s "$told" "$work/told"; then
         echo "DIFFERS $session"
         diff "$told" "$work/told" | head -n 20

@@ -78,7 +78,9 @@ def rows_told_otherwise():
     source = text_of("crates/refusal_text/src/table.rt")
     texts = re.findall(r"letter: b'(\w)',\s+number: (\d+),\s+wrong: \"(.*?)\",\s+to_do: \"(.*?)\",", source)
     told = {f"{letter}{number}": (wrong, to_do) for letter, number, wrong, to_do in texts}
-    rows = re.findall(r"^\| ([CNP]\d+) \| (.*) \| (.*) \|$", text_of("docs/REFUSALS.md"), re.M)
+    document = text_of("docs/REFUSALS.md")
+    rows = re.findall(r"^\| ([CNP]\d+) \| (.*) \| (.*) \|$", document, re.M)
+    rows += re.findall(r"^\| (F\d+) \| (.*) \| (.*) \| `[A-Z].* \|$", document, re.M)
     for number, wrong, to_do in rows:
         if told.pop(number, None) != (wrong.replace("`", ""), to_do.replace("`", "")):
             yield f"docs/REFUSALS.md: the table of refusal_text has other words for {number}"

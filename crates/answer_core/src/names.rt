@@ -2,7 +2,7 @@
 ghost use Rattle.std.specs.Prelude.{◌≡◌, ◌++◌, OnOk, decimal};
 
 use itoa::Buffer;
-use jcl_plan::plan::{DdKind, DdPlan, JobPlan, StepPlan};
+use jcl_plan::plan::{DdKind, DdPlan, JobPlan, SetPlan, StepPlan};
 use jname_core::key::{Key, Sign};
 use jname_core::name8::Name8;
 use std::alloc::AllocError;
@@ -38,12 +38,17 @@ fn dd_at(plan: &JobPlan, step: usize, dd: usize) -> Option<&DdPlan> {
     step_at(plan, step)?.dds.as_slice().get(place)
 }
 
-/// What that DD names, where it is for a data set.
-pub(crate) fn key_at(plan: &JobPlan, step: usize, dd: usize) -> Option<&Key> {
+/// What that DD says of its data set, where it is for one.
+pub(crate) fn set_at(plan: &JobPlan, step: usize, dd: usize) -> Option<&SetPlan> {
     match &dd_at(plan, step, dd)?.kind {
-        DdKind::Set(set) => Some(&set.key),
+        DdKind::Set(set) => Some(set),
         _ => None,
     }
+}
+
+/// What that DD names, where it is for a data set.
+pub(crate) fn key_at(plan: &JobPlan, step: usize, dd: usize) -> Option<&Key> {
+    Some(&set_at(plan, step, dd)?.key)
 }
 
 fn push_shown(text: &mut Vec<u8>, name: &Option<Name8>) -> Result<(), AllocError> {
@@ -132,6 +137,12 @@ fn push_relative(text: &mut Vec<u8>, sign: Sign, amount: u8) -> Result<(), Alloc
         })?;
     }
     push_number(text, u64::from(amount))
+}
+
+/// A data set by its name.
+pub(crate) fn push_named_set(text: &mut Vec<u8>, name: &[u8]) -> Result<(), AllocError> {
+    text.extend_from_slice(b"the data set ")?;
+    text.extend_from_slice(name)
 }
 
 /// A data set by the name that the deck gives it. One without a name of its own is `the data set`.

@@ -7,7 +7,7 @@ use std::alloc::AllocError;
 /// What stands before the outcome at this place, of so many.
 fn joint_at(place: usize, count: usize) -> &'static [u8] {
     if place == 0 {
-        b", when "
+        b", for example when "
     } else if place.saturating_add(1) == count {
         b" and "
     } else {
@@ -39,12 +39,17 @@ fn push_outcome(text: &mut Vec<u8>, outcome: &Outcome, behind_end: bool) -> Resu
     }
 }
 
-/// The outcomes of the steps, from the first on; nothing where there are none.
-pub(crate) fn push_path(
-    text: &mut Vec<u8>,
-    plan: &JobPlan,
-    path: &[Outcome],
-) -> Result<(), AllocError> {
+/// Whether all steps end with code 0, of which there are two at least.
+fn are_all_zero(path: &[Outcome]) -> bool {
+    path.len() > 1
+        && path.iter().all(|outcome| match outcome {
+            Outcome::Code(code) => code.number() == 0,
+            _ => false,
+        })
+}
+
+/// The outcomes of the steps, each by itself.
+fn push_each(text: &mut Vec<u8>, plan: &JobPlan, path: &[Outcome]) -> Result<(), AllocError> {
     let mut behind_end = false;
     for (place, outcome) in path.iter().enumerate() {
         text.extend_from_slice(joint_at(place, path.len()))?;
@@ -53,4 +58,18 @@ pub(crate) fn push_path(
         behind_end = is_ended(outcome);
     }
     Ok(())
+}
+
+/// The outcomes of the steps, from the first on; nothing where there are none.
+pub(crate) fn push_path(
+    text: &mut Vec<u8>,
+    plan: &JobPlan,
+    path: &[Outcome],
+) -> Result<(), AllocError> {
+    if are_all_zero(path) {
+        text.extend_from_slice(b", for example when the ")?;
+        push_number(text, path.len() as u64)?;
+        return text.extend_from_slice(b" steps before it end with code 0");
+    }
+    push_each(text, plan, path)
 }

@@ -4,7 +4,7 @@ ghost use Rattle.answer_core.specs.Words.{beginning, number_text, verdict_text};
 
 use crate::answer::Answer;
 use crate::names::{push_count, push_number, push_step};
-use crate::risk::push_risk;
+use crate::risk::{Met, push_risk};
 use jcl_plan::plan::JobPlan;
 use std::alloc::{AllocError, Global};
 
@@ -14,7 +14,13 @@ fn verdict_of(answer: Option<&Answer>) -> &'static [u8]
 {
     match answer {
         Some(Answer::Assured { .. }) => b" is ASSURED: ",
-        Some(Answer::Risk { .. }) => b" is at RISK: ",
+        Some(Answer::Risk { path, .. }) => {
+            if path.as_slice().is_empty() {
+                b" fails: "
+            } else {
+                b" is at RISK: "
+            }
+        }
         Some(Answer::TooMany(_)) => b" has too many paths (TOOMANY): ",
         Some(Answer::SpaceWait(_)) => b" waits for space (WAIT SPACE): ",
         None => b" is not looked at: ",
@@ -46,10 +52,13 @@ fn push_said(
         ) => push_risk(
             text,
             plan,
-            *fault,
-            (*step, *dd),
-            path.as_slice(),
-            lines.as_slice(),
+            &Met {
+                fault: *fault,
+                step: *step,
+                dd: *dd,
+                path: path.as_slice(),
+                lines: lines.as_slice(),
+            },
         ),
         Some(Answer::TooMany(step)) => {
             text.extend_from_slice(b"after ")?;

@@ -157,7 +157,7 @@ fn later_of(
         cause = next;
         at = place;
         let is_known = match mended.span_at(alloc, at)? {
-            Some(span) => is_known(mended, cause, span),
+            Some(span) => is_known(alloc, mended, cause, span)?,
             None => true,
         };
         if !is_known {

@@ -1,5 +1,5 @@
 //! The statement of a called procedure for which a call is refused.
-ghost use Rattle.std.specs.Prelude.{◌≡◌, IfOk};
+ghost use Rattle.std.specs.Prelude.{◌≡◌, ◌+◌, ◌^◌, ◌≤◌, IfOk, OnErr};
 ghost use Rattle.proc_library.specs.Libraries.{in_library};
 ghost use Rattle.deck_places.specs.Called.{lines_in, lines_of};
 ghost use Rattle.check_core.specs.Insides.{IsInsideAt, IsInsideOf, line_in};
@@ -17,7 +17,8 @@ use std::alloc::{AllocError, Global};
 
 /// The line of a statement in its procedure, which counts from 1.
 fn line_in(place: &CalledPlace) -> Result<usize, AllocError>
-    ensures { IfOk result (λ line. line ≡ line_in place.now) }
+    ensures ok { IfOk result (λ line. line ≡ line_in place.now) }
+    ensures err { OnErr result (2 ^ 64 ≤ place.now.card + 1) }
 {
     match place.head {
         Some(head) => Ok(place.card.saturating_sub(head)),

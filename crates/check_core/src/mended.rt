@@ -33,13 +33,20 @@ pub(crate) struct Span {
     pub(crate) to: usize,
 }
 
+/// A step that was replaced, or a DD of it: their names.
+#[derive(Drop)]
+pub(crate) struct Replaced {
+    pub(crate) step: Text,
+    pub(crate) dd: Option<Text>,
+}
+
 /// A deck that is mended.
 #[derive(Drop)]
 pub(crate) struct Mended {
     pub(crate) lines: Vec<Text>,
     pub(crate) touched: Vec<Touched>,
-    /// The names of statements that were replaced.
-    pub(crate) names: Vec<Text>,
+    /// The steps and DDs that were replaced, by their names.
+    pub(crate) replaced: Vec<Replaced>,
     /// A JOB statement was put in front.
     pub(crate) has_job_in_front: bool,
 }
@@ -74,6 +81,27 @@ fn good_statement(
     let mut text = Vec::from_slice(alloc, b"//")?;
     text.extend_from_slice(name)?;
     text.extend_from_slice(rest)?;
+    Ok(Some(text))
+}
+
+/// The same for the statements of a procedure: its head, its steps, its end.
+fn good_of_procedure(
+    alloc: Global,
+    name: &[u8],
+    operation: &[u8],
+) -> Result<Option<Vec<u8>>, AllocError> {
+    if operation == b"EXEC".as_slice() {
+        return good_statement(alloc, name, operation);
+    }
+    if operation != b"PROC".as_slice() && operation != b"PEND".as_slice() {
+        return Ok(None);
+    }
+    let mut text = Vec::from_slice(alloc, b"//")?;
+    if is_good(name) {
+        text.extend_from_slice(name)?;
+    }
+    text.push(b' ')?;
+    text.extend_from_slice(operation)?;
     Ok(Some(text))
 }
 
@@ -115,7 +143,7 @@ impl Mended {
         Ok(Mended {
             lines: copies,
             touched,
-            names: Vec::new(alloc),
+            replaced: Vec::new(alloc),
             has_job_in_front: false,
         })
     }
@@ -227,21 +255,92 @@ impl Mended {
         Ok(())
     }
 
+    /// The name of the last EXEC statement before a card.
+    pub(crate) fn step_before(&self, alloc: Global, card: usize) -> Result<Text, AllocError> {
+        for n in (0..card.min(self.lines.len())).rev() {
+            if let Some(card) = card_at(self.lines.as_slice(), n) {
+                if kind_of(&card) == Kind::Jcl && fields_of(&card).operation == b"EXEC".as_slice() {
+                    return Text::copy_of(alloc, fields_of(&card).name);
+                }
+            }
+        }
+        Text::copy_of(alloc, b"")
+    }
+
+    /// Notes a step or a DD that is replaced, whose statement begins on this card.
+    fn note(&mut self, alloc: Global, from: usize, card: &DataCard) -> Result<(), AllocError> {
+        let fields = fields_of(card);
+        let replaced = if fields.operation == b"EXEC".as_slice() {
+            Replaced {
+                step: Text::copy_of(alloc, fields.name)?,
+                dd: None,
+            }
+        } else {
+            Replaced {
+                step: self.step_before(alloc, from)?,
+                dd: Some(Text::copy_of(alloc, fields.name)?),
+            }
+        };
+        self.replaced.push(replaced)?;
+        Ok(())
+    }
+
+    /// Puts a good procedure in the place of one of the deck, so that its calls are not refused: its steps keep their names, and have no DDs.
+    fn replace_procedure(&mut self, alloc: Global, span: Span) -> Result<(), AllocError> {
+        for n in span.from..span.to {
+            let good = match card_at(self.lines.as_slice(), n) {
+                Some(card) if kind_of(&card) == Kind::Jcl => {
+                    let fields = fields_of(&card);
+                    good_of_procedure(alloc, fields.name, fields.operation)?
+                }
+                _ => None,
+            };
+            let text = match good {
+                Some(text) => Text::new(text),
+                None => Text::copy_of(alloc, b"//*")?,
+            };
+            self.put(n, text, Touched::Once);
+        }
+        Ok(())
+    }
+
+    /// Whether cards are those of a procedure of the deck with its end.
+    fn is_procedure(&self, span: Span) -> bool {
+        match card_at(self.lines.as_slice(), span.from) {
+            Some(card) => {
+                fields_of(&card).operation == b"PROC".as_slice()
+                    && self.is_end_of_procedure(span.to.saturating_sub(1))
+            }
+            None => false,
+        }
+    }
+
+    fn is_end_of_procedure(&self, n: usize) -> bool {
+        match card_at(self.lines.as_slice(), n) {
+            Some(card) => {
+                kind_of(&card) == Kind::Jcl && fields_of(&card).operation == b"PEND".as_slice()
+            }
+            None => false,
+        }
+    }
+
     /// Puts a good statement in the place of a statement.
     fn replace(&mut self, alloc: Global, span: Span) -> Result<(), AllocError> {
-        let again = self.is_touched(span);
-        let card = card_at(self.lines.as_slice(), span.from);
-        if again {
+        if self.is_touched(span) {
             return self.comment(alloc, span, Touched::Twice);
         }
+        if self.is_procedure(span) {
+            return self.replace_procedure(alloc, span);
+        }
+        let card = card_at(self.lines.as_slice(), span.from);
         self.comment(alloc, span, Touched::Once)?;
         let Some(card) = card else { return Ok(()) };
         if kind_of(&card) != Kind::Jcl {
             return Ok(());
         }
-        let name = fields_of(&card).name;
-        self.names.push(Text::copy_of(alloc, name)?)?;
-        if let Some(text) = good_statement(alloc, name, fields_of(&card).operation)? {
+        let fields = fields_of(&card);
+        self.note(alloc, span.from, &card)?;
+        if let Some(text) = good_statement(alloc, fields.name, fields.operation)? {
             self.put(span.from, Text::new(text), Touched::Once);
         }
         Ok(())

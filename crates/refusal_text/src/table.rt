@@ -1,9 +1,9 @@
-//! What is wrong with a deck, and what to do, by the number of its refusal.
+//! What is wrong with a deck, and what to do, by the number of its refusal; and the same of a job, by the number of its fault.
 ghost use Rattle.std.specs.Prelude.{◌≡◌, IfSome};
 
 /// A refusal in words.
 pub struct Row {
-    /// Its letter and its number: C4, N1, P20.
+    /// Its letter and its number: C4, N1, P20, F1.
     pub letter: u8,
     pub number: u8,
     pub wrong: &'static str,
@@ -11,7 +11,7 @@ pub struct Row {
 }
 
 /// In the order of their numbers.
-static ROWS: [Row; 46] = [
+static ROWS: [Row; 56] = [
     Row {
         letter: b'C',
         number: 1,
@@ -288,9 +288,69 @@ static ROWS: [Row; 46] = [
         wrong: "fewer records of the queue are free than the job needs",
         to_do: "let jobs that wait end",
     },
+    Row {
+        letter: b'F',
+        number: 1,
+        wrong: "a data set is missing",
+        to_do: "check its name; see which step deletes it; NEW makes it",
+    },
+    Row {
+        letter: b'F',
+        number: 2,
+        wrong: "the volume has a data set of this name",
+        to_do: "delete it in an earlier step, or DISP=OLD or MOD",
+    },
+    Row {
+        letter: b'F',
+        number: 3,
+        wrong: "the catalog has the name for another volume, or as a group",
+        to_do: "UNCATLG before, or KEEP",
+    },
+    Row {
+        letter: b'F',
+        number: 4,
+        wrong: "the catalog has no entry to remove",
+        to_do: "KEEP or DELETE in place of UNCATLG",
+    },
+    Row {
+        letter: b'F',
+        number: 5,
+        wrong: "no such generation or group",
+        to_do: "./ GROUP; count from the newest: 0, -1, -2",
+    },
+    Row {
+        letter: b'F',
+        number: 6,
+        wrong: "there is no primary space",
+        to_do: "less SPACE, or a unit with more volumes",
+    },
+    Row {
+        letter: b'F',
+        number: 7,
+        wrong: "SPACE is missing for a data set that is to be made",
+        to_do: "SPACE; for an existing set DISP=OLD",
+    },
+    Row {
+        letter: b'F',
+        number: 8,
+        wrong: "the data set is gone at its disposition",
+        to_do: "delete it once",
+    },
+    Row {
+        letter: b'F',
+        number: 9,
+        wrong: "a generation's number would be above 9999",
+        to_do: "begin a group with another base",
+    },
+    Row {
+        letter: b'F',
+        number: 10,
+        wrong: "the volume is unknown",
+        to_do: "./ VOLUME; compare the serial",
+    },
 ];
 
-/// What is said of a refusal.
+/// What is said of a refusal, or of a fault of a job.
 pub fn row_of(letter: u8, number: u8) -> Option<&'static Row>
     ensures { IfSome result (λ row. (row.now.letter ≡ letter) × (row.now.number ≡ number)) }
 {
