@@ -14,6 +14,7 @@ import re
 import subprocess
 import sys
 import tempfile
+import textwrap
 
 import growth
 import sessions
@@ -120,6 +121,7 @@ def row(program, make, size):
     """The row of a session, of a given size or of none, with its name and its instructions."""
     text = make() if size is None else make(size)
     name = make.__doc__.rstrip(".") if size is None else make.__doc__.rstrip(".").format(size)
+    name = textwrap.shorten(name, 56, placeholder="..")
     listed, memory = run_once(program, text)
     whole = instructions(program, text)
     half, ratio = "-", "-"
