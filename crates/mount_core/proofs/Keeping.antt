@@ -7,9 +7,9 @@ use Rattle.extent_core.specs.declared.extent.Extent.{Extent}
 use Rattle.vtoc_core.specs.declared.volume.Track.{Track}
 use Rattle.vtoc_core.specs.declared.volume.Track.TheVariants.{Free, Aside, Unusable}
 use Rattle.vtoc_core.specs.Extents.{tracks_in}
-use Rattle.vtoc_core.specs.Volumes.{AreOf, count_of, first_tracks, is_in_some, is_kind, marked, marked_from, times_in}
+use Rattle.vtoc_core.specs.Volumes.{AreOf, count_of, empty_among, first_tracks, is_in_some, is_kind, marked, marked_from, times_in}
 use Rattle.vtoc_core.proofs.CountLemmas.{count-cons}
-use Rattle.vtoc_core.proofs.FreeLemmas.{times_in-append}
+use Rattle.vtoc_core.proofs.FreeLemmas.{empty-append, times_in-append}
 use Rattle.vtoc_core.proofs.KindLemmas.{apart, are_of_stay, marked_in, marked_not_in}
 use Rattle.vtoc_core.proofs.PlanLemmas.{tracks_in-cons}
 use Rattle.mount_core.specs.declared.place.KeptPlace.{KeptPlace}
@@ -35,11 +35,20 @@ module _ (tracks : List Track) (kept : Kept) (place : KeptPlace) where
   fewer_times : (k : ℕ) (v : Entry) → get kept place ≡ Some v → times_in k (extents_kept kept) ≡ times_in k (extents_kept (remove kept place)) + times_in k v
   fewer_times k v h = size_fewer (times_in k) (times_in-append k) kept place v h
 
+  -- and how many extents have no track
+  more_empty : (list : List Extent) → get kept place ≡ None →
+      empty_among (extents_kept (insert kept place list)) ≡ empty_among (extents_kept kept) + empty_among list
+  more_empty list h = size_more empty_among empty-append kept place list h
+
+  fewer_empty : (v : Entry) → get kept place ≡ Some v → empty_among (extents_kept kept) ≡ empty_among (extents_kept (remove kept place)) + empty_among v
+  fewer_empty v h = size_fewer empty_among empty-append kept place v h
+
   -- a list that is kept is aside
   pub list_kept : (list : List Extent) → get kept place ≡ Some list → AreKept tracks kept → AreOf Aside tracks list
   list_kept list h a = record {
     kinds = λ k l. a.aside.kinds k (omega (arith, fewer_times k list h));
     once = λ k. let o = a.aside.once k in omega (arith, fewer_times k list h);
+    none_empty = omega (arith, fewer_empty list h, a.aside.none_empty);
   }
 
   -- one list more
@@ -61,6 +70,7 @@ module _ (tracks : List Track) (kept : Kept) (place : KeptPlace) where
           (λ (p : 0 < times_in k list). let z : times_in k (extents_kept kept) ≡ 0 = apart k Free Aside tracks list (extents_kept kept) free≢aside f a.aside p in omega arith)
           (λ (p : times_in k list ≤ 0). omega arith)
           (cases_lt 0 (times_in k list));
+      none_empty = omega (arith, more_empty list h, f.none_empty, a.aside.none_empty);
     };
     count =
         let t : tracks_in (extents_kept (insert kept place list)) ≡ tracks_in (extents_kept kept) + tracks_in list = size_more tracks_in tracks_in-append kept place list h in
@@ -78,6 +88,7 @@ module _ (tracks : List Track) (kept : Kept) (place : KeptPlace) where
           let o = a.aside.once k in
           marked_not_in kind list tracks k (omega arith) ∙ a.aside.kinds k (omega arith);
       once = λ k. let o = a.aside.once k in omega (arith, fewer_times k list h);
+      none_empty = omega (arith, fewer_empty list h, a.aside.none_empty);
     };
     count =
         let t : tracks_in (extents_kept kept) ≡ tracks_in (extents_kept (remove kept place)) + tracks_in list = size_fewer tracks_in tracks_in-append kept place list h in
@@ -117,6 +128,7 @@ first_kept n es tracks kept q r = subst (λ ts. AreKept ts kept) (sym q) (subst 
   aside = record {
     kinds = λ k l. let z : times_in k (extents_kept empty) ≡ 0 = ap (times_in k) none_in in absurd (omega arith);
     once = λ k. let z : times_in k (extents_kept empty) ≡ 0 = ap (times_in k) none_in in omega arith;
+    none_empty = ap empty_among none_in;
   };
   count = ap tracks_in none_in ∙ sym (first_aside n 0 es);
 }))

@@ -5,8 +5,8 @@ use Rattle.extent_core.specs.declared.extent.Extent.{Extent}
 use Rattle.extent_core.specs.Extents.{extent, is_in}
 use Rattle.extent_core.proofs.Marking.{is_in_before, is_in_behind, is_in_within}
 use Rattle.vtoc_core.specs.Extents.{kept_front, past_front, tracks_in}
-use Rattle.vtoc_core.specs.Volumes.{times_in, tracks_past}
-use Rattle.vtoc_core.proofs.FreeLemmas.{times_in-cons}
+use Rattle.vtoc_core.specs.Volumes.{empty_among, times_in, tracks_past}
+use Rattle.vtoc_core.proofs.FreeLemmas.{empty-cons, empty-cons_not, times_in-cons}
 use Rattle.vtoc_core.proofs.PlanLemmas.{tracks_in-cons}
 
 kept_none : (n : ℕ) (es : List Extent) → n ≡ 0 → kept_front n es ≡ []
@@ -93,6 +93,23 @@ times_in_parts k n (e ∷ es) =
     omega (arith, times_in-cons k e es, times_in-cons k e (kept_front (n - e.tracks) es))))
     (λ (l : n < e.tracks). rw (front_part es e n z l, back_part es e n z l)
     (omega (arith, times_in-cons k e es, times_in-cons k (extent e.start n) [], times_in-cons k (extent (e.start + n) (e.tracks - n)) es, parts_split k n e l)))
+    (⊎_elim (λ (l : n < e.tracks). inr l) (λ (l : e.tracks ≤ n). inl l) (cases_lt n e.tracks)))
+    (cases_eq n 0)
+
+-- and so many extents without a track
+pub empty_in_parts : (n : ℕ) (es : List Extent) → empty_among es ≡ empty_among (kept_front n es) + empty_among (past_front n es)
+empty_in_parts n [] = refl
+empty_in_parts n (e ∷ es) =
+    ⊎_elim
+    (λ (z : n ≡ 0). rw (kept_none n (e ∷ es) z, past_none n (e ∷ es) z) (omega arith))
+    (λ (z : n ≢ 0).
+    ⊎_elim
+    (λ (l : e.tracks ≤ n). rw (front_whole es e n z l, back_whole es e n z l)
+    (let i : empty_among es ≡ empty_among (kept_front (n - e.tracks) es) + empty_among (past_front (n - e.tracks) es) = empty_in_parts (n - e.tracks) es in
+    omega (arith, empty-cons e es, empty-cons e (kept_front (n - e.tracks) es))))
+    (λ (l : n < e.tracks). rw (front_part es e n z l, back_part es e n z l)
+    (omega (arith, empty-cons_not e es (omega arith), empty-cons_not (extent e.start n) [] (omega arith),
+    empty-cons_not (extent (e.start + n) (e.tracks - n)) es (omega arith))))
     (⊎_elim (λ (l : n < e.tracks). inr l) (λ (l : e.tracks ≤ n). inl l) (cases_lt n e.tracks)))
     (cases_eq n 0)
 

@@ -1,6 +1,6 @@
 -- The free extents of a volume stand in order, and a track lies in one of them at most.
-use Rattle.std.proofs.Common.{◌≡◌, ℕ, ◌+◌, ◌<◌, ◌≤◌, false, cond, List, [], ◌∷◌, ◌++◌, length, refl, ap, ◌∙◌, arith, ⊎_elim, zero-add}
-use Rattle.std.proofs.lemmas.Bool.{cases_lt, cond_both}
+use Rattle.std.proofs.Common.{◌≡◌, ℕ, ◌+◌, ◌<◌, ◌≤◌, false, cond, List, [], ◌∷◌, ◌++◌, length, nat_eq, refl, ap, ◌∙◌, arith, ⊎_elim, zero-add}
+use Rattle.std.proofs.lemmas.Bool.{cases_lt, cond_both, ne_eqb}
 use Rattle.std.proofs.lemmas.List.Sums.{sum_by-append, sum_by-cons}
 use Rattle.extent_core.specs.declared.extent.Extent.{Extent}
 use Rattle.extent_core.specs.Extents.{AreApart, is_in}
@@ -8,7 +8,7 @@ use Rattle.extent_core.proofs.LawLemmas.{free_extents_are_apart}
 use Rattle.extent_core.proofs.Marking.{is_in_before, is_in_behind}
 use Rattle.vtoc_core.specs.declared.volume.Track.{Track}
 use Rattle.vtoc_core.specs.Extents.{are_free, free_extents}
-use Rattle.vtoc_core.specs.Volumes.{times_in}
+use Rattle.vtoc_core.specs.Volumes.{empty_among, times_in}
 
 -- extents in order, the first at or behind a track
 abbrev pub InOrder : ℕ → List Extent → Type 0
@@ -33,6 +33,17 @@ times_in-cons k e es = sum_by-cons (λ f. cond (is_in k f) 1 0) e es
 
 pub times_in-cons_not : (k : ℕ) (e : Extent) (es : List Extent) → is_in k e ≡ false → times_in k (e ∷ es) ≡ times_in k es
 times_in-cons_not k e es h = times_in-cons k e es ∙ ap (λ b. cond b 1 0 + times_in k es) h ∙ zero-add (times_in k es)
+
+-- how many extents have no track
+pub empty-cons : (e : Extent) (es : List Extent) → empty_among (e ∷ es) ≡ cond (nat_eq e.tracks 0) 1 0 + empty_among es
+empty-cons e es = sum_by-cons (λ f. cond (nat_eq f.tracks 0) 1 0) e es
+
+pub empty-cons_not : (e : Extent) (es : List Extent) → 0 < e.tracks → empty_among (e ∷ es) ≡ empty_among es
+empty-cons_not e es l =
+    empty-cons e es ∙ ap (λ b. cond b 1 0 + empty_among es) (ne_eqb e.tracks 0 (λ z. omega arith)) ∙ zero-add (empty_among es)
+
+pub empty-append : (es fs : List Extent) → empty_among (es ++ fs) ≡ empty_among es + empty_among fs
+empty-append es fs = sum_by-append (λ e. cond (nat_eq e.tracks 0) 1 0) es fs
 
 pub times_in-append : (k : ℕ) (es fs : List Extent) → times_in k (es ++ fs) ≡ times_in k es + times_in k fs
 times_in-append k es fs = sum_by-append (λ e. cond (is_in k e) 1 0) es fs

@@ -8,9 +8,9 @@ use Rattle.extent_core.specs.declared.extent.Extent.{Extent}
 use Rattle.extent_core.specs.Extents.{is_in}
 use Rattle.vtoc_core.specs.declared.volume.Track.{Track}
 use Rattle.vtoc_core.specs.declared.volume.Track.TheVariants.{Free, Aside, InSet, Unusable}
-use Rattle.vtoc_core.specs.Volumes.{is_in_some, times_in, marked, AreOf, LieApart}
+use Rattle.vtoc_core.specs.Volumes.{empty_among, is_in_some, times_in, marked, AreOf, LieApart}
 use Rattle.vtoc_core.proofs.MarkLemmas.{length-marked, get_or-marked}
-use Rattle.vtoc_core.proofs.FreeLemmas.{times_in-cons}
+use Rattle.vtoc_core.proofs.FreeLemmas.{empty-cons, times_in-cons}
 
 -- the kinds differ
 pub free≢in_set : Free ≢ InSet
@@ -70,6 +70,7 @@ pub are_of-marked : (from kind : Track) (es : List Extent) (ts : List Track) →
 are_of-marked from kind es ts a = record {
   kinds = λ k l. marked_in kind es ts k from (a.kinds k l) l;
   once = a.once;
+  none_empty = a.none_empty;
 }
 
 -- no track is of two kinds
@@ -89,6 +90,7 @@ are_of_stay from kind b es fs ts n x y = record {
       (λ (p : times_in k es ≤ 0). marked_not_in kind es ts k (omega arith) ∙ y.kinds k l)
       (cases_lt 0 (times_in k es));
   once = y.once;
+  none_empty = y.none_empty;
 }
 
 -- tracks that are apart from those marked stay as they are
@@ -96,6 +98,7 @@ pub are_of_apart : (kind b : Track) (ts : List Track) (fs es : List Extent) → 
 are_of_apart kind b ts fs es y h = record {
   kinds = λ k l. marked_not_in kind es ts k (h k l) ∙ y.kinds k l;
   once = y.once;
+  none_empty = y.none_empty;
 }
 
 -- extents of one kind behind the first, once that is marked
@@ -106,6 +109,7 @@ others_stay from kind e es ts a = record {
       let z : times_in k (e ∷ []) ≡ 0 = omega (arith, times_in-cons k e es, times_in-cons k e []) in
       marked_not_in kind (e ∷ []) ts k z ∙ a.kinds k (omega (arith, times_in-cons k e es));
   once = λ k. let o : times_in k (e ∷ es) ≤ 1 = a.once k in omega (arith, times_in-cons k e es);
+  none_empty = let z : empty_among (e ∷ es) ≡ 0 = a.none_empty in omega (arith, empty-cons e es);
 }
 
 -- tracks that are marked and marked back are as before

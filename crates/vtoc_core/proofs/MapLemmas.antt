@@ -1,5 +1,5 @@
 -- The sets of a volume as a map: what it has at a key, and the extents of all.
-use Rattle.std.proofs.Common.{◌≡◌, ℕ, ◌+◌, Bool, true, false, cond, List, [], ◌∷◌, Option, Some, None, refl, ap, sym, ◌∙◌, arith, append-nil}
+use Rattle.std.proofs.Common.{◌≡◌, ℕ, ◌+◌, Bool, true, false, cond, List, [], ◌∷◌, ◌++◌, Option, Some, None, refl, ap, sym, ◌∙◌, arith, append-nil}
 use Rattle.std.specs.BTreeMap.{is_at}
 use Rattle.std.specs.FinMap.{entries, entries-insert, find, get, get-entries, get-from_entries, get-insert, get-remove, insert, put, remove, same_map}
 use Rattle.std.specs.List.{flat_map}
@@ -130,35 +130,46 @@ unwritten_is es fs k e new h n u =
 abbrev extents_in : List (SetKey × SetEntry) → List Extent
 extents_in es = flat_map (λ s. s.1.extents.items) es
 
-times_in-put : (t : ℕ) (k : SetKey) (v : SetEntry) (es : List (SetKey × SetEntry)) → find key_cmp k es ≡ None →
-    times_in t (extents_in (put key_cmp k v es)) ≡ times_in t (extents_in es) + times_in t v.extents.items
-times_in-put t k v [] h = ap (times_in t) (append-nil v.extents.items) ∙ omega arith
-times_in-put t k v (e ∷ es) h =
-    elim (key_cmp k e.0) as
-    (λ o. key_cmp k e.0 ≡ o → times_in t (extents_in (put key_cmp k v (e ∷ es))) ≡ times_in t (extents_in (e ∷ es)) + times_in t v.extents.items) [
-      | Less ↦ λ q. simp q (times_in-append t v.extents.items (extents_in (e ∷ es)) ∙ omega arith)
-      | Equal ↦ λ q. absurd (none-some e.1 (sym (simp q at h)))
-      | Greater ↦ λ q.
-          let r : find key_cmp k es ≡ None = simp q at h in
-          let i : times_in t (extents_in (put key_cmp k v es)) ≡ times_in t (extents_in es) + times_in t v.extents.items = times_in-put t k v es r in
-          simp q (omega (arith, times_in-append t e.1.extents.items (extents_in (put key_cmp k v es)), times_in-append t e.1.extents.items (extents_in es)))
-    ] refl
+-- a measure of extents that adds up
+module _ (size : List Extent → ℕ) (adds : (es fs : List Extent) → size (es ++ fs) ≡ size es + size fs) where
+  size-put : (k : SetKey) (v : SetEntry) (es : List (SetKey × SetEntry)) → find key_cmp k es ≡ None →
+      size (extents_in (put key_cmp k v es)) ≡ size (extents_in es) + size v.extents.items
+  size-put k v [] h = ap size (append-nil v.extents.items) ∙ (let z : size ([] ++ []) ≡ size [] + size [] = adds [] [] in omega (arith, z))
+  size-put k v (e ∷ es) h =
+      elim (key_cmp k e.0) as
+      (λ o. key_cmp k e.0 ≡ o → size (extents_in (put key_cmp k v (e ∷ es))) ≡ size (extents_in (e ∷ es)) + size v.extents.items) [
+        | Less ↦ λ q. simp q (adds v.extents.items (extents_in (e ∷ es)) ∙ omega arith)
+        | Equal ↦ λ q. absurd (none-some e.1 (sym (simp q at h)))
+        | Greater ↦ λ q.
+            let r : find key_cmp k es ≡ None = simp q at h in
+            let i : size (extents_in (put key_cmp k v es)) ≡ size (extents_in es) + size v.extents.items = size-put k v es r in
+            simp q (omega (arith, adds e.1.extents.items (extents_in (put key_cmp k v es)), adds e.1.extents.items (extents_in es)))
+      ] refl
+
+  pub size_more : (m : Sets) (k : SetKey) (v : SetEntry) → get m k ≡ None → size (extents_of_all (insert m k v)) ≡ size (extents_of_all m) + size v.extents.items
+  size_more m k v h =
+      ap (λ es. size (extents_in es)) (entries-insert key_total m k v)
+      ∙ size-put k v (entries m) (sym (get-entries m k) ∙ h)
+
+  -- of a set that is there, and of that set with others
+  pub size_fewer : (m : Sets) (k : SetKey) (v : SetEntry) → get m k ≡ Some v → size (extents_of_all m) ≡ size (extents_of_all (remove m k)) + size v.extents.items
+  size_fewer m k v h =
+      sym (ap (λ (n : Sets). size (extents_of_all n)) (insert-remove m k v ∙ insert_same m k v h))
+      ∙ size_more (remove m k) k v (get_removed m k)
+
+  pub size_other : (m : Sets) (k : SetKey) (v : SetEntry) → size (extents_of_all (insert m k v)) ≡ size (extents_of_all (remove m k)) + size v.extents.items
+  size_other m k v =
+      sym (ap (λ (n : Sets). size (extents_of_all n)) (insert-remove m k v))
+      ∙ size_more (remove m k) k v (get_removed m k)
 
 pub times_in_more : (t : ℕ) (m : Sets) (k : SetKey) (v : SetEntry) → get m k ≡ None →
     times_in t (extents_of_all (insert m k v)) ≡ times_in t (extents_of_all m) + times_in t v.extents.items
-times_in_more t m k v h =
-    ap (λ es. times_in t (extents_in es)) (entries-insert key_total m k v)
-    ∙ times_in-put t k v (entries m) (sym (get-entries m k) ∙ h)
+times_in_more t = size_more (times_in t) (times_in-append t)
 
--- of a set that is there, and of that set with others
 pub times_in_fewer : (t : ℕ) (m : Sets) (k : SetKey) (v : SetEntry) → get m k ≡ Some v →
     times_in t (extents_of_all m) ≡ times_in t (extents_of_all (remove m k)) + times_in t v.extents.items
-times_in_fewer t m k v h =
-    sym (ap (λ (n : Sets). times_in t (extents_of_all n)) (insert-remove m k v ∙ insert_same m k v h))
-    ∙ times_in_more t (remove m k) k v (get_removed m k)
+times_in_fewer t = size_fewer (times_in t) (times_in-append t)
 
 pub times_in_other : (t : ℕ) (m : Sets) (k : SetKey) (v : SetEntry) →
     times_in t (extents_of_all (insert m k v)) ≡ times_in t (extents_of_all (remove m k)) + times_in t v.extents.items
-times_in_other t m k v =
-    sym (ap (λ (n : Sets). times_in t (extents_of_all n)) (insert-remove m k v))
-    ∙ times_in_more t (remove m k) k v (get_removed m k)
+times_in_other t = size_other (times_in t) (times_in-append t)

@@ -10,8 +10,8 @@ use Rattle.extent_core.proofs.Marking.{is_in_within, within_is_in}
 use Rattle.vtoc_core.specs.declared.volume.Track.{Track}
 use Rattle.vtoc_core.specs.declared.volume.Track.TheVariants.{Free}
 use Rattle.vtoc_core.specs.Extents.{without_extent, others_by, tracks_of_largest_by, tracks_of_largest, five_largest, behind, largest_taken, front_or, planned, tracks_in, free_extents}
-use Rattle.vtoc_core.specs.Volumes.{times_in, AreOf}
-use Rattle.vtoc_core.proofs.FreeLemmas.{InOrder, in_order_from, in_order-free_extents, in_order_once, times_in-cons, times_in-cons_not}
+use Rattle.vtoc_core.specs.Volumes.{empty_among, times_in, AreOf}
+use Rattle.vtoc_core.proofs.FreeLemmas.{InOrder, empty-cons, empty-cons_not, in_order_from, in_order-free_extents, in_order_once, times_in-cons, times_in-cons_not}
 use Rattle.vtoc_core.proofs.FreeTracks.{free_extents_hold}
 use Rattle.vtoc_core.proofs.LargestLemmas.{largest, before, largest_taken_is, largest_is_one, IsOneOf, sought, none_or_some, taken_from}
 
@@ -76,11 +76,29 @@ times_in_largest (suc j) es at k h =
     omega (arith, times_in-cons k p.0 (largest j (without_extent p.0 es)), times_without es at p.0 k h (largest_is_one es p.0 p.1))))
     (none_or_some (largest_of es))
 
--- what is taken of some extents: as many tracks as are wanted, each of those extents, and no more extents
+-- each of extents in order has a track, so have the largest of them
+one_has_tracks : (es : List Extent) (at : ℕ) (m : Extent) → InOrder at es → IsOneOf m es → 0 < m.tracks
+one_has_tracks [] at m h o = absurd o
+one_has_tracks (x ∷ xs) at m h o =
+    ⊎_elim (λ (q : m ≡ x). rw q h.1) (λ (t : IsOneOf m xs). one_has_tracks xs (x.start + x.tracks) m h.2 t) o
+
+empty_largest : (j : ℕ) (es : List Extent) (at : ℕ) → InOrder at es → empty_among (largest j es) ≡ 0
+empty_largest zero es at h = refl
+empty_largest (suc j) es at h =
+    ⊎_elim
+    (λ (n : largest_of es ≡ None). rw n refl)
+    (λ (p : (m : Extent) × (largest_of es ≡ Some m)).
+    rw p.1
+    (empty-cons_not p.0 (largest j (without_extent p.0 es)) (one_has_tracks es at p.0 h (largest_is_one es p.0 p.1))
+    ∙ empty_largest j (without_extent p.0 es) at (in_order_without es at p.0 h)))
+    (none_or_some (largest_of es))
+
+-- what is taken of some extents: as many tracks as are wanted, each of those extents, no more extents, and none without a track
 pub record Takes (from : List Extent) (n : ℕ) (list : List Extent) : Type 0 where
   pub tracks : tracks_in list ≡ n
   pub among : (k : ℕ) → times_in k list ≤ times_in k from
   pub few : length list ≤ length from
+  pub none_empty : 0 < n → empty_among from ≡ 0 → empty_among list ≡ 0
 
 takes_front : (e : Extent) (es : List Extent) (n : ℕ) → n ≤ e.tracks → Takes (e ∷ es) n (extent e.start n ∷ [])
 takes_front e es n l = record {
@@ -96,13 +114,17 @@ takes_front e es n l = record {
       (λ (q : is_in k (extent e.start n) ≡ false). rw (times_in-cons_not k (extent e.start n) [] q) (omega arith))
       (cases_Bool (is_in k (extent e.start n)));
   few = omega arith;
+  none_empty = λ p z. empty-cons_not (extent e.start n) [] p;
 }
 
-takes_whole : (e : Extent) (es list : List Extent) (n : ℕ) → e.tracks ≤ n → Takes es (n - e.tracks) list → Takes (e ∷ es) n (e ∷ list)
+takes_whole : (e : Extent) (es list : List Extent) (n : ℕ) → e.tracks < n → Takes es (n - e.tracks) list → Takes (e ∷ es) n (e ∷ list)
 takes_whole e es list n l t = record {
   tracks = tracks_in-cons e list ∙ let q = t.tracks in omega arith;
   among = λ k. let q = t.among k in omega (arith, times_in-cons k e list, times_in-cons k e es);
   few = let q = t.few in omega arith;
+  none_empty = λ p z.
+      let r : empty_among list ≡ 0 = t.none_empty (omega arith) (omega (arith, empty-cons e es)) in
+      omega (arith, empty-cons e es, empty-cons e list);
 }
 
 behind_some : (e : Extent) (o : Option (List Extent)) (list : List Extent) → behind e o ≡ Some list → (rest : List Extent) × (o ≡ Some rest) × (list ≡ e ∷ rest)
@@ -219,11 +241,13 @@ pub record IsPlan (ts : List Track) (n : ℕ) (list : List Extent) : Type 0 wher
   pub tracks : tracks_in list ≡ n
   pub few : length list ≤ 5
 
-plan_from : (ts : List Track) (n : ℕ) (list : List Extent) → tracks_in list ≡ n → ((k : ℕ) → times_in k list ≤ times_in k (free_extents ts)) → length list ≤ 5 → IsPlan ts n list
-plan_from ts n list t among few = record {
+plan_from : (ts : List Track) (n : ℕ) (list : List Extent) → tracks_in list ≡ n → ((k : ℕ) → times_in k list ≤ times_in k (free_extents ts)) → length list ≤ 5 →
+    empty_among list ≡ 0 → IsPlan ts n list
+plan_from ts n list t among few none_empty = record {
   free = record {
     kinds = λ k l. free_extents_hold k ts (let a = among k in omega arith);
     once = λ k. let a = among k in let o = in_order_once k 0 (free_extents ts) (in_order-free_extents ts) in omega arith;
+    none_empty = none_empty;
   };
   tracks = t;
   few = few;
@@ -245,31 +269,33 @@ times_in_one (x ∷ xs) e k o =
     (λ (t : IsOneOf e xs). let i : times_in k (e ∷ []) ≤ times_in k xs = times_in_one xs e k t in omega (arith, times_in-cons k x xs))
     o
 
-plan_taken : (j : ℕ) (ts : List Track) (n : ℕ) (list : List Extent) → j ≤ 5 → largest_taken j (free_extents ts) n ≡ Some list → IsPlan ts n list
-plan_taken j ts n list l h =
+plan_taken : (j : ℕ) (ts : List Track) (n : ℕ) (list : List Extent) → 0 < n → j ≤ 5 → largest_taken j (free_extents ts) n ≡ Some list → IsPlan ts n list
+plan_taken j ts n list p l h =
     let t : Takes (largest j (free_extents ts)) n list = taken_takes (largest j (free_extents ts)) n list (sym (largest_taken_is j (free_extents ts) n) ∙ h) in
     plan_from ts n list t.tracks
     (λ k. let a = t.among k in let b = times_in_largest j (free_extents ts) 0 k (in_order-free_extents ts) in omega arith)
     (let a = t.few in let b = length-largest j (free_extents ts) in omega arith)
+    (t.none_empty p (empty_largest j (free_extents ts) 0 (in_order-free_extents ts)))
 
-plan_front : (ts : List Track) (n : ℕ) (e : Extent) → first_of n (free_extents ts) ≡ Some e → IsPlan ts n (extent e.start n ∷ [])
-plan_front ts n e h =
+plan_front : (ts : List Track) (n : ℕ) (e : Extent) → 0 < n → first_of n (free_extents ts) ≡ Some e → IsPlan ts n (extent e.start n ∷ [])
+plan_front ts n e p h =
     let f = first_of_some n (free_extents ts) e h in
     let t : Takes (e ∷ []) n (extent e.start n ∷ []) = takes_front e [] n f.0 in
     plan_from ts n (extent e.start n ∷ []) t.tracks
     (λ k. let a = t.among k in let b = times_in_one (free_extents ts) e k f.1 in omega arith)
     (omega arith)
+    (empty-cons_not (extent e.start n) [] p)
 
 pub planned_is : (ts : List Track) (n : ℕ) (list : List Extent) → planned (free_extents ts) n ≡ Some list → IsPlan ts n list
 planned_is ts n list h =
     ⊎_elim
-    (λ (z : n ≡ 0). subst (IsPlan ts n) (same_Some [] list (sym (planned_none (free_extents ts) n z) ∙ h)) (plan_from ts n [] (sym z) (λ k. omega arith) (omega arith)))
+    (λ (z : n ≡ 0). subst (IsPlan ts n) (same_Some [] list (sym (planned_none (free_extents ts) n z) ∙ h)) (plan_from ts n [] (sym z) (λ k. omega arith) (omega arith) refl))
     (λ (z : n ≢ 0).
     let s : sought n (free_extents ts) ≡ Some list = sym (planned_sought (free_extents ts) n z) ∙ h in
     ⊎_elim
-    (λ (f : first_of n (free_extents ts) ≡ None). plan_taken 5 ts n list (omega arith) (sym (ap (λ o. front_or o n (largest_taken 5 (free_extents ts) n)) f) ∙ s))
+    (λ (f : first_of n (free_extents ts) ≡ None). plan_taken 5 ts n list (omega arith) (omega arith) (sym (ap (λ o. front_or o n (largest_taken 5 (free_extents ts) n)) f) ∙ s))
     (λ (q : (e : Extent) × (first_of n (free_extents ts) ≡ Some e)).
-    subst (IsPlan ts n) (same_Some (extent q.0.start n ∷ []) list (sym (ap (λ o. front_or o n (largest_taken 5 (free_extents ts) n)) q.1) ∙ s)) (plan_front ts n q.0 q.1))
+    subst (IsPlan ts n) (same_Some (extent q.0.start n ∷ []) list (sym (ap (λ o. front_or o n (largest_taken 5 (free_extents ts) n)) q.1) ∙ s)) (plan_front ts n q.0 (omega arith) q.1))
     (none_or_some (first_of n (free_extents ts))))
     (cases_eq n 0)
 

@@ -12,12 +12,12 @@ use Rattle.vtoc_core.specs.declared.volume.Track.{Track}
 use Rattle.vtoc_core.specs.declared.volume.Track.TheVariants.{Free, InSet, Unusable}
 use Rattle.vtoc_core.specs.Entries.{Sets, changed, key_cmp, with_records}
 use Rattle.vtoc_core.specs.Extents.{kept_front, past_front}
-use Rattle.vtoc_core.specs.Volumes.{VolumeState, is_in_some, times_in, marked, AreOf, IsSoundVolume, extents_of_all, first_tracks}
-use Rattle.vtoc_core.proofs.CutLemmas.{times_in_parts}
-use Rattle.vtoc_core.proofs.FreeLemmas.{times_in-append}
+use Rattle.vtoc_core.specs.Volumes.{VolumeState, empty_among, is_in_some, times_in, marked, AreOf, IsSoundVolume, extents_of_all, first_tracks}
+use Rattle.vtoc_core.proofs.CutLemmas.{empty_in_parts, times_in_parts}
+use Rattle.vtoc_core.proofs.FreeLemmas.{empty-append, times_in-append}
 use Rattle.vtoc_core.proofs.KindLemmas.{apart, are_of_stay, free≢in_set, marked_in, marked_not_in, unusable≢in_set}
 use Rattle.vtoc_core.proofs.LargestLemmas.{none_or_some}
-use Rattle.vtoc_core.proofs.MapLemmas.{changed_is, not_changed, times_in_fewer, times_in_more, times_in_other}
+use Rattle.vtoc_core.proofs.MapLemmas.{changed_is, not_changed, size_fewer, size_more, size_other, times_in_fewer, times_in_more, times_in_other}
 use Rattle.vtoc_core.proofs.MarkLemmas.{length-marked, get_or-marked}
 
 -- tracks of no set become tracks of no set
@@ -33,11 +33,25 @@ sound_aside from kind v es n m a s = record {
   size = let l = length-marked kind es v.tracks in let z = s.size in omega arith;
 }
 
+-- extents without a track among those of all sets, once a set is there, is not there, or is another
+empty_more : (m : Sets) (key : SetKey) (e : SetEntry) → get m key ≡ None →
+    empty_among (extents_of_all (insert m key e)) ≡ empty_among (extents_of_all m) + empty_among e.extents.items
+empty_more = size_more empty_among empty-append
+
+empty_fewer : (m : Sets) (key : SetKey) (e : SetEntry) → get m key ≡ Some e →
+    empty_among (extents_of_all m) ≡ empty_among (extents_of_all (remove m key)) + empty_among e.extents.items
+empty_fewer = size_fewer empty_among empty-append
+
+empty_other : (m : Sets) (key : SetKey) (e : SetEntry) →
+    empty_among (extents_of_all (insert m key e)) ≡ empty_among (extents_of_all (remove m key)) + empty_among e.extents.items
+empty_other = size_other empty_among empty-append
+
 -- tracks of no set become those of a set
 pub sound_more : (from : Track) (v : VolumeState) (es : List Extent) (sets : Sets) → from ≢ InSet → AreOf from v.tracks es →
-    ((k : ℕ) → times_in k (extents_of_all sets) ≡ times_in k (extents_of_all v.sets) + times_in k es) → IsSoundVolume v →
+    ((k : ℕ) → times_in k (extents_of_all sets) ≡ times_in k (extents_of_all v.sets) + times_in k es) →
+    empty_among (extents_of_all sets) ≡ empty_among (extents_of_all v.sets) + empty_among es → IsSoundVolume v →
     IsSoundVolume (record { tracks = marked InSet es v.tracks; sets = sets })
-sound_more from v es sets n a t s = record {
+sound_more from v es sets n a t z s = record {
   in_sets = record {
     kinds = λ k l.
         ⊎_elim
@@ -53,6 +67,7 @@ sound_more from v es sets n a t s = record {
         apart k from InSet v.tracks es (extents_of_all v.sets) n a s.in_sets p in omega arith)
         (λ (p : times_in k es ≤ 0). omega arith)
         (cases_lt 0 (times_in k es));
+    none_empty = omega (arith, z, a.none_empty, s.in_sets.none_empty);
   };
   no_others = λ k h.
       let q = t k in
@@ -66,15 +81,17 @@ sound_more from v es sets n a t s = record {
 
 -- tracks of sets become free
 pub sound_fewer : (v : VolumeState) (es : List Extent) (sets : Sets) →
-    ((k : ℕ) → times_in k (extents_of_all v.sets) ≡ times_in k (extents_of_all sets) + times_in k es) → IsSoundVolume v →
+    ((k : ℕ) → times_in k (extents_of_all v.sets) ≡ times_in k (extents_of_all sets) + times_in k es) →
+    empty_among (extents_of_all v.sets) ≡ empty_among (extents_of_all sets) + empty_among es → IsSoundVolume v →
     IsSoundVolume (record { tracks = marked Free es v.tracks; sets = sets })
-sound_fewer v es sets t s = record {
+sound_fewer v es sets t z s = record {
   in_sets = record {
     kinds = λ k l.
         let q = t k in
         let o = s.in_sets.once k in
         marked_not_in Free es v.tracks k (omega arith) ∙ s.in_sets.kinds k (omega arith);
     once = λ k. let q = t k in let o = s.in_sets.once k in omega arith;
+    none_empty = omega (arith, z, s.in_sets.none_empty);
   };
   no_others = λ k h.
       let q = t k in
@@ -105,13 +122,20 @@ nothing : {X : Type 0} (xs : List X) → length xs ≡ 0 → xs ≡ []
 nothing [] h = refl
 nothing (x ∷ xs) h = absurd (omega arith)
 
-none_of_empty : (k : ℕ) → times_in k (extents_of_all empty) ≡ 0
-none_of_empty k = ap (λ es. times_in k (flat_map (λ (s : SetKey × SetEntry). s.1.extents.items) es))
+nothing_of_empty : extents_of_all empty ≡ []
+nothing_of_empty = ap (λ es. flat_map (λ (s : SetKey × SetEntry). s.1.extents.items) es)
     (nothing (entries (empty {R = key_cmp})) (sym (len-entries empty) ∙ len-empty key_cmp SetEntry))
+
+none_of_empty : (k : ℕ) → times_in k (extents_of_all empty) ≡ 0
+none_of_empty k = ap (times_in k) nothing_of_empty
 
 pub sound_first : (n : ℕ) (es : List Extent) → n ≤ 4000 → IsSoundVolume (record { tracks = first_tracks n es; sets = empty })
 sound_first n es l = record {
-  in_sets = record { kinds = λ k m. absurd (omega (arith, none_of_empty k)); once = λ k. omega (arith, none_of_empty k) };
+  in_sets = record {
+    kinds = λ k m. absurd (omega (arith, none_of_empty k));
+    once = λ k. omega (arith, none_of_empty k);
+    none_empty = ap empty_among nothing_of_empty;
+  };
   no_others = λ k h. absurd (first_kind n es k h);
   size = omega (arith, length-marked Unusable es (replicate n Free), length-replicate n Free);
 }
@@ -121,11 +145,13 @@ pub sound_made : (from : Track) (v : VolumeState) (es : List Extent) (key : SetK
     e.extents.items ≡ es → get v.sets key ≡ None → IsSoundVolume v → IsSoundVolume (record { tracks = marked InSet es v.tracks; sets = insert v.sets key e })
 sound_made from v es key e n a t h s =
     sound_more from v es (insert v.sets key e) n a
-    (λ k. times_in_more k v.sets key e h ∙ ap (λ fs. times_in k (extents_of_all v.sets) + times_in k fs) t) s
+    (λ k. times_in_more k v.sets key e h ∙ ap (λ fs. times_in k (extents_of_all v.sets) + times_in k fs) t)
+    (empty_more v.sets key e h ∙ ap (λ fs. empty_among (extents_of_all v.sets) + empty_among fs) t) s
 
 pub sound_scratched : (v : VolumeState) (key : SetKey) (e : SetEntry) → get v.sets key ≡ Some e → IsSoundVolume v →
     IsSoundVolume (record { tracks = marked Free e.extents.items v.tracks; sets = remove v.sets key })
-sound_scratched v key e h s = sound_fewer v e.extents.items (remove v.sets key) (λ k. times_in_fewer k v.sets key e h) s
+sound_scratched v key e h s = sound_fewer v e.extents.items (remove v.sets key) (λ k. times_in_fewer k v.sets key e h)
+    (empty_fewer v.sets key e h) s
 
 pub sound_grown : (v : VolumeState) (es : List Extent) (key : SetKey) (e f : SetEntry) → AreOf Free v.tracks es → get v.sets key ≡ Some e →
     f.extents.items ≡ e.extents.items ++ es → IsSoundVolume v → IsSoundVolume (record { tracks = marked InSet es v.tracks; sets = insert v.sets key f })
@@ -133,7 +159,9 @@ sound_grown v es key e f a h t s =
     sound_more Free v es (insert v.sets key f) free≢in_set a
     (λ k.
     let r : times_in k f.extents.items ≡ times_in k e.extents.items + times_in k es = ap (times_in k) t ∙ times_in-append k e.extents.items es in
-    omega (arith, times_in_fewer k v.sets key e h, times_in_other k v.sets key f)) s
+    omega (arith, times_in_fewer k v.sets key e h, times_in_other k v.sets key f))
+    (let r : empty_among f.extents.items ≡ empty_among e.extents.items + empty_among es = ap empty_among t ∙ empty-append e.extents.items es in
+    omega (arith, empty_fewer v.sets key e h, empty_other v.sets key f)) s
 
 pub sound_cut : (v : VolumeState) (n : ℕ) (key : SetKey) (e f : SetEntry) → get v.sets key ≡ Some e → f.extents.items ≡ kept_front n e.extents.items →
     IsSoundVolume v → IsSoundVolume (record { tracks = marked Free (past_front n e.extents.items) v.tracks; sets = insert v.sets key f })
@@ -141,7 +169,9 @@ sound_cut v n key e f h t s =
     sound_fewer v (past_front n e.extents.items) (insert v.sets key f)
     (λ k.
     let r : times_in k f.extents.items ≡ times_in k (kept_front n e.extents.items) = ap (times_in k) t in
-    omega (arith, times_in_parts k n e.extents.items, times_in_fewer k v.sets key e h, times_in_other k v.sets key f)) s
+    omega (arith, times_in_parts k n e.extents.items, times_in_fewer k v.sets key e h, times_in_other k v.sets key f))
+    (let r : empty_among f.extents.items ≡ empty_among (kept_front n e.extents.items) = ap empty_among t in
+    omega (arith, empty_in_parts n e.extents.items, empty_fewer v.sets key e h, empty_other v.sets key f)) s
 
 pub sound_same : (v : VolumeState) (key : SetKey) (e f : SetEntry) → get v.sets key ≡ Some e → f.extents.items ≡ e.extents.items → IsSoundVolume v →
     IsSoundVolume (record { tracks = v.tracks; sets = insert v.sets key f })
@@ -154,6 +184,9 @@ sound_same v key e f h t s =
         kinds = λ k l. let q = same k in s.in_sets.kinds k (omega arith);
         once = λ k. let q = same k in let o = s.in_sets.once k in
             omega arith;
+        none_empty =
+            let r : empty_among f.extents.items ≡ empty_among e.extents.items = ap empty_among t in
+            omega (arith, empty_fewer v.sets key e h, empty_other v.sets key f, s.in_sets.none_empty);
       };
       no_others = λ k h. let q = same k in let o = s.no_others k h in omega arith;
       size = s.size;
@@ -164,6 +197,7 @@ pub set_tracks : (v : VolumeState) (key : SetKey) (e : SetEntry) → get v.sets 
 set_tracks v key e h s = record {
   kinds = λ k l. s.in_sets.kinds k (omega (arith, times_in_fewer k v.sets key e h));
   once = λ k. let o = s.in_sets.once k in omega (arith, times_in_fewer k v.sets key e h);
+  none_empty = omega (arith, empty_fewer v.sets key e h, s.in_sets.none_empty);
 }
 
 pub past_tracks : (v : VolumeState) (n : ℕ) (key : SetKey) (e : SetEntry) → get v.sets key ≡ Some e → IsSoundVolume v →
@@ -173,6 +207,7 @@ past_tracks v n key e h s =
     record {
       kinds = λ k l. a.kinds k (omega (arith, times_in_parts k n e.extents.items));
       once = λ k. let o = a.once k in omega (arith, times_in_parts k n e.extents.items);
+      none_empty = omega (arith, empty_in_parts n e.extents.items, a.none_empty);
     }
 
 -- and lie on the volume

@@ -1,5 +1,5 @@
 -- A volume: what each of its tracks is, and its sets.
-use Rattle.std.specs.Prelude.{◌≡◌, ◌≢◌, ◌≤◌, ◌<◌, ℕ, ◌+◌, ◌-◌, Bool, true, false, min, List, [], ◌∷◌, ◌++◌, length, count_by, slice_get, Option, Some, None, Result, Ok, Err, if◌then◌else◌, IsSome, replicate, refl}
+use Rattle.std.specs.Prelude.{◌≡◌, ◌≢◌, ◌≤◌, ◌<◌, ℕ, ◌+◌, ◌-◌, ◌==◌, Bool, true, false, min, List, [], ◌∷◌, ◌++◌, length, count_by, slice_get, Option, Some, None, Result, Ok, Err, if◌then◌else◌, IsSome, replicate, refl}
 use Rattle.std.specs.Coded.{Coded, code_by, coded×, coded_bool, coded_list}
 use Rattle.std.specs.FinMap.{entries, get}
 use Rattle.std.specs.List.{list_any, flat_map}
@@ -69,10 +69,15 @@ times_in track extents = count_by (λ e. is_in track e) extents
 abbrev pub LieBelow : ℕ → List Extent → Type 0
 LieBelow n extents = (track : ℕ) → 0 < times_in track extents → track < n
 
--- extents of a volume whose tracks are all of a kind, and no track twice
+-- how many of these extents have no track
+abbrev pub empty_among : List Extent → ℕ
+empty_among extents = count_by (λ e. e.tracks == 0) extents
+
+-- extents of a volume whose tracks are all of a kind, no track twice, and none of them without a track
 pub record AreOf (kind : Track) (tracks : List Track) (extents : List Extent) : Type 0 where
   pub kinds : (track : ℕ) → 0 < times_in track extents → slice_get tracks track ≡ Some kind
   pub once : (track : ℕ) → times_in track extents ≤ 1
+  pub none_empty : empty_among extents ≡ 0
 
 abbrev pub is_kind : Track → Track → Bool
 is_kind Free Free = true
