@@ -12,10 +12,10 @@ use Rattle.cb_meaning.specs.Spelled.{Spell, SpellsJct, StepChain, jct}
 use Rattle.cb_meaning.specs.Writable.{AreSteps, most_dds}
 use Rattle.cb_queue.specs.RecordQueues.{IsSoundQueue, RecordQueue, shown, unlinked, with_record_at}
 use Rattle.cb_chain.specs.Composed.{IsJct}
-use Rattle.cb_chain.specs.Taking.{AreUnmarked, Filled, IsReady, IsTaken, Keeps, TakesIf, Took, Writes, is_among, OfSteps, steps_needed}
-use Rattle.cb_chain.specs.Written.{HasNoStatus, HoldsJobs, IsUnmarked, Written}
+use Rattle.cb_chain.specs.Taking.{AreFresh, Filled, IsReady, IsTaken, Keeps, TakesIf, Took, Writes, is_among, OfSteps, steps_needed}
+use Rattle.cb_chain.specs.Written.{HoldsJobs, IsFresh, Written}
 use Rattle.cb_chain.proofs.Among.{different_left, disjoint}
-use Rattle.cb_chain.proofs.Chains.{owned}
+use Rattle.cb_chain.proofs.Chains.{behind_it, owned}
 use Rattle.cb_chain.proofs.Linked.{Stepped, filled_took, none_after, stepped}
 use Rattle.cb_chain.proofs.Stored.{ready_after}
 use Rattle.plain.specs.Lists.{are_different}
@@ -77,9 +77,10 @@ module _ (l : Layout) (job : ℕ) (plan : JobPlan) (old q1 q2 new : RecordQueue)
         (steps.spells (shown new) (step.below_kept (shown new) kept)).0;
   }
 
-  unmarked : AreUnmarked (shown new) (first ∷ steps.numbers)
-  unmarked =
-      All-cons (λ n. IsUnmarked ((shown new).at n)) first steps.numbers (λ _. subst HasNoStatus (sym here) head.status)
+  fresh : AreFresh l (shown new) (first ∷ steps.numbers)
+  fresh =
+      behind_it l (shown new) job first r here held.from_one (subst (λ m. first ≤ m) (sym (ap (λ k. k.most_records) layout_one)) held.within)
+      (step.here_used (shown new) kept) jct steps.numbers (λ e. absurd (omega arith)) head.head head.status
       (steps.spells (shown new) (step.below_kept (shown new) kept)).1
 
   pub written : Written job plan old new first
@@ -94,5 +95,5 @@ module _ (l : Layout) (job : ℕ) (plan : JobPlan) (old q1 q2 new : RecordQueue)
       spelled = subst (λ numbers. Spell old.layout (shown new) job numbers plan) (sym taken_are)
           (subst (λ k. Spell k (shown new) job (first ∷ steps.numbers) plan) same spelled);
     };
-    unmarked = subst (AreUnmarked (shown new)) (sym taken_are) unmarked;
+    fresh = subst (AreFresh old.layout (shown new)) (sym taken_are) (subst (λ k. AreFresh k (shown new) (first ∷ steps.numbers)) same fresh);
   }

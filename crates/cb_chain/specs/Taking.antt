@@ -9,7 +9,7 @@ use Rattle.cb_meaning.specs.Needs.{records_below, records_of_step}
 use Rattle.cb_meaning.specs.Spelled.{Below, CardChain, DdChain, Records, StepChain}
 use Rattle.cb_queue.specs.RecordQueues.{RecordQueue, bytes_or_zeros, record_at, zero_record}
 use Rattle.std.specs.Prelude.{All}
-use Rattle.cb_chain.specs.Written.{HoldsJobs, IsUnmarked}
+use Rattle.cb_chain.specs.Written.{HoldsJobs, IsFresh}
 use Rattle.plain.specs.Lists.{are_different}
 
 abbrev pub is_among : ℕ → List ℕ → Bool
@@ -85,28 +85,28 @@ pub record Links {X : Type 0} (job count : ℕ) (chain : Records → ℕ → Lis
   pub link : (later : Records) (behind : List ℕ) (rest : List X) → Keeps new (here ∷ below) later → chain later next behind rest →
       chain later here (here ∷ (below ++ behind)) (here_are ++ rest)
 
--- no status stands in these records
-abbrev pub AreUnmarked : Records → List ℕ → Type 0
-AreUnmarked later numbers = All (λ n. IsUnmarked (later.at n)) numbers
+-- these records are as they are written
+abbrev pub AreFresh : Layout → Records → List ℕ → Type 0
+AreFresh l later numbers = All (λ n. IsFresh l (later.at n)) numbers
 
--- the chains of a job without a status, what they spell as the last argument or before the records
+-- the chains of a job as they are written, what they spell as the last argument or before the records
 abbrev pub CardsFrom : Layout → ℕ → Records → ℕ → List ℕ → List (List ℕ) → Type 0
-CardsFrom l job later first numbers cards = CardChain l later job first numbers cards × AreUnmarked later numbers
+CardsFrom l job later first numbers cards = CardChain l later job first numbers cards × AreFresh l later numbers
 
 abbrev pub DdsFrom : Layout → ℕ → Records → ℕ → List ℕ → List DdPlan → Type 0
-DdsFrom l job later first numbers dds = DdChain l later job first numbers dds × AreUnmarked later numbers
+DdsFrom l job later first numbers dds = DdChain l later job first numbers dds × AreFresh l later numbers
 
 abbrev pub StepsFrom : Layout → ℕ → Records → ℕ → List ℕ → List StepPlan → Type 0
-StepsFrom l job later first numbers steps = StepChain l later job first numbers steps × AreUnmarked later numbers
+StepsFrom l job later first numbers steps = StepChain l later job first numbers steps × AreFresh l later numbers
 
 abbrev pub OfKind : Layout → ℕ → DdKind → Records → ℕ → List ℕ → Type 0
-OfKind l job kind later first numbers = Below l later job first numbers kind × AreUnmarked later numbers
+OfKind l job kind later first numbers = Below l later job first numbers kind × AreFresh l later numbers
 
 abbrev pub OfDds : Layout → ℕ → List DdPlan → Records → ℕ → List ℕ → Type 0
-OfDds l job dds later first numbers = DdChain l later job first numbers dds × AreUnmarked later numbers
+OfDds l job dds later first numbers = DdChain l later job first numbers dds × AreFresh l later numbers
 
 abbrev pub OfSteps : Layout → ℕ → List StepPlan → Records → ℕ → List ℕ → Type 0
-OfSteps l job steps later first numbers = StepChain l later job first numbers steps × AreUnmarked later numbers
+OfSteps l job steps later first numbers = StepChain l later job first numbers steps × AreFresh l later numbers
 
 -- how many records they take
 abbrev pub cards_needed : List (List ℕ) → ℕ

@@ -5,7 +5,7 @@ use Rattle.jcl_plan.specs.declared.plan.JobPlan.{JobPlan}
 use Rattle.cb_meaning.specs.declared.layout.Layout.{Layout}
 use Rattle.cb_meaning.specs.Layouts.{all_apart, card_places, jct_places, jfcb_places, sct_places, siot_places}
 use Rattle.cb_meaning.specs.Fields.{byte_at, part}
-use Rattle.cb_meaning.specs.Needs.{records_needed}
+use Rattle.cb_meaning.specs.Needs.{IsPacked, records_needed}
 use Rattle.cb_meaning.specs.Spelled.{Denotes, card_record}
 use Rattle.cb_meaning.specs.Writable.{IsWritable, most_dds}
 use Rattle.cb_queue.specs.RecordQueues.{HasOwnLink, RecordQueue, record_at, shown}
@@ -36,7 +36,13 @@ HasNoStatus r = part r 168 8 ≡ replicate 8 0
 abbrev pub IsUnmarked : List ℕ → Type 0
 IsUnmarked r = byte_at r 0 ≢ card_record → HasNoStatus r
 
--- A job's plan stands in the records that were free first, in the order of writing, without a status; no other record changed, and nobody else waits.
+-- a record as it is written
+pub record IsFresh (l : Layout) (r : List ℕ) : Type 0 where
+  pub unmarked : IsUnmarked r
+  pub packed : IsPacked l r
+
+-- A job's plan stands in the records that were free first, in the order of writing, without a status, its cards two in a record; no other record changed, and
+-- nobody else waits.
 pub record Written (job : ℕ) (plan : JobPlan) (old new : RecordQueue) (first : ℕ) : Type 0 where
   pub layout : new.layout ≡ old.layout
   pub free : new.free ≡ drop (records_needed plan) old.free
@@ -44,4 +50,4 @@ pub record Written (job : ℕ) (plan : JobPlan) (old new : RecordQueue) (first :
   pub others : (n : ℕ) → list_any (λ m. m == n) (take (records_needed plan) old.free) ≡ false → record_at new n ≡ record_at old n
   pub begins : slice_get (take (records_needed plan) old.free) 0 ≡ Some first
   pub denotes : (units : ℕ) → IsWritable old.layout.most_steps units plan → Denotes old.layout units (shown new) job (take (records_needed plan) old.free) plan
-  pub unmarked : All (λ n. IsUnmarked ((shown new).at n)) (take (records_needed plan) old.free)
+  pub fresh : All (λ n. IsFresh old.layout ((shown new).at n)) (take (records_needed plan) old.free)

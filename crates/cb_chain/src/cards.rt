@@ -24,6 +24,7 @@ fn write_pair<S: RecordStore>(
     requires room { IsTrue more → 1 ≤ length (S.queue store.old).free }
     requires some { 1 ≤ length cards.now }
     requires most { length cards.now ≤ 2 }
+    requires full { IsTrue more → length cards.now ≡ 2 }
     ensures { Links job 0 (CardsFrom layout.now job) cards.now more here (S.queue store.old) (S.queue store.new) result }
 {
     let next = take_if(store, job, more);

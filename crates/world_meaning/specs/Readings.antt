@@ -1,6 +1,6 @@
 -- A deck is read: READ, or REJECTED with its cause.
-use Rattle.std.specs.Prelude.{◌≡◌, ℕ, ◌+◌, ◌<◌, ◌≤◌, List, [], ◌∷◌, ◌++◌, length, Result, Ok, Err, false}
-use Rattle.cb_meaning.specs.Needs.{records_needed}
+use Rattle.std.specs.Prelude.{◌≡◌, ℕ, ◌+◌, ◌<◌, ◌≤◌, List, [], ◌∷◌, ◌++◌, All, length, Result, Ok, Err, false}
+use Rattle.cb_meaning.specs.Needs.{IsPacked, records_needed}
 use Rattle.cb_meaning.specs.Spelled.{Denotes, Records}
 use Rattle.cb_meaning.specs.Walks.{is_free}
 use Rattle.jcl_plan.specs.declared.entry.Entry.{Entry}
@@ -26,10 +26,13 @@ read_line plan = line.Read plan.name plan.class plan.priority
 abbrev pub waits : ℕ → ℕ → JobPlan → Waiting
 waits job first plan = record { job = job; class = plan.class; priority = plan.priority; first = first; listing = read_line plan ∷ [] }
 
--- The first free records are taken, in the order of writing, and denote the job; those of other jobs differ in what is open alone.
+-- The first free records are taken, in the order of writing, as many as the job needs, its cards two in a record, and denote the job; those of other jobs
+-- differ in what is open alone.
 pub record IsWritten (c : Config) (old new : Records) (job : ℕ) (plan : JobPlan) (first : ℕ) : Type 0 where
   pub behind : List ℕ
   pub taken : old.free ≡ first ∷ (behind ++ new.free)
+  pub needed : length (first ∷ behind) ≡ records_needed plan
+  pub packed : All (λ n. IsPacked c.layout (new.at n)) (first ∷ behind)
   pub denoted : Denotes c.layout (length c.units) new job (first ∷ behind) plan
   pub others : (n : ℕ) → is_free old n ≡ false → AgreeBut (open_fields c.layout (old.at n)) (old.at n) (new.at n)
 

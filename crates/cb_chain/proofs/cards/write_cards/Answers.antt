@@ -1,8 +1,8 @@
-use Rattle.std.proofs.Common.{◌≡◌, ℕ, ◌+◌, ◌≤◌, List, ◌++◌, length, take, drop, min, suc, arith, ap, ◌∙◌, sym, refl, length-drop}
+use Rattle.std.proofs.Common.{◌≡◌, ℕ, ◌+◌, ◌-◌, ◌≤◌, List, ◌++◌, length, take, drop, min, suc, arith, ap, ◌∙◌, sym, refl, length-append, length-drop}
 use Rattle.std.proofs.lemmas.List.{take-append-drop}
 use Rattle.cb_chain.specs.Taking.{CardsFrom, cards_needed}
 use Rattle.std.proofs.lemmas.List.Elements.{All-nil}
-use Rattle.cb_chain.specs.Written.{IsUnmarked}
+use Rattle.cb_chain.specs.Written.{IsFresh}
 use Rattle.cb_chain.proofs.SoFar.{begins, ends, goes_on, ready_now, room_now, some_more}
 use Rattle.cb_chain.proofs.cards.write_cards.Goals as goal
 
@@ -24,6 +24,21 @@ needed_by cards k behind is tail some = let size = ap length tail in let left = 
 parted : (k : ℕ) (cards front behind : List (List ℕ)) → front ≡ take k cards → behind ≡ drop k cards → cards ≡ front ++ behind
 parted k cards front behind first last =
     sym (take-append-drop k cards) ∙ ap (λ xs. xs ++ drop k cards) (sym first) ∙ ap (λ ys. front ++ ys) (sym last)
+
+-- where more cards follow there are two
+full_by : (cards front behind : List (List ℕ)) (k : ℕ) → k ≡ min (length cards) 2 → cards ≡ front ++ behind → behind ≡ drop k cards → 1 ≤ length behind →
+    length front ≡ 2
+full_by cards front behind k is both tail some =
+    let all : length cards ≡ length front + length behind = ap length both ∙ length-append front behind in
+    let left : length behind ≡ length cards - k = ap length tail ∙ length-drop k cards in
+    omega (arith, all, left, is, some)
+
+pub write_pair-here-requires-clause-full : goal.write_pair-here-requires-clause-full
+write_pair-here-requires-clause-full g c = λ more.
+    let rest = c.loop-rest.rest.now in
+    full_by rest c.split_at.result.0.now c.split_at.result.1.now c.min.result c.min.ensures
+    (parted c.min.result rest c.split_at.result.0.now c.split_at.result.1.now c.split_at.ensures.front c.split_at.ensures.back) c.split_at.ensures.back
+    (some_more c.split_at.result.1.now (sym c.is_more-in-loop-rest-2.ensures ∙ more))
 
 pub write_pair-here-requires-clause-room : goal.write_pair-here-requires-clause-room
 write_pair-here-requires-clause-room g c = λ more.
@@ -54,4 +69,4 @@ returns g c =
     ends c.args.job cards_needed (CardsFrom c.args.layout.now c.args.job) c.args.cards.now (g.S.RecordStore.queue c.args.store.now) c.take_if-first.result
     (g.S.RecordStore.queue c.loop-rest.store) c.loop-rest.here c.loop-rest.rest.now (sym c.is_more-in-loop-rest.ensures ∙ c.loop-rest-test.false) refl
     c.take_if-first.ensures.most
-    (λ later. ((refl, refl), All-nil (λ n. IsUnmarked (later.at n)))) c.loop-rest.invariant
+    (λ later. ((refl, refl), All-nil (λ n. IsFresh c.args.layout.now (later.at n)))) c.loop-rest.invariant

@@ -1,5 +1,7 @@
-use Rattle.std.proofs.Common.{◌∙◌, [], ap, refl, subst, sym, ◌≤◌}
+use Rattle.std.proofs.Common.{◌≡◌, ◌≢◌, ◌∙◌, ℕ, Bool, true, false, [], ap, refl, subst, sym, ◌≤◌}
+use Rattle.cb_queue.specs.RecordQueues.{RecordQueue}
 use Rattle.cb_meaning.specs.Spelled.{card_record}
+use Rattle.cb_chain.specs.Taking.{IsHeld}
 use Rattle.cb_chain.proofs.Chains.{card_link}
 use Rattle.cb_chain.proofs.Linked.{its_owner, nothing_taken, stepped}
 use Rattle.cb_chain.proofs.cards.write_pair.Goals as goal
@@ -10,6 +12,11 @@ put-requires-clause-owner g c =
     c.cards_record.ensures.head.of_job
     ∙ sym (its_owner c.args.job c.args.here old old (g.S.RecordStore.queue c.take_if-next.new.store) [] c.args.more c.take_if-next.result
     c.cards_record.result c.requires.ready c.requires.taken (nothing_taken old) c.take_if-next.ensures)
+
+-- a next record is taken only where there is more
+is_more : (job : ℕ) (q : RecordQueue) (more : Bool) (next : ℕ) → IsHeld job q more next → next ≢ 0 → more ≡ true
+is_more job q true next held some = refl
+is_more job q false next held some = absurd (some held)
 
 pub returns : goal.returns
 returns g c =
@@ -31,5 +38,6 @@ returns g c =
       is_held = step.is_held;
       link = λ later behind rest kept chain.
           card_link l later job here r (step.here_is later kept) taken.from_one within (step.here_used later kept) next c.args.cards.now rest behind
-          c.cards_record.ensures chain;
+          c.cards_record.ensures
+          (λ some. c.requires.full (is_more job (g.S.RecordStore.queue c.take_if-next.new.store) c.args.more next c.take_if-next.ensures.is_held some)) chain;
     }

@@ -6,7 +6,7 @@ use Rattle.cb_meaning.specs.Needs.{records_below}
 use Rattle.cb_chain.specs.Taking.{dds_needed, is_more, DdsFrom, dds_needed}
 use Rattle.cb_chain.proofs.Among.{true_not_false}
 use Rattle.std.proofs.lemmas.List.Elements.{All-nil}
-use Rattle.cb_chain.specs.Written.{IsUnmarked}
+use Rattle.cb_chain.specs.Written.{IsFresh}
 use Rattle.cb_chain.proofs.SoFar.{begins, ends, goes_on, ready_now, room_now}
 use Rattle.cb_chain.proofs.dds.write_dds.Goals as goal
 
@@ -69,4 +69,4 @@ returns g c =
     let over : is_more c.loop-dd.rest.now ≡ false = ap is_more (nil_from_length c.loop-dd.rest.now c.in_default.ensures.cases) in
     ends c.args.job dds_needed (DdsFrom c.args.layout.now c.args.job) c.args.dds.now (g.S.RecordStore.queue c.args.store.now) c.take_if-first.result
     (g.S.RecordStore.queue c.loop-dd.store) c.loop-dd.here c.loop-dd.rest.now over refl c.take_if-first.ensures.most
-    (λ later. ((refl, refl), All-nil (λ n. IsUnmarked (later.at n)))) c.loop-dd.invariant
+    (λ later. ((refl, refl), All-nil (λ n. IsFresh c.args.layout.now (later.at n)))) c.loop-dd.invariant

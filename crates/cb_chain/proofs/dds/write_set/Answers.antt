@@ -1,8 +1,8 @@
-use Rattle.std.proofs.Common.{◌≡◌, ◌≤◌, [], ◌∷◌, false, refl, subst, sym, ap, ◌∙◌}
+use Rattle.std.proofs.Common.{arith, ◌≡◌, ◌≤◌, [], ◌∷◌, false, refl, subst, sym, ap, ◌∙◌}
 use Rattle.cb_meaning.specs.Spelled.{SpellsJfcb, jfcb}
 use Rattle.cb_chain.specs.Taking.{IsTaken}
 use Rattle.std.proofs.lemmas.List.Elements.{All-nil}
-use Rattle.cb_chain.specs.Written.{IsUnmarked}
+use Rattle.cb_chain.specs.Written.{IsFresh}
 use Rattle.cb_chain.proofs.Chains.{behind_it, owned}
 use Rattle.cb_chain.proofs.Linked.{filled_took, none_after, nothing_taken, stepped}
 use Rattle.cb_chain.proofs.Stored.{ready_after}
@@ -35,7 +35,8 @@ returns g c =
           owned l later job here r (step.here_is later kept) taken.from_one within (step.here_used later kept) jfcb c.jfcb_record.ensures.head,
           subst (SpellsJfcb l c.args.set.now) (sym (step.here_is later kept)) c.jfcb_record.ensures.spells,
         ),
-        behind_it l later job here r (step.here_is later kept) taken.from_one within (step.here_used later kept) [] c.jfcb_record.ensures.status
-            (All-nil (λ n. IsUnmarked (later.at n))),
+        behind_it l later job here r (step.here_is later kept) taken.from_one within (step.here_used later kept) jfcb [] (λ e. absurd (omega arith))
+            c.jfcb_record.ensures.head c.jfcb_record.ensures.status
+            (All-nil (λ n. IsFresh c.args.layout.now (later.at n))),
       );
     }

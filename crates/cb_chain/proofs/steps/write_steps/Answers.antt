@@ -7,7 +7,7 @@ use Rattle.std.proofs.lemmas.List.Elements.{All-head, All-nil, All-rest, All-sam
 use Rattle.cb_meaning.specs.Writable.{most_dds}
 use Rattle.cb_chain.specs.Taking.{dds_needed, is_more, StepsFrom, steps_needed}
 use Rattle.cb_chain.proofs.Among.{true_not_false}
-use Rattle.cb_chain.specs.Written.{IsUnmarked}
+use Rattle.cb_chain.specs.Written.{IsFresh}
 use Rattle.cb_chain.proofs.SoFar.{begins, ends, goes_on, ready_now, room_now}
 use Rattle.cb_chain.proofs.steps.write_steps.Goals as goal
 
@@ -83,7 +83,7 @@ returns g c =
     let over : is_more c.loop-step.rest.now ≡ false = ap is_more (nil_from_length c.loop-step.rest.now c.in_default.ensures.cases) in
     ends c.args.job steps_needed (StepsFrom c.args.layout.now c.args.job) c.args.steps.now (g.S.RecordStore.queue c.args.store.now) c.take_if-first.result
     (g.S.RecordStore.queue c.loop-step.store) c.loop-step.here c.loop-step.rest.now over refl c.take_if-first.ensures.most
-    (λ later. ((refl, refl), All-nil (λ n. IsUnmarked (later.at n))))
+    (λ later. ((refl, refl), All-nil (λ n. IsFresh c.args.layout.now (later.at n))))
     c.loop-step.invariant.so
 
 pub write_step-here-requires-clause-few : goal.write_step-here-requires-clause-few
