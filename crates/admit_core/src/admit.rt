@@ -149,6 +149,7 @@ pub fn admit(
     date: Day,
     listing: &mut Listed<JobLine>,
 ) -> Result<Answer, NamedJob>
+    requires its_own { job.held ≡ number }
     requires none { NothingKeptFor number store.old }
     requires plan { IsWellFormedPlan job.plan }
     requires groups { HasSoundGroups (seen number (world_store_of store.old)) }
