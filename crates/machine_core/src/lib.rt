@@ -4,3 +4,4 @@
 pub mod events;
 pub mod over;
 pub mod parts;
+pub mod tracks;

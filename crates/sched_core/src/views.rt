@@ -1,12 +1,10 @@
 //! What is seen of the machine between two events. Nothing changes, and no memory is taken.
-ghost use Rattle.std.specs.Prelude.{◌≡◌, Some, length, slice_get, sum_by};
+ghost use Rattle.std.specs.Prelude.{◌≡◌, Some, length, slice_get};
 ghost use Rattle.std.specs.Option.{option_map};
 ghost use Rattle.init_core.specs.Running.{shown_running, shown_stage};
 ghost use Rattle.machine_core.specs.Shown.{shown};
-ghost use Rattle.shared_core.specs.Tracks.{free_on, kept_shown, kept_tracks};
 ghost use Rattle.spool_core.specs.Sets.{has_set};
 ghost use Rattle.turn_core.specs.declared.walk.Walk.{Walk};
-ghost use Rattle.world_meaning.specs.Tracks.{kept_on};
 ghost use Rattle.world_meaning.specs.Worlds.{Config};
 ghost use Rattle.sched_core.specs.Machines.{shown_initiator};
 ghost use Rattle.sched_core.specs.Systems.{world_of};
@@ -21,7 +19,7 @@ use jname_core::serial::Serial;
 use job_core::laws::waiting_are_listed;
 use job_core::selecting::select;
 use machine_core::parts::Parts;
-use mount_core::mounted::Mounted;
+use machine_core::tracks::{VolumeTracks, tracks_on};
 use plain::short::Short;
 
 /// How far an initiator is with its job.
@@ -94,52 +92,14 @@ fn seen_initiator(x: &Initiator) -> SeenInitiator
     }
 }
 
-/// The free tracks of the volume of a serial.
-fn free_on(volumes: &[Mounted], serial: Serial) -> usize
-    ensures { result ≡ free_on volumes.now serial }
-{
-    match volumes.split_first() {
-        None => 0,
-        Some((m, others)) => {
-            if m.serial().as_slice() == serial.as_slice() {
-                m.volume().track_counts().free
-            } else {
-                free_on(others, serial)
-            }
-        }
-    }
-}
-
-/// The tracks that are kept on a volume.
-fn tracks_kept(m: &Mounted) -> usize
-    ensures { result ≡ sum_by (λ k. k.tracks) (kept_tracks (Some m.now)) }
-{
-    m.kept_tracks()
-}
-
-/// The tracks that are kept on the volume of a serial.
-fn kept_on(volumes: &[Mounted], serial: Serial) -> usize
-    ensures { result ≡ kept_on (kept_shown volumes.now) serial }
-{
-    match volumes.split_first() {
-        None => 0,
-        Some((m, others)) => {
-            if m.serial().as_slice() == serial.as_slice() {
-                tracks_kept(m)
-            } else {
-                kept_on(others, serial)
-            }
-        }
-    }
-}
-
 fn seen_volume<Q: RecordStore>(parts: &Parts<Q>, serial: Serial) -> SeenVolume
     ensures { result ≡ seen_volume (shown Q.queue parts.now) serial }
 {
+    let VolumeTracks { free, kept } = tracks_on(parts.store.volumes.as_slice(), serial);
     SeenVolume {
         serial,
-        free: free_on(parts.store.volumes.as_slice(), serial),
-        kept: kept_on(parts.store.volumes.as_slice(), serial),
+        free,
+        kept,
         busy: parts.units.is_busy(serial),
     }
 }

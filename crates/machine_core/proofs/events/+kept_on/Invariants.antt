@@ -1,5 +1,0 @@
-use Rattle.std.proofs.Common.{length}
-use Rattle.machine_core.proofs.events.+kept_on.Given as goal
-
-abbrev pub decreases-kept_on : goal.decreases-kept_on
-decreases-kept_on l = length l.volumes.now

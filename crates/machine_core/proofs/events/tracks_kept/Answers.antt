@@ -1,6 +1,0 @@
-use Rattle.std.proofs.Common.{sym, ◌∙◌}
-use Rattle.shared_core.proofs.Showing.{sum_shown}
-use Rattle.machine_core.proofs.events.tracks_kept.Goals as goal
-
-pub returns : goal.returns
-returns c = c.kept_tracks.ensures ∙ sym (sum_shown c.args.m.now)
