@@ -23,6 +23,7 @@ use Rattle.shared_core.proofs.Following.{stays_follow}
 use Rattle.init_core.specs.declared.running.Progress.{Progress}
 use Rattle.init_core.specs.declared.running.Progress.TheVariants.{GoesOn}
 use Rattle.init_core.specs.declared.running.Running.{Running}
+use Rattle.init_core.specs.declared.running.Stage.{Stage}
 use Rattle.init_core.specs.declared.running.Stage.TheVariants as stage
 use Rattle.init_core.specs.Going.{Went}
 use Rattle.init_core.specs.Naming.{Wishes, stage_behind}
@@ -151,3 +152,17 @@ so_wanted queue_of c p new job walk after plan read wants held from came same at
     (GoesOn (record { job = job; walk = after; stage = stage_behind plan wants held }) n)) (sym at)
     (subst (λ (ws : List Want). Went queue_of c p (record { job = job; walk = walk; stage = stage.Wanting plan ws }) new
     (GoesOn (record { job = job; walk = after; stage = stage_behind plan ws held }) (length walk.course.lines))) same w))
+
+-- the same of a job that waited so
+pub waited : {Q : Type 0} (queue_of : Q → RecordQueue) (c : Config) (p new : Parts Q) (job : ℕ) (walk after : Walk) (plan : JobPlan) (wants : List Want)
+    (before behind : Stage) (held : Option ℕ) (from : ℕ) → before ≡ stage.Wanting plan wants → behind ≡ stage_behind plan wants held →
+    from ≡ length walk.course.lines →
+    Went queue_of c p (record { job = job; walk = walk; stage = stage.Wanting plan wants }) new
+    (GoesOn (record { job = job; walk = after; stage = stage_behind plan wants held }) (length walk.course.lines)) →
+    Went queue_of c p (record { job = job; walk = walk; stage = before }) new (GoesOn (record { job = job; walk = after; stage = behind }) from)
+waited queue_of c p new job walk after plan wants before behind held from was is at w =
+    subst (λ n. Went queue_of c p (record { job = job; walk = walk; stage = before }) new (GoesOn (record { job = job; walk = after; stage = behind }) n)) (sym at)
+    (subst (λ s. Went queue_of c p (record { job = job; walk = walk; stage = before }) new
+    (GoesOn (record { job = job; walk = after; stage = s }) (length walk.course.lines))) (sym is)
+    (subst (λ s. Went queue_of c p (record { job = job; walk = walk; stage = s }) new
+    (GoesOn (record { job = job; walk = after; stage = stage_behind plan wants held }) (length walk.course.lines))) (sym was) w))

@@ -5,7 +5,7 @@ ghost use Rattle.init_core.specs.Providing.{IsProvided};
 ghost use Rattle.init_core.specs.Running.{IsGood, IsReady, config_of};
 
 use crate::admission::admit_job;
-use crate::names::want;
+use crate::names::{want, want_in_place};
 use crate::read::read;
 use crate::running::{Profile, Progress, Running, Stage};
 use crate::turn::{act, advance};
@@ -37,8 +37,8 @@ pub fn go_on<Q: RecordStore>(
     }
 }
 
-/// A turn of a job in its place, where it is admitted and is not over by it: where the lines begin that it wrote. With none it is still to go on; then, and
-/// on an `Err`, nothing has changed.
+/// A turn of a job in its place, where it wants its names, or is admitted and not over by it: where the lines begin that it wrote. With none it is still to
+/// go on; then, and on an `Err`, nothing has changed.
 pub fn go_on_in_place<Q: RecordStore>(
     alloc: Global,
     parts: &mut Parts<Q>,
@@ -54,8 +54,11 @@ pub fn go_on_in_place<Q: RecordStore>(
     let Running { job, walk, stage } = running;
     match stage {
         Stage::Admitted(admitted) => act(alloc, parts, profile, *job, walk, admitted),
+        Stage::Wanting { .. } => match want_in_place(parts, *job, walk, stage) {
+            Ok(from) => Ok(Some(from)),
+            Err(_) => Err(AllocError),
+        },
         Stage::Selected { .. } => Ok(None),
-        Stage::Wanting { .. } => Ok(None),
         Stage::Named(_) => Ok(None),
     }
 }

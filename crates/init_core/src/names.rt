@@ -1,5 +1,5 @@
 //! A job's names are held, all of them or none: NAMES, WAIT NAMES.
-ghost use Rattle.std.specs.Prelude.{◌≡◌, ◌≢◌, IfErr, IfOk, OnErr, length};
+ghost use Rattle.std.specs.Prelude.{◌≡◌, ◌≢◌, IfErr, IfOk, List, OnErr, length};
 ghost use Rattle.enq_core.specs.Holds.{AreWants, HoldsNone};
 ghost use Rattle.world_meaning.specs.Holdings.{wants_of};
 ghost use Rattle.world_meaning.specs.Worlds.{Config};
@@ -19,6 +19,7 @@ use job_core::laws::wants_are_in_order;
 use machine_core::parts::Parts;
 use plain::listed::Listed;
 use std::alloc::AllocError;
+use std::mem;
 use turn_core::walk::Walk;
 
 /// Holds the names of a job that holds none, or none of them, and writes what came of it behind its listing. An `Err` changes nothing.
@@ -93,6 +94,52 @@ pub(crate) fn going_on(
     }
 }
 
+/// A job that waits for its names has them now, or waits on.
+fn go_behind(waits: &mut Stage, held: Option<Held>)
+    requires { (plan : JobPlan) × (wants : List Want) × (waits.old ≡ stage.Wanting plan wants) }
+    ensures { (plan : JobPlan) (wants : List Want) → waits.old ≡ stage.Wanting plan wants → waits.new ≡ stage_behind plan wants held }
+{
+    let Some(held) = held else {
+        return;
+    };
+    match mem::replace(waits, Stage::Selected { first: 0 }) {
+        Stage::Wanting { plan, wants: _ } => {
+            match mem::replace(waits, Stage::Named(NamedJob { plan, held })) {
+                Stage::Selected { first } => {
+                    let _none = first;
+                }
+                _ => unreachable!(),
+            }
+        }
+        _ => unreachable!(),
+    }
+}
+
+/// A turn of a job whose records are read, in its place: where the lines begin that it wrote. An `Err` changes nothing.
+pub(crate) fn want_in_place<Q: RecordStore>(
+    parts: &mut Parts<Q>,
+    job: u16,
+    walk: &mut Walk,
+    waits: &mut Stage,
+) -> Result<usize, AllocError>
+    requires some { job ≢ 0 }
+    requires none { HoldsNone parts.old.names job }
+    requires waits { (plan : JobPlan) × (waits.old ≡ stage.Wanting plan (wants_of plan)) }
+    ensures ok { IfOk result (λ from. (c : Config) → IsGood Q.queue c parts.old →
+        Went Q.queue c parts.old (record { job = job; walk = walk.old; stage = waits.old }) parts.new
+        (progress.GoesOn (record { job = job; walk = walk.new; stage = waits.new }) from)) }
+    ensures err { OnErr result ((parts.new ≡ parts.old) × (walk.new ≡ walk.old) × (waits.new ≡ waits.old)) }
+{
+    wants_are_in_order();
+    let from = walk.course.lines.len();
+    let Stage::Wanting { wants, .. } = &*waits else {
+        unreachable!();
+    };
+    let held = wish(parts, job, walk, wants.as_slice())?;
+    go_behind(waits, held);
+    Ok(from)
+}
+
 /// A turn of a job whose records are read. Where memory is wanting the job is given back as it was, and nothing has changed.
 pub(crate) fn want<Q: RecordStore>(
     parts: &mut Parts<Q>,
@@ -109,14 +156,20 @@ pub(crate) fn want<Q: RecordStore>(
     ensures err { IfErr result (λ r. r ≡ record { job = job; walk = walk; stage = stage.Wanting plan wants }) }
     ensures same { OnErr result (parts.new ≡ parts.old) }
 {
-    wants_are_in_order();
-    let from = walk.course.lines.len();
-    match wish(parts, job, &mut walk, wants.as_slice()) {
-        Ok(held) => Ok(going_on(job, walk, plan, wants, held, from)),
+    let mut waits = Stage::Wanting { plan, wants };
+    match want_in_place(parts, job, &mut walk, &mut waits) {
+        Ok(from) => Ok(Progress::GoesOn {
+            job: Running {
+                job,
+                walk,
+                stage: waits,
+            },
+            from,
+        }),
         Err(_) => Err(Running {
             job,
             walk,
-            stage: Stage::Wanting { plan, wants },
+            stage: waits,
         }),
     }
 }

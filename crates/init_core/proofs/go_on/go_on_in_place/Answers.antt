@@ -16,3 +16,7 @@ returns-in-Admitted-clause-ok g c =
     (record { job = before.job; walk = c.act.new.walk; stage = stage.Admitted c.in-Admitted.admitted })))
     (sym c.in-Admitted.is)
     (all_in_place queue_of c.args.profile.now p before.job c.in-Admitted.admitted before.walk c.act.new.parts c.act.new.walk c.act.result c.act.ensures.ok)
+
+pub returns-in-Ok-clause-ok : goal.returns-in-Ok-clause-ok
+returns-in-Ok-clause-ok g c =
+    c.in-Ok.ensures.ok (config_of c.args.profile.now (g.Q.RecordStore.queue c.args.parts.now.queue).layout) c.requires.good
