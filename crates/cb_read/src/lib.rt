@@ -8,7 +8,7 @@ mod head;
 pub mod laws;
 mod names;
 pub mod read;
-mod records;
+pub mod records;
 mod set;
 mod steps;
 mod tests_read;

@@ -17,7 +17,7 @@ pub(crate) fn record<S: RecordStore>(store: &S, n: u32) -> Rec
 }
 
 /// Each record of a store is whole and of bytes.
-pub(crate) fn are_records<S: RecordStore>(store: &S)
+pub fn are_records<S: RecordStore>(store: &S)
     ensures { AreRecords (shown (S.queue store.now)) }
 {
     let _layout = store.layout();

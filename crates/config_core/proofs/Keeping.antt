@@ -15,6 +15,7 @@ use Rattle.vtoc_core.specs.declared.entry.SetEntry.{SetEntry}
 use Rattle.vtoc_core.specs.Entries.{key_cmp}
 use Rattle.machine_meaning.specs.declared.config.ConfiguredInitiator.{ConfiguredInitiator}
 use Rattle.mount_core.specs.Mounts.{MountedState}
+use Rattle.shared_core.specs.LaidOut.{IsLaidOut, VolumesAreLaidOut}
 use Rattle.shared_core.specs.Shown.{mounted_in}
 use Rattle.config_core.specs.Configs.{Configuration, catalog_with, extents_on, group_fault, initiator_fault, is_full_for, new_volume, nothing_configured, set_fault, unit_fault, volume_fault, with_group_of, with_initiator, with_procedure, with_program, with_set, with_unit, with_volume}
 use Rattle.config_core.specs.Configured.{AreEntries, HasNamedSets, IsConfigured, IsInitiator, IsName, numbers_of, serials_of}
@@ -34,6 +35,7 @@ nothing_is_configured = record {
   serials = tt;
   kept = All-nil KeepsNothing;
   sets = All-nil HasNamedSets;
+  laid_out = All-nil IsLaidOut;
   entries = λ name. subst (IsEntry name) (sym (finite.get-empty name_cmp name)) tt;
   few_units = omega arith;
   programs = All-nil _;
@@ -52,9 +54,9 @@ no_sets : (serial : List ℕ) (tracks : ℕ) (used : List Extent) → HasNamedSe
 no_sets serial tracks used key h = absurd (not_some (finite.get finite.empty key) (finite.get-empty key_cmp key) h)
 
 pub volume_configured : (c : Configuration) (serial : List ℕ) (tracks : ℕ) (used : List Extent) →
-    IsConfigured c → volume_fault c serial tracks used ≡ None →
+    IsConfigured c → volume_fault c serial tracks used ≡ None → VolumesAreLaidOut (with_volume c serial tracks used).volumes →
     IsConfigured (with_volume c serial tracks used)
-volume_configured c serial tracks used h e =
+volume_configured c serial tracks used h e laid_out =
     let both = no_fault _ _ e in
     let few = leb-false _ _ (neither _ _ both.0).1 in
     let m = new_volume serial tracks used in
@@ -65,6 +67,7 @@ volume_configured c serial tracks used h e =
           (differ_push (serials_of c.volumes) serial h.serials (none_such (λ (x : MountedState). x.serial) (λ x. bytes_eq x.serial serial) serial found c.volumes both.1));
       kept = All-push KeepsNothing c.volumes m h.kept refl;
       sets = All-push HasNamedSets c.volumes m h.sets (no_sets serial tracks used);
+      laid_out = laid_out;
       entries = h.entries;
       few_units = h.few_units;
       programs = h.programs;
@@ -81,6 +84,7 @@ unit_configured c name serials h e =
       serials = h.serials;
       kept = h.kept;
       sets = h.sets;
+      laid_out = h.laid_out;
       entries = h.entries;
       few_units = one_more c.units (record { name = name; serials = serials }) _ few;
       programs = h.programs;
@@ -101,6 +105,7 @@ group_configured c base limit scratch h e name =
       serials = h.serials;
       kept = h.kept;
       sets = h.sets;
+      laid_out = h.laid_out;
       entries = entries_grouped c.catalog base limit scratch h.entries name short some few;
       few_units = h.few_units;
       programs = h.programs;
@@ -113,8 +118,9 @@ catalogued_by : (c : Configuration) (s : SetStatement) (b : Bool) → IsConfigur
 catalogued_by c s true h name room new = entries_named c.catalog s.name s.serial (member_of c.catalog s.name) refl h.entries name new room
 catalogued_by c s false h name room new = h.entries
 
-pub set_configured : (c : Configuration) (s : SetStatement) → IsConfigured c → set_fault c s ≡ None → IsName s.name → IsConfigured (with_set c s)
-set_configured c s h e name =
+pub set_configured : (c : Configuration) (s : SetStatement) → IsConfigured c → set_fault c s ≡ None → IsName s.name → VolumesAreLaidOut (with_set c s).volumes →
+    IsConfigured (with_set c s)
+set_configured c s h e name laid_out =
     let both = no_fault _ _ e in
     let extents = extents_on (mounted_in c.volumes s.serial) s.tracks in
     record {
@@ -122,6 +128,7 @@ set_configured c s h e name =
       serials = subst Differ (sym (same_serials c.volumes extents s)) h.serials;
       kept = still_nothing_kept c.volumes extents s h.kept;
       sets = still_named c.volumes extents s h.sets;
+      laid_out = laid_out;
       entries = catalogued_by c s s.catalogued h name (neither _ _ both.0).1 (neither _ _ both.1).1;
       few_units = h.few_units;
       programs = h.programs;
@@ -135,6 +142,7 @@ procedure_configured c name lines h = record {
   serials = h.serials;
   kept = h.kept;
   sets = h.sets;
+  laid_out = h.laid_out;
   entries = h.entries;
   few_units = h.few_units;
   programs = h.programs;
@@ -149,6 +157,7 @@ program_configured c name requests h good = record {
   serials = h.serials;
   kept = h.kept;
   sets = h.sets;
+  laid_out = h.laid_out;
   entries = h.entries;
   few_units = h.few_units;
   programs = All-push (λ (p : SoloProgram). All IsRequest p.requests) c.programs (record { name = name; requests = requests }) h.programs good;
@@ -170,6 +179,7 @@ initiator_configured c number classes h e =
       serials = h.serials;
       kept = h.kept;
       sets = h.sets;
+      laid_out = h.laid_out;
       entries = h.entries;
       few_units = h.few_units;
       programs = h.programs;

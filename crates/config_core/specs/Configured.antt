@@ -10,6 +10,7 @@ use Rattle.vtoc_core.specs.declared.entry.SetKey.TheVariants.{Named, Temporary, 
 use Rattle.machine_meaning.specs.declared.config.TheConstants.{LAST_INITIATOR, MOST_UNITS, MOST_VOLUMES}
 use Rattle.machine_meaning.specs.declared.config.ConfiguredInitiator.{ConfiguredInitiator}
 use Rattle.mount_core.specs.Mounts.{MountedState}
+use Rattle.shared_core.specs.LaidOut.{VolumesAreLaidOut}
 use Rattle.config_core.specs.Configs.{Configuration, are_classes}
 use Rattle.config_core.specs.Sets.{NothingKept}
 use Rattle.plain.specs.Lists.{Differ}
@@ -47,6 +48,7 @@ pub record IsConfigured (c : Configuration) : Type 0 where
   pub serials : Differ (serials_of c.volumes)
   pub kept : NothingKept c.volumes
   pub sets : All HasNamedSets c.volumes
+  pub laid_out : VolumesAreLaidOut c.volumes
   pub entries : AreEntries c.catalog
   pub few_units : length c.units ≤ MOST_UNITS
   pub programs : AreWellFormedPrograms c.programs

@@ -31,6 +31,7 @@ use plain::short::Short;
 use plain::text::Text;
 use proc_library::library::{LibraryProcedure, ProcLibrary};
 use prog_core::library::ProgramLibrary;
+use shared_core::sums::volumes_are_laid_out;
 use std::alloc::{AllocError, Global};
 use std::marker::Model;
 use vtoc_core::entry::SetKey;
@@ -228,6 +229,7 @@ impl Config {
         }
         self.volumes
             .push(Mounted::new(self.alloc, serial, tracks, used)?)?;
+        volumes_are_laid_out(self.volumes.as_slice());
         Ok(())
     }
 
@@ -275,6 +277,7 @@ impl Config {
         }
         is_name(&set.name);
         enter_set(self.alloc, &mut self.volumes, &mut self.catalog, set)?;
+        volumes_are_laid_out(self.volumes.as_slice());
         Ok(())
     }
 

@@ -173,7 +173,7 @@ module _ {Q : Type 0} (queue_of : Q → RecordQueue) (profile : Profile) (p : Pa
         told.path ≡ explains_here ls → chosen_to ls s runs
     chosen ls s runs answers e explains = (
       record { places = given.places; placed = a.configured c (sym g.volumes) refl; answers = answers },
-      record { by_room = a.placed_so; answer = told.line; told = holds; answered = e },
+      record { configured = g.volumes; by_room = a.placed_so; answer = told.line; told = holds; answered = e },
       explains,
     )
 

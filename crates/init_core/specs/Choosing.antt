@@ -10,7 +10,7 @@ use Rattle.world_meaning.specs.Turns.{Advanced}
 use Rattle.world_meaning.specs.Worlds.{Admission, Config}
 use Rattle.shared_core.specs.declared.store.SharedStore.{SharedStore}
 use Rattle.turn_core.specs.Performing.{growth_by, primary_by}
-use Rattle.place_core.specs.Placings.{placed}
+use Rattle.place_core.specs.Placings.{placed, serials_of}
 use Rattle.admit_core.specs.Told.{IsTold, fixed_by_room}
 use Rattle.init_core.specs.Turning.{answers_of}
 
@@ -27,6 +27,7 @@ lines_answered refuses told = told ∷ []
 -- A job whose names are held is answered at once: each of its sets is placed on the first volume of its unit that has room behind those of the DDs
 -- before it, and what is told of it holds of it so placed, in the store as it sees it, on the date.
 pub record IsAdmittedByVolumes (c : Config) (store : SharedStore) (date job : ℕ) (plan : JobPlan) (places : List Place) (lines : List JobLine) : Type 0 where
+  pub configured : serials_of store.volumes ≡ c.volumes
   pub by_room : places ≡ placed store.volumes c.units job plan
   pub answer : JobLine
   pub told : IsTold store c.programs c.most_views job plan (fixed_by_room store c.units job plan date) answer

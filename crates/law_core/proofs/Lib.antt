@@ -8,7 +8,6 @@ pub mod Fitting
 pub mod Following
 pub mod Gone
 pub mod Holding
-pub mod Keeping
 pub mod Moves
 pub mod NextTurns
 pub mod Over

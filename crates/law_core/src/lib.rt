@@ -41,7 +41,7 @@ pub fn assured_run()
     ensures { AssuredRun }
 {}
 
-/// So it is for each ASSURED line among the lines of a run.
+/// So it is for each ASSURED line among the lines of an event, whatever came before it.
 pub fn promises_are_kept()
     ensures { PromisesAreKept }
 {}

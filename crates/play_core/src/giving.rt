@@ -52,6 +52,7 @@ pub(crate) fn give(
     ensures step { IfOk result (λ lines. Steps system.old (event_of next) lines (world_of system.new)) }
     ensures next { IsNext system.old system.new }
 {
+    system.is_whole();
     given.reserve(1)?;
     let lines = system.apply_shown(&next.event())?;
     given.push_reserved(next);

@@ -6,19 +6,22 @@ use Rattle.jcl_job.specs.Jobs.{job_of}
 use Rattle.jcl_plan.specs.declared.entry.Entry.{Entry}
 use Rattle.input_core.specs.declared.event.Event.{Event}
 use Rattle.shared_core.proofs.Following.{stays_follow}
-use Rattle.world_meaning.specs.Transitions.{Runs}
+use Rattle.world_meaning.specs.declared.event.Event as meant
+use Rattle.world_meaning.specs.Headlines.{IsPromised}
+use Rattle.world_meaning.specs.Readings.{Denoting}
+use Rattle.world_meaning.specs.Transitions.{Runs, Transition}
 use Rattle.world_meaning.specs.Worlds.{World}
-use Rattle.sched_core.specs.Answers.{AnswersAreExact, AreExact, AreExactAlong}
-use Rattle.sched_core.specs.Systems.{Along, Drives, IsDriven, IsNext, IsSameFixed, Machine, Steps, denoting, meant_by, world_of}
-use Rattle.law_core.specs.Promises.{ArePromises, PromisesAreKept}
+use Rattle.sched_core.specs.Promised.{ArePromised, ChainsKeepPromises}
+use Rattle.sched_core.specs.Systems.{Along, Drives, IsDriven, IsNext, IsSameFixed, IsWhole, Machine, Steps, denoting, meant_by, world_of}
+use Rattle.law_core.specs.Promises.{PromisesAreKept}
 use Rattle.world_meaning.specs.Starts.{IsStart}
 
 -- what is fixed stays
 pub IsSameFixed-none : (m : Machine) → IsSameFixed m m
 IsSameFixed-none m = record { config = refl; unit_names = refl; library = refl }
 
-pub IsNext-none : (m : Machine) → IsNext m m
-IsNext-none m = record { fixed = IsSameFixed-none m; extents = inl (stays_follow m.parts.store) }
+pub IsNext-none : (m : Machine) → IsWhole m → IsNext m m
+IsNext-none m whole = record { fixed = IsSameFixed-none m; extents = inl (stays_follow m.parts.store); whole = whole }
 
 IsSameFixed-twice : (a b c : Machine) → IsSameFixed a b → IsSameFixed b c → IsSameFixed a c
 IsSameFixed-twice a b c first then = record {
@@ -69,7 +72,6 @@ pub driven_now : (old new : Machine) (events : List Event) (entries : List (List
 driven_now old new events entries done d = record {
   within = d.within;
   drives = d.drives;
-  runs = drives_run old new (take done events) entries d.drives;
   fixed = drives_fixed old new (take done events) entries d.drives;
 }
 
@@ -85,26 +87,45 @@ driven_more old mid new events entries done e lines d less is step next = record
     taken : take (done + 1) events ≡ take done events ++ e ∷ []
     taken = take_more events done e less ∙ ap (λ x. take done events ++ x ∷ []) (sym is)
 
--- the promises of what was driven
-pub promises_so : PromisesAreKept → (old new : Machine) (events : List Event) (entries : List (List Entry)) (done : ℕ) → IsDriven old events entries done new →
-    IsStart (world_of old) → ArePromises (denoting old) (world_of old) (world_of new) (map meant_by (take done events)) entries
-promises_so law old new events entries done d is_start =
-    law (denoting old) (world_of old) (world_of new) (map meant_by (take done events)) entries is_start d.runs
+-- a run and one step more
+run_on : (job_of : Denoting) (start w v : World) (before : List meant.Event) (told : List (List Entry)) (e : meant.Event) (lines : List Entry) →
+    Runs job_of start before told w → Transition job_of w e lines v → Runs job_of start (before ++ e ∷ []) (told ++ lines ∷ []) v
+run_on job_of start w v [] [] e lines r t = (v, subst (λ s. Transition job_of s e lines v) r t, refl)
+run_on job_of start w v (x ∷ before) (y ∷ told) e lines r t = (r.0, r.1, run_on job_of r.0 w v before told e lines r.2 t)
+run_on job_of start w v [] (y ∷ told) e lines r t = absurd r
+run_on job_of start w v (x ∷ before) [] e lines r t = absurd r
+
+abbrev Promised : (old : Machine) (e : Event) (lines : List Entry) (new : Machine) → Steps old e lines (world_of new) → Type 0
+Promised old e lines new s = ArePromised old lines new
+
+-- what is promised behind a run from a start
+module _ (law : PromisesAreKept) (job_of : Denoting) (start : World) (is_start : IsStart start) where
+  promised_on : (old new : Machine) (before : List meant.Event) (told : List (List Entry)) (events : List Event) (entries : List (List Entry)) →
+      denoting old ≡ job_of → Runs job_of start before told (world_of old) → (chain : Drives old events entries new) →
+      Along Promised old events entries new chain
+  promised_on old new before told [] [] same runs chain = tt
+  promised_on old new before told (e ∷ es) (lines ∷ more) same runs chain =
+      let t : Transition job_of (world_of old) (meant_by e) lines (world_of chain.0) =
+      subst (λ j. Transition j (world_of old) (meant_by e) lines (world_of chain.0)) same chain.1.0 in (
+        (λ job tracks stated there. subst (λ j. IsPromised j (world_of old) (world_of chain.0) job stated) (sym same)
+            (law job_of start (world_of old) (world_of chain.0) before told (meant_by e) lines job tracks stated is_start runs t there)),
+        promised_on chain.0 new (before ++ meant_by e ∷ []) (told ++ lines ∷ []) es more (same_denoting old chain.0 chain.2.fixed ∙ same)
+            (run_on job_of start (world_of old) (world_of chain.0) before told (meant_by e) lines runs t) chain.3,
+      )
+  promised_on old new before told [] (lines ∷ more) same runs chain = tt
+  promised_on old new before told (e ∷ es) [] same runs chain = tt
+
+-- what a chain promises from a start on
+pub chains_keep_promises : PromisesAreKept → ChainsKeepPromises
+chains_keep_promises law old events entries new is_start chain = record {
+  along = promised_on law (denoting old) (world_of old) is_start old new [] [] events entries refl refl chain;
+}
 
 -- what holds of each step holds of those of a chain
-pub along : (P : (old : Machine) (e : Event) (lines : List Entry) (new : World) → Steps old e lines new → Type 0) →
-    ((old : Machine) (e : Event) (lines : List Entry) (new : World) (s : Steps old e lines new) → P old e lines new s) →
-    (old new : Machine) (events : List Event) (entries : List (List Entry)) → Drives old events entries new → Along P old events entries new
-along P law old new [] [] d = d
-along P law old new (e ∷ es) (lines ∷ more) d = (d.0, d.1, d.2, law old e lines (world_of d.0) d.1, along P law d.0 new es more d.3)
-along P law old new [] (lines ∷ more) d = absurd d
-along P law old new (e ∷ es) [] d = absurd d
-
--- the answers of what was driven
-pub exact_along : AnswersAreExact → (old new : Machine) (events : List Event) (entries : List (List Entry)) → Drives old events entries new →
-    AreExactAlong old events entries new
-exact_along law old new events entries d = record { along = along (λ m e lines w s. AreExact m lines) law.each old new events entries d }
-
-pub exact_so : AnswersAreExact → (old new : Machine) (events : List Event) (entries : List (List Entry)) (done : ℕ) → IsDriven old events entries done new →
-    AreExactAlong old (take done events) entries new
-exact_so law old new events entries done d = exact_along law old new (take done events) entries d.drives
+pub along : (P : (old : Machine) (e : Event) (lines : List Entry) (new : Machine) → Steps old e lines (world_of new) → Type 0) →
+    ((old : Machine) (e : Event) (lines : List Entry) (new : Machine) (s : Steps old e lines (world_of new)) → P old e lines new s) →
+    (old new : Machine) (events : List Event) (entries : List (List Entry)) (chain : Drives old events entries new) → Along P old events entries new chain
+along P law old new [] [] chain = tt
+along P law old new (e ∷ es) (lines ∷ more) chain = (law old e lines chain.0 chain.1, along P law chain.0 new es more chain.3)
+along P law old new [] (lines ∷ more) chain = tt
+along P law old new (e ∷ es) [] chain = tt

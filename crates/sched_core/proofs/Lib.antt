@@ -20,9 +20,3 @@ pub mod Begun
 pub mod Nexts
 pub mod Driving
 pub mod Followed
-pub mod RefusedGrowth
-pub mod RefusedPrimary
-pub mod ActionFacts
-pub mod Decided
-pub mod OnlyAnswers
-pub mod ExactAnswers

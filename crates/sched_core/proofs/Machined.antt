@@ -1,10 +1,12 @@
 -- The machine's value, and the state that it stands for.
 use Rattle.std.proofs.Common.{◌≡◌, ℕ, List, length, refl, sym, ◌∙◌, subst}
 use Rattle.std.specs.Prelude.{Result}
-use Rattle.cb_queue.specs.RecordQueues.{RecordQueue}
+use Rattle.cb_queue.specs.RecordQueues.{RecordQueue, shown}
 use Rattle.jcl_plan.specs.declared.entry.Entry.{Entry}
 use Rattle.proc_library.specs.declared.library.LibraryProcedure.{LibraryProcedure}
 use Rattle.world_meaning.specs.Worlds.{World}
+use Rattle.shared_core.specs.LaidOut.{VolumesAreLaidOut}
+use Rattle.walk_laws.specs.WalkLaws.{AreRecords}
 use Rattle.init_core.specs.Extents.{ExtentsFollow}
 use Rattle.init_core.specs.Running.{config_of}
 use Rattle.init_core.specs.declared.running.Profile.{Profile}
@@ -29,10 +31,12 @@ module _ {Q : Type 0} (queue_of : Q → RecordQueue) (p : Profile) (names : List
         Applies result (world_of before) (world_in queue_of (config_in queue_of p s) new) allows → Applies result (world_of before) (world_of after) allows
     applied result allows h = subst (λ w. Applies result (world_of before) w allows) (sym same_world) h
 
-    pub next_machine : ExtentsFollow s.parts.store new.parts.store → IsNext before after
-    next_machine extents = record {
+    pub next_machine : ExtentsFollow s.parts.store new.parts.store → IsKept queue_of (config_in queue_of p s) new →
+        VolumesAreLaidOut new.parts.store.volumes → AreRecords (shown (queue_of new.parts.queue)) → IsNext before after
+    next_machine extents kept laid_out records = record {
       fixed = record { config = λ i. config_of p (layout i); unit_names = refl; library = refl };
       extents = extents;
+      whole = record { serials = kept.fit.good.volumes; laid_out = laid_out; records = records };
     }
 
     pub system_again : IsKept queue_of (config_in queue_of p s) new → length names ≡ length p.units.now → IsSystem queue_of p names new

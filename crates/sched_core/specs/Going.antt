@@ -1,5 +1,5 @@
 -- A turn of a job at its initiator.
-use Rattle.std.specs.Prelude.{◌≡◌, ℕ, ◌≤◌, List, [], Some, Vec, length, slice_get, slice_set}
+use Rattle.std.specs.Prelude.{◌≡◌, ℕ, ◌≤◌, List, [], Some, Vec, slice_get, slice_set}
 use Rattle.std.specs.Global.{Global}
 use Rattle.std.specs.Vec.{vec_capacity, vec_len}
 use Rattle.cb_queue.specs.RecordQueues.{RecordQueue}

@@ -10,9 +10,6 @@ pub mod Reading
 pub mod Happening
 pub mod Systems
 pub mod Starting
-pub mod Inputs
-pub mod Deciding
-pub mod Answers
 pub mod Zapping
 pub mod Views
-pub mod Volumes
+pub mod Promised

@@ -1,6 +1,6 @@
 -- The machine as its callers see it: the parts' values, and the world that they are.
 use Rattle.std.specs.Prelude.{◌≡◌, ℕ, ◌≤◌, List, [], ◌∷◌, map, length, take, Result, Ok, Err}
-use Rattle.cb_queue.specs.RecordQueues.{RecordQueue}
+use Rattle.cb_queue.specs.RecordQueues.{RecordQueue, shown as records_of}
 use Rattle.input_core.specs.declared.event.Event.{Event}
 use Rattle.input_core.specs.declared.event.Event.TheVariants as input
 use Rattle.jcl_job.specs.Jobs.{job_of}
@@ -10,8 +10,10 @@ use Rattle.proc_library.specs.declared.library.LibraryProcedure.{LibraryProcedur
 use Rattle.world_meaning.specs.declared.event.Event as meant
 use Rattle.world_meaning.specs.declared.event.Event.TheVariants as event
 use Rattle.world_meaning.specs.Readings.{Denoting}
-use Rattle.world_meaning.specs.Transitions.{Runs}
 use Rattle.world_meaning.specs.Worlds.{Config, World}
+use Rattle.walk_laws.specs.WalkLaws.{AreRecords}
+use Rattle.shared_core.specs.LaidOut.{VolumesAreLaidOut}
+use Rattle.place_core.specs.Placings.{serials_of}
 use Rattle.init_core.specs.Extents.{ExtentsFollow}
 use Rattle.job_core.specs.Listed.{waiting_in}
 use Rattle.job_core.specs.declared.backlog.Listing.{Listing}
@@ -112,10 +114,18 @@ pub record IsSameFixed (old new : Machine) : Type 0 where
   pub unit_names : new.unit_names ≡ old.unit_names
   pub library : new.library ≡ old.library
 
--- One machine and the next: and the extents of the volumes follow.
+-- What holds of a machine between two events: its volumes are those that are configured, in their order; each of their tracks is what its sets and what is
+-- kept say; and the records of its queue are whole and of bytes.
+pub record IsWhole (m : Machine) : Type 0 where
+  pub serials : serials_of m.parts.store.volumes ≡ m.config.volumes
+  pub laid_out : VolumesAreLaidOut m.parts.store.volumes
+  pub records : AreRecords (records_of m.parts.queue)
+
+-- One machine and the next, which is whole: and the extents of the volumes follow.
 pub record IsNext (old new : Machine) : Type 0 where
   pub fixed : IsSameFixed old new
   pub extents : ExtentsFollow old.parts.store new.parts.store
+  pub whole : IsWhole new
 
 -- A step of the machine: a case of the table, of which what it leaves open is as the volumes, as they were, decide it.
 abbrev pub Steps : Machine → Event → List Entry → World → Type 0
@@ -128,21 +138,19 @@ Drives old (e ∷ es) (lines ∷ more) new = (mid : Machine) × Steps old e line
 Drives old [] (lines ∷ more) new = ⊥
 Drives old (e ∷ es) [] new = ⊥
 
--- And of each of these steps this holds.
-abbrev pub Along : ((old : Machine) (e : Event) (lines : List Entry) (new : World) → Steps old e lines new → Type 0) →
-    Machine → List Event → List (List Entry) → Machine → Type 0
-Along P old [] [] new = new ≡ old
-Along P old (e ∷ es) (lines ∷ more) new =
-    (mid : Machine) × (s : Steps old e lines (world_of mid)) × IsNext old mid × P old e lines (world_of mid) s × Along P mid es more new
-Along P old [] (lines ∷ more) new = ⊥
-Along P old (e ∷ es) [] new = ⊥
+-- Of each step of such a chain this holds, with the machines from which and to which it leads.
+abbrev pub Along : ((old : Machine) (e : Event) (lines : List Entry) (new : Machine) → Steps old e lines (world_of new) → Type 0) →
+    (old : Machine) (events : List Event) (entries : List (List Entry)) (new : Machine) → Drives old events entries new → Type 0
+Along P old [] [] new chain = Unit {0}
+Along P old (e ∷ es) (lines ∷ more) new chain = P old e lines chain.0 chain.1 × Along P chain.0 es more new chain.3
+Along P old [] (lines ∷ more) new chain = Unit {0}
+Along P old (e ∷ es) [] new chain = Unit {0}
 
 -- The events that were done, each with its lines, lead to the machine as it is now: by the table, and as the volumes of the machine before each decide
 -- it.
 pub record IsDriven (old : Machine) (events : List Event) (entries : List (List Entry)) (done : ℕ) (new : Machine) : Type 0 where
   pub within : done ≤ length events
   pub drives : Drives old (take done events) entries new
-  pub runs : Runs (denoting old) (world_of old) (map meant_by (take done events)) entries (world_of new)
   pub fixed : IsSameFixed old new
 
 -- what holds of a machine between two events

@@ -1,50 +1,16 @@
-//! Laws of what stands in contracts of the machine, without code.
-ghost use Rattle.sched_core.specs.Answers.{AnswersAreExact, AnswersOfDrive};
-ghost use Rattle.sched_core.specs.Deciding.{ActionsAreTold, GrowthIsRefused, PrimaryIsRefused, SetsArePlaced};
-ghost use Rattle.sched_core.specs.Inputs.{AreInputs};
+//! Laws of chains of machines, without code.
+ghost use Rattle.sched_core.specs.Promised.{ChainsAreRuns, ChainsKeepPromises};
 
-use path_meaning::is_never_two;
-use reach_laws::is_one_answer;
-use walk_laws::denoted_has_no_fault;
+use law_core::promises_are_kept;
 
-/// What a session puts into the machine and the events that it can bring are the same, one by one.
-pub fn inputs_are_events()
-    ensures { AreInputs }
+/// A chain of machines, step by step, is a run of the machine's definitions.
+pub fn chains_are_runs()
+    ensures { ChainsAreRuns }
 {}
 
-/// What a step of the machine writes, where it is an action of a job, are the lines of that action.
-pub fn actions_are_told()
-    ensures { ActionsAreTold }
-{}
-
-/// SB37 stands in the place of a request only where the volumes, as they were, had no room for the tracks that it asked for.
-pub fn growth_is_refused()
-    ensures { GrowthIsRefused }
-{}
-
-/// F6 is told of a DD with a key only where the configured volume on which its set is looked for had, as it was, no room for its primary.
-pub fn primary_is_refused()
-    ensures { PrimaryIsRefused }
-{}
-
-/// At its admission a job's sets are placed by the rule, on the volumes as they were.
-pub fn sets_are_placed()
-    ensures { SetsArePlaced }
-{}
-
-/// What a job is answered holds of it in the machine as it was, and is the only answer: BROKEN where its records denote no job; ASSURED exactly where no path
-/// meets a fault, no step has too many views and the volumes have room; else WAIT SPACE, RISK at the earliest place, or TOOMANY.
-pub fn answers_are_exact()
-    ensures { AnswersAreExact }
+/// From a machine with no event yet, what a chain promises of each job that it answers ASSURED is kept.
+pub fn chains_keep_promises()
+    ensures { ChainsKeepPromises }
 {
-    is_never_two();
-    is_one_answer();
-    denoted_has_no_fault();
-}
-
-/// So is what each job is answered by the events of a list that were done.
-pub fn answers_of_a_drive()
-    ensures { AnswersOfDrive }
-{
-    answers_are_exact();
+    promises_are_kept();
 }

@@ -17,5 +17,4 @@ pub mod start;
 pub mod state;
 pub mod system;
 pub mod views;
-mod volumes;
 mod zapping;

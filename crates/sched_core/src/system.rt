@@ -1,26 +1,26 @@
 //! The machine.
-ghost use Rattle.std.specs.Prelude.{◌≡◌, Err, IfOk, OnErr, map, take};
+ghost use Rattle.std.specs.Prelude.{◌≡◌, Err, IfOk, OnErr, take};
 ghost use Rattle.cb_queue.specs.RecordQueues.{empty_queue};
 ghost use Rattle.config_core.specs.Configs.{Configuration};
 ghost use Rattle.config_core.specs.Configured.{IsConfigured};
 ghost use Rattle.config_core.specs.Starts.{IsTakenApart};
-ghost use Rattle.law_core.specs.Promises.{ArePromises};
 ghost use Rattle.shared_core.specs.Sizes.{VolumesHaveTheirSizes};
 ghost use Rattle.world_meaning.specs.Starts.{IsStart};
 ghost use Rattle.world_meaning.specs.Transitions.{Transition};
 ghost use Rattle.sched_core.specs.Events.{RefusesFirst};
 ghost use Rattle.sched_core.specs.Starting.{IsForMachine, IsStarted};
-ghost use Rattle.sched_core.specs.Systems.{Applies, IsDriven, IsNext, KeepsIfRefused, Steps, denoting, meant_by, world_of};
-ghost use Rattle.sched_core.specs.Volumes.{VolumesAreLaidOut};
+ghost use Rattle.sched_core.specs.Promised.{ArePromisedAlong};
+ghost use Rattle.sched_core.specs.Systems.{Applies, Drives, IsDriven, IsNext, IsWhole, KeepsIfRefused, Steps, denoting, meant_by, world_of};
 
 use crate::ending::end;
 use crate::fault::ApplyFault;
 use crate::happening::apply_in;
+use crate::laws::chains_keep_promises;
 use crate::start::{idle_of, started};
 use crate::state::State;
-use crate::volumes::volumes_are_laid_out;
 use case_laws::starts_supplied;
 use cb_queue::store::RecordStore;
+use cb_read::records::are_records;
 use config_core::laws::configuration_is_start;
 use config_core::start::Fixed;
 use init_core::running::Profile;
@@ -28,11 +28,11 @@ use input_core::event::Event;
 use jcl_plan::entry::Entry;
 use jcl_refs::units::UnitNames;
 use job_core::laws::layout_reads_what_it_holds;
-use law_core::{promises_are_kept, starts_sound};
+use law_core::starts_sound;
 use plain::listed::Listed;
 use proc_library::library::ProcLibrary;
 use shared_core::store::SharedStore;
-use shared_core::sums::volumes_have_their_sizes;
+use shared_core::sums::{volumes_are_laid_out, volumes_have_their_sizes};
 use std::alloc::{AllocError, Global};
 use std::marker::Model;
 
@@ -85,14 +85,15 @@ impl<'c, Q: RecordStore> System<'c, Q> {
         requires configured { (c : Configuration) × IsConfigured c × IsTakenApart c store fixed.now }
         requires empty { Q.queue queue ≡ empty_queue (Q.queue queue).layout }
         requires layout { IsForMachine (Q.queue queue).layout }
-        ensures { IfOk result (λ m. (c : Configuration) → IsConfigured c → IsTakenApart c store fixed.now → IsStarted c refuses most_views explains (Q.queue queue).layout m) }
+        ensures started { IfOk result (λ m. (c : Configuration) → IsConfigured c → IsTakenApart c store fixed.now → IsStarted c refuses most_views explains (Q.queue queue).layout m) }
+        ensures whole { IfOk result IsWhole }
     {
         configuration_is_start();
         starts_sound();
         starts_supplied();
         layout_reads_what_it_holds();
         let initiators = idle_of(alloc, fixed.initiators.as_slice())?;
-        Ok(System {
+        let system = System {
             alloc,
             profile: Profile {
                 volumes: fixed.serials.as_slice(),
@@ -105,10 +106,12 @@ impl<'c, Q: RecordStore> System<'c, Q> {
             units: fixed.units.names(),
             library: &fixed.library,
             state: started(alloc, store, queue, initiators),
-        })
+        };
+        system.is_whole();
+        Ok(system)
     }
 
-    /// One event: a case of the table, decided by the volumes as they were, whose extents follow. A refusal changes the count of events alone and takes no
+    /// One event: a case of the table, decided by the volumes as they were, whose extents follow; the machine is whole behind it. A refusal changes the count of events alone and takes no
     /// memory; want of memory changes nothing. The lines may be in the room that is lent, whose entries are dropped then.
     pub fn apply(
         &mut self,
@@ -121,7 +124,7 @@ impl<'c, Q: RecordStore> System<'c, Q> {
         ensures memory { result ≡ Err ApplyFault.Memory → self.new ≡ self.old }
         ensures next { IsNext self.old self.new }
     {
-        apply_in(
+        let answer = apply_in(
             self.alloc,
             &mut self.state,
             &self.profile,
@@ -129,7 +132,10 @@ impl<'c, Q: RecordStore> System<'c, Q> {
             self.library,
             event,
             room,
-        )
+        );
+        volumes_are_laid_out(self.state.parts.store.volumes.as_slice());
+        are_records(&self.state.parts.queue);
+        answer
     }
 
     /// One event, and a refusal as its line. Want of memory changes nothing.
@@ -138,6 +144,7 @@ impl<'c, Q: RecordStore> System<'c, Q> {
         ensures err { OnErr result (self.new ≡ self.old) }
         ensures next { IsNext self.old self.new }
     {
+        self.is_whole();
         let mut line = Vec::with_capacity(self.alloc, 1)?;
         let mut room = Vec::new(self.alloc);
         match self.apply(event, &mut room) {
@@ -154,10 +161,10 @@ impl<'c, Q: RecordStore> System<'c, Q> {
     /// of each job that is answered ASSURED is kept.
     pub fn drive(&mut self, events: &[Event<'_>]) -> Driven
         ensures done { IsDriven self.old events.now result.entries.items result.done self.new }
-        ensures promised { IsStart (world_of self.old) → ArePromises (denoting self.old) (world_of self.old) (world_of self.new)
-            (map meant_by (take result.done events.now)) result.entries.items }
+        ensures promised { IsStart (world_of self.old) → (chain : Drives self.old (take result.done events.now) result.entries.items self.new) →
+            ArePromisedAlong self.old (take result.done events.now) result.entries.items self.new chain }
     {
-        promises_are_kept();
+        chains_keep_promises();
         let mut entries = Vec::new(self.alloc);
         let mut done = 0;
         for event in events {
@@ -180,12 +187,14 @@ impl<'c, Q: RecordStore> System<'c, Q> {
         volumes_have_their_sizes(&self.state.parts.store);
     }
 
-    /// On each volume of the machine no track is in two extents, those of sets and those that are kept are marked so, and no others are. So the tracks that
-    /// are free are those of no set that are not kept, but for those that are never free.
-    pub fn volumes_are_laid_out(&self)
-        ensures { VolumesAreLaidOut self.now.parts.store }
+    /// The machine's volumes are those that are configured, in their order. On each no track is in two extents and no extent is without a track; those of sets
+    /// and those that are kept are marked so, and no others are. So the tracks that are free are those of no set that are not kept, but for those that are
+    /// never free. The records of its queue are whole and of bytes.
+    pub fn is_whole(&self)
+        ensures { IsWhole self.now }
     {
-        volumes_are_laid_out(&self.state.parts.store);
+        volumes_are_laid_out(self.state.parts.store.volumes.as_slice());
+        are_records(&self.state.parts.queue);
     }
 
     /// Takes the machine apart, with the jobs that it still has. It takes no memory.

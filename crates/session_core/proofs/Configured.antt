@@ -3,7 +3,7 @@ use Rattle.std.proofs.Common.{◌≡◌, Bool, false, true, ◌||◌, List, [], 
 use Rattle.machine_meaning.specs.declared.config.ConfigFault.{ConfigFault}
 use Rattle.input_core.specs.declared.statement.ConfigStatement.{ConfigStatement}
 use Rattle.config_core.specs.Configs.{Configuration, config_fault, configured}
-use Rattle.sched_core.specs.Systems.{Machine}
+use Rattle.sched_core.specs.Systems.{IsWhole, Machine}
 use Rattle.session_text.specs.declared.fault.Fault.{Fault}
 use Rattle.session_text.specs.declared.fault.Fault.TheVariants.{NoEnd}
 use Rattle.session_text.specs.declared.statement.Says.TheVariants.{Config}
@@ -14,7 +14,7 @@ use Rattle.session_core.specs.declared.SessionFault.TheVariants.{Stopped}
 use Rattle.session_core.specs.Listings.{Lists}
 use Rattle.session_core.specs.Outcomes.{IsOutcome}
 use Rattle.session_core.specs.Sessions.{configuration_of, configured_by, events_of, fault_behind, has_begun, has_events, session_behind, told, unless_late}
-use Rattle.session_core.proofs.Started.{IsFirst, configured_run}
+use Rattle.session_core.proofs.Started.{IsFirst}
 use Rattle.session_core.proofs.Standing.{config_of-more, goes_on, has_begun-more, no_events, stops_at}
 
 -- these statements are configuration, and all of them stand
@@ -40,23 +40,23 @@ Configured-more all before rest s statement c new p says none is =
 
 -- nothing is listed
 lists_nothing : (o : Options) (before : List Statement) (first : Machine) → has_begun before ≡ false → IsFirst o (configuration_of before) first
-    → Lists o before (events_of before) []
-lists_nothing o before first none started = record {
+    → IsWhole first → Lists o before (events_of before) []
+lists_nothing o before first none started whole = record {
   first = first;
   last = first;
   started = started;
+  whole = whole;
   entries = [];
   drives = rw (no_events before none) refl;
-  run = configured_run o before first first (events_of before) [] started (rw (no_events before none) refl);
   text = refl;
 }
 
-pub Configured-stops : (o : Options) (all before rest : List Statement) (s : Statement) (c : Configuration) (f : Fault) → ((first : Machine) × IsFirst o c first)
+pub Configured-stops : (o : Options) (all before rest : List Statement) (s : Statement) (c : Configuration) (f : Fault) → ((first : Machine) × IsFirst o c first × IsWhole first)
     → Configured all before (s ∷ rest) c → fault_behind before s.says ≡ Some f → IsOutcome {T = SessionEnd} o (session_behind [] all) (Err (Stopped f s.line)) []
 Configured-stops o all before rest s c f begun p some =
     let is = p.session ∙ stops_at before rest s f some in
     let started = subst (λ x. IsFirst o x begun.0) p.configured begun.1 in
-    rw is (refl, lists_nothing o before begun.0 p.not_begun started)
+    rw is (refl, lists_nothing o before begun.0 p.not_begun started begun.2)
 
 -- one that is refused, or whose block has no END
 pub refused_config : (all before rest : List Statement) (s : Statement) (statement : ConfigStatement) (has_end : Bool) (c : Configuration) (fault : ConfigFault)

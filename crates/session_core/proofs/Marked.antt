@@ -1,5 +1,5 @@
 -- Marks of statements, one behind another, and the place of a byte among them.
-use Rattle.std.proofs.Common.{◌≡◌, ◌⊎◌, ℕ, ◌+◌, ◌<◌, ◌≤◌, List, [], ◌∷◌, ◌++◌, length, take, drop, get_or, refl, sym, ap, ◌∙◌, inl, inr, ⊎_elim, append_assoc, arith, length-append, length-take-le}
+use Rattle.std.proofs.Common.{◌≡◌, ◌⊎◌, ℕ, ◌+◌, ◌-◌, ◌<◌, ◌≤◌, List, [], ◌∷◌, ◌++◌, length, take, drop, get_or, refl, sym, ap, ◌∙◌, inl, inr, ⊎_elim, append_assoc, arith, length-append}
 use Rattle.std.proofs.lemmas.List.{append-nil, at_drop_more, drop_all, take-append-le}
 use Rattle.std.proofs.Math.Seq.{take-append-add}
 use Rattle.session_text.specs.declared.statement.Statement.{Statement}
@@ -11,7 +11,7 @@ use Rattle.session_core.specs.Marks.{AreMarks, IsListedLast}
 -- one more statement, which wrote the last part
 pub AreMarks-more : (o : Options) (stands : List Statement) (out : ℕ) (earlier : List ℕ) (marks : List Mark) (text part : List ℕ) (line start : ℕ)
     → out + start ≡ length (earlier ++ text)
-    → AreMarks o stands out earlier marks text → IsListedLast o stands line (earlier ++ text) ((earlier ++ text) ++ part)
+    → AreMarks o stands out earlier marks text → IsListedLast o stands line (earlier ++ text) part
     → AreMarks o stands out earlier (marks ++ record { line = line; start = start } ∷ []) (text ++ part)
 AreMarks-more o stands out earlier [] text part line start place are last =
     let none : earlier ++ text ≡ earlier = ap (λ x. earlier ++ x) are ∙ append-nil earlier in
@@ -27,7 +27,8 @@ pub record Passed (o : Options) (stands : List Statement) (out : ℕ) (whole : L
   pub rest : List ℕ
   pub whole_so : whole ≡ passed ++ rest
   pub marks : AreMarks o stands out passed left rest
-  pub last : (length passed ≤ out + taken) ⊎ ((earlier : List ℕ) × (length earlier ≤ out + taken) × IsListedLast o stands line earlier passed)
+  pub last : (length passed ≤ out + taken)
+      ⊎ ((earlier : List ℕ) × (own : List ℕ) × (length earlier ≤ out + taken) × (passed ≡ earlier ++ own) × IsListedLast o stands line earlier own)
 
 pub Passed-none : (o : Options) (stands : List Statement) (before text : List ℕ) (taken line : ℕ) (marks : List Mark) → AreMarks o stands (length before) before marks text
     → Passed o stands (length before) (before ++ text) taken line marks
@@ -41,29 +42,30 @@ Passed-more o stands out whole taken line mark left p begins = record {
   rest = p.marks.1;
   whole_so = p.whole_so ∙ ap (λ x. p.passed ++ x) p.marks.2 ∙ sym (append_assoc p.passed p.marks.0 p.marks.1);
   marks = p.marks.5;
-  last = inr (p.passed, omega (arith, p.marks.3), p.marks.4);
+  last = inr (p.passed, p.marks.0, omega (arith, p.marks.3), refl, p.marks.4);
 }
 
 -- the place is within what the last of them wrote
-stops : (o : Options) (stands : List Statement) (whole passed rest earlier : List ℕ) (place line : ℕ) → whole ≡ passed ++ rest → place < length passed
-    → length earlier ≤ place → IsListedLast o stands line earlier passed
+stops : (o : Options) (stands : List Statement) (whole passed rest earlier own : List ℕ) (place line : ℕ) → whole ≡ passed ++ rest → place < length passed
+    → length earlier ≤ place → passed ≡ earlier ++ own → IsListedLast o stands line earlier own
     → StopsIn o stands line (take place whole)
-stops o stands whole passed rest earlier place line is within begins last =
-    let long : length (take place whole) ≡ place = length-take-le place whole (rw is (omega (arith, length-append passed rest))) in
+stops o stands whole passed rest earlier own place line is within begins split last =
     let front : take place whole ≡ take place passed = rw is (take-append-le place passed rest (omega arith)) in
+    let at : place ≡ length earlier + (place - length earlier) = omega arith in
     record {
       before = last.before;
       statement = last.statement;
       after = last.after;
       stands_so = last.stands_so;
       at = last.at;
-      listing = passed;
-      lists = last.lists;
+      done = last.done;
+      in_statement = last.in_statement;
       earlier = earlier;
-      lists_earlier = last.lists_earlier;
-      is_written = rw long front;
-      not_before = rw long begins;
-      not_whole = rw long within;
+      own = own;
+      lists = last.lists;
+      taken = place - length earlier;
+      is_written = front ∙ ap (take place) split ∙ ap (λ n. take n (earlier ++ own)) at ∙ take-append-add earlier own (place - length earlier);
+      not_whole = omega (arith, ap length split, length-append earlier own);
     }
 
 pub Passed-stops : (o : Options) (stands : List Statement) (out : ℕ) (whole : List ℕ) (taken line : ℕ) (left : List Mark)
@@ -71,7 +73,7 @@ pub Passed-stops : (o : Options) (stands : List Statement) (out : ℕ) (whole : 
     → StopsIn o stands line (take (out + taken) whole)
 Passed-stops o stands out whole taken line left p within =
     ⊎_elim (λ short. absurd (omega arith))
-    (λ last. stops o stands whole p.passed p.rest last.0 (out + taken) line p.whole_so within last.1 last.2) p.last
+    (λ last. stops o stands whole p.passed p.rest last.0 last.1 (out + taken) line p.whole_so within last.2 last.3 last.4) p.last
 
 -- it is before the next mark
 pub Passed-next : (o : Options) (stands : List Statement) (before text : List ℕ) (taken line : ℕ) (mark : Mark) (left : List Mark)

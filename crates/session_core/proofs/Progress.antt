@@ -1,12 +1,12 @@
 -- How far a session has come behind its configuration.
-use Rattle.std.proofs.Common.{◌≡◌, ◌⊎◌, ℕ, ◌+◌, ◌<◌, Bool, true, false, ◌||◌, List, [], ◌∷◌, ◌++◌, length, take, drop, get_or, replicate, Option, Some, None, is_some, Result, Ok, Err, refl, sym, ap, subst, ◌∙◌, inl, inr, ⊎_elim, append_assoc, arith, length-append}
+use Rattle.std.proofs.Common.{◌≡◌, ◌⊎◌, ℕ, ◌+◌, ◌<◌, ◌≤◌, Bool, true, false, ◌||◌, List, [], ◌∷◌, ◌++◌, length, take, drop, get_or, replicate, Option, Some, None, is_some, Result, Ok, Err, refl, sym, ap, subst, ◌∙◌, inl, inr, ⊎_elim, append_assoc, arith, length-append}
 use Rattle.std.proofs.lemmas.List.{append-nil, length-replicate, take-replicate}
 use Rattle.std.specs.Io.KnownBytes.{Appends}
 use Rattle.config_core.specs.Configs.{Configuration, config_fault}
 use Rattle.input_core.specs.declared.event.Event.{Event}
 use Rattle.input_core.specs.declared.statement.ConfigStatement.{ConfigStatement}
 use Rattle.machine_meaning.specs.declared.config.ConfigFault.{ConfigFault}
-use Rattle.sched_core.specs.Systems.{Machine}
+use Rattle.sched_core.specs.Systems.{Drives, IsWhole, Machine}
 use Rattle.session_text.specs.declared.fault.Fault.{Fault}
 use Rattle.session_text.specs.declared.statement.Says.{Says}
 use Rattle.session_text.specs.declared.statement.Says.TheVariants.{Config, Events, Refused}
@@ -17,15 +17,15 @@ use Rattle.session_core.specs.declared.SessionFault.{SessionFault}
 use Rattle.session_core.specs.declared.SessionFault.TheVariants.{Stopped, WriteFailed, Memory}
 use Rattle.session_core.specs.declared.listing.Mark.{Mark}
 use Rattle.session_core.specs.Configuring.{IsConfiguredBy, begins_with_event, late_by, late_in}
-use Rattle.session_core.specs.Listings.{Lists, text_of_all}
+use Rattle.session_core.specs.Listings.{Lists, ListsUpTo, text_of_all}
 use Rattle.session_core.specs.Marks.{AreMarks, IsListedLast}
-use Rattle.session_core.specs.Outcomes.{IsOutcome, WritesOutcome}
+use Rattle.session_core.specs.Outcomes.{IsOutcome, WantsMemoryIn, WritesOutcome}
 use Rattle.session_core.specs.Running.{AreApplied, AreAppliedInPart, StatementRuns, mark_at}
 use Rattle.session_core.specs.Sessions.{Session, configuration_of, configured_by, events_in, events_of, fault_behind, has_begun, has_events, session_behind, unless_late}
 use Rattle.session_core.specs.Streams.{SinkState}
 use Rattle.session_core.proofs.Applied.{AreApplied-append, AreApplied-behind, AreApplied-none}
 use Rattle.session_core.proofs.Marked.{AreMarks-more}
-use Rattle.session_core.proofs.Started.{IsFirst, configured_run}
+use Rattle.session_core.proofs.Started.{IsFirst}
 use Rattle.session_core.proofs.Streams.{appended_twice}
 use Rattle.session_core.proofs.Standing.{config_of-more, events_of-more, front, goes_on, has_begun-more, no_events, rest_at, stops_at}
 
@@ -47,6 +47,7 @@ pub record Progress (o : Options) (all before rest : List Statement) (late : Opt
   pub begun : HasBegun before rest
   pub first : Machine
   pub started : IsFirst o (configuration_of before) first
+  pub whole : IsWhole first
   pub applied : AreApplied first (events_of before) now [] (out ++ text)
   pub marked : AreMarks o (session_behind [] all).stands (length out) out marks text
 
@@ -69,27 +70,28 @@ pub with_options : {T : Type 0} (s : Session) (a c : SinkState) (result : Result
     → WritesOutcome own a c out s result → WritesOutcome o a c out s result
 with_options s a c result out own o same w = subst (λ (x : Options). WritesOutcome x a c out s result) same w
 
-Lists-applied : (o : Options) (before : List Statement) (events : List Event) (first last : Machine) (text : List ℕ) → IsFirst o (configuration_of before) first
-    → AreApplied first events last [] text → Lists o before events text
-Lists-applied o before events first last text started a = record {
+abbrev Lists-applied : (o : Options) (before : List Statement) (events : List Event) (first last : Machine) (text : List ℕ) → IsFirst o (configuration_of before) first
+    → IsWhole first → AreApplied first events last [] text → Lists o before events text
+Lists-applied o before events first last text started whole a = record {
   first = first;
   last = last;
   started = started;
+  whole = whole;
   entries = a.entries;
   drives = a.drives;
-  run = configured_run o before first last events a.entries started a.drives;
   text = a.text_so;
 }
 
 pub Progress-start : (o : Options) (all : List Statement) (from : ℕ) (c : Configuration) (late : Option Fault) (first : Machine) (marks : List Mark) (text : List ℕ)
-    → IsConfiguredBy all from c → late ≡ late_in c (drop from all) → IsFirst o c first → marks ≡ [] → text ≡ []
+    → IsConfiguredBy all from c → late ≡ late_in c (drop from all) → IsFirst o c first → IsWhole first → marks ≡ [] → text ≡ []
     → Progress o all (take from all) (drop from all) late first [] marks text
-Progress-start o all from c late first marks text p found started no_marks no_text = record {
+Progress-start o all from c late first marks text p found started whole no_marks no_text = record {
   session = p.session;
   found = found ∙ ap (λ x. late_in x (drop from all)) p.configured;
   begun = inr p.next;
   first = first;
   started = subst (λ x. IsFirst o x first) p.configured started;
+  whole = whole;
   applied = rw (no_events (take from all) p.not_begun, no_text) (AreApplied-none first []);
   marked = rw no_marks no_text;
 }
@@ -97,7 +99,7 @@ Progress-start o all from c late first marks text p found started no_marks no_te
 pub Progress-ends : (o : Options) (all before : List Statement) (late : Option Fault) (now : Machine) (out : List ℕ) (marks : List Mark) (text : List ℕ) (end : SessionEnd)
     → Progress o all before [] late now out marks text → ComesTo o all (Ok end) out marks text
 Progress-ends o all before late now out marks text end p = record {
-  outcome = rw p.session (refl, Lists-applied o before (events_of before) p.first now (out ++ text) p.started p.applied);
+  outcome = rw p.session (refl, Lists-applied o before (events_of before) p.first now (out ++ text) p.started p.whole p.applied);
   marked = p.marked;
 }
 
@@ -111,6 +113,7 @@ Progress-written o all before rest late now out marks new_marks text new p no_ma
   begun = p.begun;
   first = p.first;
   started = p.started;
+  whole = p.whole;
   applied = rw (none, append-nil) p.applied;
   marked = rw no_marks none;
 }
@@ -156,39 +159,62 @@ module _ (o : Options) (all before rest : List Statement) (s : Statement) (late 
   stops : (f : Fault) → fault_behind before s.says ≡ Some f → ComesTo o all (Err (Stopped f s.line)) out marks text
   stops f some =
       let is = p.session ∙ stops_at before rest s f some in
-      record { outcome = rw is (refl, Lists-applied o before (events_of before) p.first now (out ++ text) p.started p.applied); marked = p.marked }
+      record { outcome = rw is (refl, Lists-applied o before (events_of before) p.first now (out ++ text) p.started p.whole p.applied); marked = p.marked }
 
   -- the first times of an event
-  listed : (e : Event) (times : ℕ) (new : List ℕ) → s.says ≡ Events e times → AreAppliedInPart now e times text new
-      → IsListedLast o (session_behind [] all).stands s.line (out ++ text) (out ++ new)
+  first_times : (e : Event) (times : ℕ) (new : List ℕ) → s.says ≡ Events e times → (a : AreAppliedInPart now e times text new)
+      → take a.done (events_in s.says) ≡ replicate a.done e
+  first_times e times new is a = ap (λ x. take a.done (events_in x)) is ∙ take-replicate a.done times e a.within
+
+  within_statement : (e : Event) (times : ℕ) (new : List ℕ) → s.says ≡ Events e times → (a : AreAppliedInPart now e times text new)
+      → a.done ≤ length (events_in s.says)
+  within_statement e times new is a = rw is (omega (arith, length-replicate times e, a.within))
+
+  -- the chain goes on with them
+  listed : (e : Event) (times : ℕ) (new : List ℕ) → s.says ≡ Events e times → (a : AreAppliedInPart now e times text new)
+      → IsListedLast o (session_behind [] all).stands s.line (out ++ text) (text_of_all a.applied.entries)
   listed e times new is a =
       let next = next_stands all before rest s p.session (ap (fault_behind before) is) in
-      let some : take a.done (events_in s.says) ≡ replicate a.done e = ap (λ x. take a.done (events_in x)) is ∙ take-replicate a.done times e a.within in
       record {
         before = before;
         statement = s;
         after = next.0;
         stands_so = next.1;
         at = refl;
+        done = a.done;
+        in_statement = within_statement e times new is a;
         lists = record {
-          done = a.done;
-          in_statement = rw is (omega (arith, length-replicate times e, a.within));
-          lists = rw some (Lists-applied o before (events_of before ++ replicate a.done e) p.first a.reached (out ++ new) p.started
-              (AreApplied-append p.first now a.reached (events_of before) (replicate a.done e) [] (out ++ text) (out ++ new) p.applied
-              (AreApplied-behind now a.reached (replicate a.done e) out text new a.applied)));
+          lists = Lists-applied o before (events_of before) p.first now (out ++ text) p.started p.whole p.applied;
+          last = a.reached;
+          entries = a.applied.entries;
+          drives = subst (λ es. Drives now es a.applied.entries a.reached) (sym (first_times e times new is a)) a.applied.drives;
+          text = refl;
         };
-        lists_earlier = Lists-applied o before (events_of before) p.first now (out ++ text) p.started p.applied;
       }
+
+  -- all of it
+  listed_all : (e : Event) (times : ℕ) (new : List ℕ) → s.says ≡ Events e times → (a : AreAppliedInPart now e times text new) → ListsUpTo o before s (out ++ new)
+  listed_all e times new is a = record {
+    done = a.done;
+    in_statement = within_statement e times new is a;
+    lists = rw (first_times e times new is a) (Lists-applied o before (events_of before ++ replicate a.done e) p.first a.reached (out ++ new) p.started p.whole
+        (AreApplied-append p.first now a.reached (events_of before) (replicate a.done e) [] (out ++ text) (out ++ new) p.applied
+        (AreApplied-behind now a.reached (replicate a.done e) out text new a.applied)));
+  }
+
+  -- memory was wanting for the next
+  wanting : (e : Event) (times : ℕ) (new : List ℕ) → s.says ≡ Events e times → AreAppliedInPart now e times text new
+      → WantsMemoryIn o (session_behind [] all).stands (out ++ new)
+  wanting e times new is a =
+      let next = next_stands all before rest s p.session (ap (fault_behind before) is) in
+      record { before = before; statement = s; after = next.0; stands_so = next.1; lists = listed_all e times new is a }
 
   marked_more : (e : Event) (times : ℕ) (new : List ℕ) (new_marks : List Mark) → s.says ≡ Events e times → AreAppliedInPart now e times text new
       → new_marks ≡ marks ++ mark_at s.line text ∷ []
       → AreMarks o (session_behind [] all).stands (length out) out new_marks new
   marked_more e times new new_marks is a more =
-      let stands = (session_behind [] all).stands in
-      let part = text_of_all a.applied.entries in
-      let whole : out ++ new ≡ (out ++ text) ++ part = ap (λ x. out ++ x) a.applied.text_so ∙ sym (append_assoc out text part) in
-      let last : IsListedLast o stands s.line (out ++ text) ((out ++ text) ++ part) = rw whole at (listed e times new is a) in
-      rw (more, a.applied.text_so) (AreMarks-more o stands (length out) out marks text part s.line (length text) (sym (length-append out text)) p.marked last)
+      rw (more, a.applied.text_so) (AreMarks-more o (session_behind [] all).stands (length out) out marks text (text_of_all a.applied.entries) s.line (length text)
+      (sym (length-append out text)) p.marked (listed e times new is a))
 
   -- all of its times
   Progress-more : (e : Event) (times : ℕ) (after : Machine) (new : List ℕ) (new_marks : List Mark) → s.says ≡ Events e times
@@ -205,6 +231,7 @@ module _ (o : Options) (all before rest : List Statement) (s : Statement) (late 
         begun = inl (record { earlier = before; last = s; is = refl; event = event });
         first = p.first;
         started = rw (config_stays before s event) p.started;
+        whole = p.whole;
         applied = rw events (AreApplied-append p.first now after (events_of before) (replicate times e) [] (out ++ text) (out ++ new) p.applied
             (AreApplied-behind now after (replicate times e) out text new a));
         marked = marked_more e times new new_marks is (record { done = times; within = omega arith; reached = after; applied = a }) more;
@@ -212,26 +239,13 @@ module _ (o : Options) (all before rest : List Statement) (s : Statement) (late 
 
   wants : (e : Event) (times : ℕ) (new : List ℕ) (new_marks : List Mark) → s.says ≡ Events e times → new_marks ≡ marks ++ mark_at s.line text ∷ []
       → AreAppliedInPart now e times text new → ComesTo o all (Err Memory) out new_marks new
-  wants e times new new_marks is more a =
-      let last = listed e times new is a in
-      record {
-        outcome = inl (record { before = last.before; statement = last.statement; after = last.after; stands_so = last.stands_so; lists = last.lists });
-        marked = marked_more e times new new_marks is a more;
-      }
+  wants e times new new_marks is more a = record { outcome = inl (wanting e times new is a); marked = marked_more e times new new_marks is a more }
 
   wants_first : (e : Event) (times : ℕ) → s.says ≡ Events e times → ComesTo o all (Err Memory) out marks text
-  wants_first e times is =
-      let last = listed e times text is (record { done = 0; within = omega arith; reached = now; applied = AreApplied-none now text }) in
-      record {
-        outcome = inl (record {
-          before = last.before;
-          statement = last.statement;
-          after = last.after;
-          stands_so = last.stands_so;
-          lists = last.lists;
-        });
-        marked = p.marked;
-      }
+  wants_first e times is = record {
+    outcome = inl (wanting e times text is (record { done = 0; within = omega arith; reached = now; applied = AreApplied-none now text }));
+    marked = p.marked;
+  }
 
   -- configuration behind the first event
   has_begun_here : (says : Says) → s.says ≡ says → has_events says ≡ false → LastIsEvent before

@@ -6,6 +6,8 @@ use Rattle.config_core.specs.Configs.{Configuration, unit_names}
 use Rattle.config_core.specs.Configured.{IsConfigured}
 use Rattle.config_core.proofs.Starting.{nothing_on}
 use Rattle.config_core.specs.Starts.{StartsOfConfigurations, idle, start_config, start_of}
+use Rattle.cb_queue.proofs.Changing.{sound_empty}
+use Rattle.cb_read.proofs.Sound.{all_records}
 use Rattle.input_core.specs.declared.event.Event.{Event}
 use Rattle.jcl_job.specs.Jobs.{job_of}
 use Rattle.jcl_plan.specs.declared.entry.Entry.{Entry}
@@ -15,10 +17,10 @@ use Rattle.shared_core.specs.Shown.{mounted_in}
 use Rattle.shared_core.specs.Tracks.{kept_shown}
 use Rattle.sched_core.specs.Machines.{shown_initiator}
 use Rattle.sched_core.specs.Starting.{IsForMachine, IsStarted}
-use Rattle.sched_core.specs.Systems.{Drives, Machine, denoting, meant_by, world_of}
+use Rattle.sched_core.specs.Promised.{ChainsAreRuns}
+use Rattle.sched_core.specs.Systems.{Drives, IsWhole, Machine, denoting, meant_by, world_of}
 use Rattle.sched_core.specs.declared.start.TheConstants.{FIRST_DAY}
 use Rattle.sched_core.specs.declared.state.Initiator.{Initiator}
-use Rattle.sched_core.proofs.Driving.{drives_run}
 use Rattle.session_text.specs.declared.statement.Statement.{Statement}
 use Rattle.world_meaning.specs.Transitions.{Runs}
 use Rattle.world_meaning.specs.Worlds.{Config, World}
@@ -79,8 +81,20 @@ begun_so law for_machine refuses views explains c k = record {
   volumes = refl;
 }
 
-pub machine_begun : StartsOfConfigurations → IsForMachine LAYOUT_1 → (o : Options) (c : Configuration) → IsConfigured c → (first : Machine) × IsFirst o c first
-machine_begun law for_machine o c k = (begun (refuses_in o) o.views o.explains c, begun_so law for_machine (refuses_in o) o.views o.explains c k)
+begun_whole : IsForMachine LAYOUT_1 → (refuses : Bool) (views : ℕ) (explains : Bool) (c : Configuration) → IsConfigured c → IsWhole (begun refuses views explains c)
+begun_whole for_machine refuses views explains c k = record {
+  serials = refl;
+  laid_out = k.laid_out;
+  records = all_records (empty_queue LAYOUT_1) (sound_empty LAYOUT_1 for_machine.holds.own_link);
+}
+
+pub machine_begun : StartsOfConfigurations → IsForMachine LAYOUT_1 → (o : Options) (c : Configuration) → IsConfigured c →
+    (first : Machine) × IsFirst o c first × IsWhole first
+machine_begun law for_machine o c k = (
+  begun (refuses_in o) o.views o.explains c,
+  begun_so law for_machine (refuses_in o) o.views o.explains c k,
+  begun_whole for_machine (refuses_in o) o.views o.explains c k,
+)
 
 -- the options that a machine was started with are those in what is fixed of it
 same_choice : (choice : RiskChoice) → choice_of (is_refusal choice) ≡ choice
@@ -104,9 +118,9 @@ denotes : (o : Options) (c : Configuration) (first : Machine) → IsFirst o c fi
 denotes o c first started = λ i. job_of (started.unit_names i) (started.library i)
 
 -- steps of machine after machine are a run of what was configured
-pub configured_run : (o : Options) (config : List Statement) (first last : Machine) (events : List Event) (entries : List (List Entry)) →
+pub configured_run : ChainsAreRuns → (o : Options) (config : List Statement) (first last : Machine) (events : List Event) (entries : List (List Entry)) →
     IsFirst o (configuration_of config) first → Drives first events entries last →
     Runs (denoting_of config) (world_at_start o config) (map meant_by events) entries (world_of last)
-configured_run o config first last events entries started d =
+configured_run law o config first last events entries started d =
     subst (λ job. Runs job (world_at_start o config) (map meant_by events) entries (world_of last)) (denotes o (configuration_of config) first started)
-    (subst (λ w. Runs (denoting first) w (map meant_by events) entries (world_of last)) started.world (drives_run first last events entries d))
+    (subst (λ w. Runs (denoting first) w (map meant_by events) entries (world_of last)) started.world (law first events entries last d))

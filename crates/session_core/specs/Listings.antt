@@ -1,5 +1,5 @@
 -- What a session writes.
-use Rattle.std.specs.Prelude.{◌≡◌, ℕ, ◌≤◌, ◌<◌, List, [], ◌∷◌, ◌++◌, length, map, take}
+use Rattle.std.specs.Prelude.{◌≡◌, ℕ, ◌≤◌, ◌<◌, List, [], ◌∷◌, ◌++◌, length, take}
 use Rattle.std.specs.List.{flat_map}
 use Rattle.jcl_plan.specs.declared.entry.Entry.{Entry}
 use Rattle.jcl_plan.specs.declared.entry.Entry.TheVariants as entry
@@ -9,10 +9,9 @@ use Rattle.jcl_plan.specs.Lines.{text_of}
 use Rattle.cb_meaning.specs.declared.layout.TheConstants.{LAYOUT_1}
 use Rattle.input_core.specs.declared.event.Event.{Event}
 use Rattle.sched_core.specs.Starting.{IsStarted}
-use Rattle.sched_core.specs.Systems.{Drives, Machine, meant_by, world_of}
-use Rattle.world_meaning.specs.Transitions.{Runs}
+use Rattle.sched_core.specs.Systems.{Drives, IsWhole, Machine}
 use Rattle.session_text.specs.declared.statement.Statement.{Statement}
-use Rattle.session_core.specs.Sessions.{configuration_of, denoting_of, events_in, events_of, refuses_in, world_at_start}
+use Rattle.session_core.specs.Sessions.{configuration_of, events_in, events_of, refuses_in}
 use Rattle.session_core.specs.declared.Options.{Options}
 
 -- the line of an event past the last that is done
@@ -23,15 +22,15 @@ past_limit = entry.Refused (cause.A event_fault.PastLimit) ∷ []
 abbrev pub text_of_all : List (List Entry) → List ℕ
 text_of_all entries = flat_map (λ lines. flat_map text_of lines) entries
 
--- These events, from the machine that these statements configure, started with these options, write this listing: a chain of machines, each event decided by the volumes of the
--- machine before it. So it is a run of the table.
+-- These events, from the machine that these statements configure, started with these options, write this listing: along a chain of machines, each whole, each
+-- event decided by the volumes of the machine before it.
 pub record Lists (o : Options) (config : List Statement) (events : List Event) (listing : List ℕ) : Type 0 where
   pub first : Machine
   pub last : Machine
   pub started : IsStarted (configuration_of config) (refuses_in o) o.views o.explains LAYOUT_1 first
+  pub whole : IsWhole first
   pub entries : List (List Entry)
   pub drives : Drives first events entries last
-  pub run : Runs (denoting_of config) (world_at_start o config) (map meant_by events) entries (world_of last)
   pub text : listing ≡ text_of_all entries
 
 -- the events of these statements, and of one more as many as were done
@@ -40,18 +39,27 @@ pub record ListsUpTo (o : Options) (before : List Statement) (statement : Statem
   pub in_statement : done ≤ length (events_in statement.says)
   pub lists : Lists o before (events_of before ++ take done (events_in statement.says)) listing
 
--- the listing that is written stops within the lines of the statement that begins at this line: what is listed before it is written,
--- and what is listed with it is not
+-- One chain of machines lists the events of these statements, and goes on with events of the next: what is listed earlier, and what then.
+pub record ListsOn (o : Options) (before : List Statement) (events : List Event) (earlier own : List ℕ) : Type 0 where
+  pub lists : Lists o before (events_of before) earlier
+  pub last : Machine
+  pub entries : List (List Entry)
+  pub drives : Drives lists.last events entries last
+  pub text : own ≡ text_of_all entries
+
+-- the listing that is written stops within the lines of the statement that begins at this line: what is listed before it is written, and of what is listed with
+-- it so much, and not all
 pub record StopsIn (o : Options) (stands : List Statement) (line : ℕ) (written : List ℕ) : Type 0 where
   pub before : List Statement
   pub statement : Statement
   pub after : List Statement
   pub stands_so : stands ≡ before ++ statement ∷ after
   pub at : statement.line ≡ line
-  pub listing : List ℕ
-  pub lists : ListsUpTo o before statement listing
+  pub done : ℕ
+  pub in_statement : done ≤ length (events_in statement.says)
   pub earlier : List ℕ
-  pub lists_earlier : Lists o before (events_of before) earlier
-  pub is_written : written ≡ take (length written) listing
-  pub not_before : length earlier ≤ length written
-  pub not_whole : length written < length listing
+  pub own : List ℕ
+  pub lists : ListsOn o before (take done (events_in statement.says)) earlier own
+  pub taken : ℕ
+  pub is_written : written ≡ earlier ++ take taken own
+  pub not_whole : taken < length own

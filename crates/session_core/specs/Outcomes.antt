@@ -11,7 +11,7 @@ use Rattle.session_core.specs.Listings.{Lists, ListsUpTo, StopsIn}
 use Rattle.session_core.specs.Sessions.{Session, events_of, session_of}
 use Rattle.session_core.specs.Streams.{IsRead, IsReadInPart, SinkState, SourceState}
 
--- memory was wanting within a statement: the events before it are listed
+-- memory was wanting within a statement: the events before it are listed, and of its own those before one for which memory was wanting
 pub record WantsMemoryIn (o : Options) (stands : List Statement) (written : List ℕ) : Type 0 where
   pub before : List Statement
   pub statement : Statement

@@ -3,26 +3,35 @@ ghost use Rattle.cb_meaning.specs.declared.layout.TheConstants.{LAYOUT_1};
 ghost use Rattle.config_core.specs.Configs.{Configuration};
 ghost use Rattle.config_core.specs.Configured.{IsConfigured};
 ghost use Rattle.sched_core.specs.Starting.{IsStarted};
-ghost use Rattle.sched_core.specs.Systems.{Machine};
-ghost use Rattle.session_core.specs.Promises.{AnswersOfSession, PromisesOfSession, VolumesDecideSession};
+ghost use Rattle.sched_core.specs.Systems.{IsWhole, Machine};
+ghost use Rattle.session_core.specs.Promises.{AnswersOfSession, ListingsAreRuns, PromisesOfSession, VolumesDecideSession};
 ghost use Rattle.session_core.specs.Sessions.{refuses_in};
 ghost use Rattle.session_core.specs.declared.Options.{Options};
 
 use config_core::laws::configuration_is_start;
-use law_core::promises_are_kept;
-use sched_core::laws::{answers_are_exact, growth_is_refused, primary_is_refused, sets_are_placed};
+use machine_laws::{
+    answers_are_exact, growth_is_refused, primary_is_refused, sets_are_placed,
+};
+use sched_core::laws::{chains_are_runs, chains_keep_promises};
 use sched_core::start::first_layout_is_for_machine;
 
 /// From any listing of a session, each ASSURED line among its entries is kept.
 pub fn promises_of_a_session()
     ensures { PromisesOfSession }
 {
-    promises_are_kept();
+    chains_keep_promises();
 }
 
-/// Each configuration has a machine before its first event, with whichever options it is started.
+/// The chain of machines of a listing is a run of the machine's definitions, from what the session's statements configure.
+pub fn listings_are_runs()
+    ensures { ListingsAreRuns }
+{
+    chains_are_runs();
+}
+
+/// Each configuration has a machine before its first event, a whole one, with whichever options it is started.
 pub fn configuration_has_a_machine()
-    ensures { (o : Options) (c : Configuration) → IsConfigured c → (first : Machine) × IsStarted c (refuses_in o) o.views o.explains LAYOUT_1 first }
+    ensures { (o : Options) (c : Configuration) → IsConfigured c → (first : Machine) × IsStarted c (refuses_in o) o.views o.explains LAYOUT_1 first × IsWhole first }
 {
     configuration_is_start();
     first_layout_is_for_machine();

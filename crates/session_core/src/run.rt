@@ -100,8 +100,9 @@ pub fn run_statement(
     }
 }
 
-/// Runs the statements from the first event on, with the options that the machine was started with, and writes their lines.
-fn run_from<W: Write>(
+/// Runs the statements from the first event on, with the options that the machine was started with, and writes their lines. Unless a write fails, the lines of
+/// all events that were done are written, but for those of one for which no memory was left: the machine then is a step further.
+pub fn run_from<W: Write>(
     alloc: Global,
     statements: &[Statement<'_>],
     from: usize,
@@ -117,6 +118,7 @@ fn run_from<W: Write>(
     ensures failed { sink.new.failed ≡ is_write_fault result }
     ensures same_writer { sink.new.writer.ghost_name ≡ sink.old.writer.ghost_name }
 {
+    system.is_whole();
     let mut listing = Listing::empty(alloc);
     let (_, rest) = statements.split_at(from);
     for statement in rest {

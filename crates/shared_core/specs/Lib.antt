@@ -6,3 +6,4 @@ pub mod Tracks
 pub mod Laws
 pub mod Sizes
 pub mod Giving
+pub mod LaidOut

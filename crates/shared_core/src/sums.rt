@@ -1,4 +1,5 @@
-//! The tracks of the volumes add up.
+//! The tracks of the volumes add up, and each is what its sets and what is kept say.
+ghost use Rattle.shared_core.specs.LaidOut.{IsLaidOut, VolumesAreLaidOut};
 ghost use Rattle.shared_core.specs.Sizes.{VolumesHaveTheirSizes};
 ghost use Rattle.shared_core.specs.Tracks.{AddsUp, VolumesAddUp};
 
@@ -28,5 +29,21 @@ pub fn volumes_have_their_sizes(store: &SharedStore)
 {
     for mounted in store.volumes.as_slice() {
         mounted.tracks_add_up();
+    }
+}
+
+fn is_laid_out(mounted: &Mounted)
+    ensures { IsLaidOut mounted.now }
+{
+    volumes_are_sound(mounted.volume());
+    mounted.kept_is_aside();
+}
+
+/// On each volume no track is in two extents and no extent is without a track; the tracks of sets and those that are kept are marked so, and no others.
+pub fn volumes_are_laid_out(volumes: &[Mounted])
+    ensures { VolumesAreLaidOut volumes.now }
+{
+    for mounted in volumes {
+        is_laid_out(mounted);
     }
 }

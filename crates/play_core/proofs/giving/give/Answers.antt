@@ -18,4 +18,4 @@ returns-clause-step c =
     subst (λ e. Steps c.args.system.now e c.in_ok-lines.lines (world_of c.apply_shown.new.self)) c.event.ensures c.in_ok-lines.ensures.step
 
 pub returns-in_err-reserve-clause-next : goal.returns-in_err-reserve-clause-next
-returns-in_err-reserve-clause-next c = IsNext-none c.args.system.now
+returns-in_err-reserve-clause-next c = IsNext-none c.args.system.now c.is_whole.ensures

@@ -1,4 +1,4 @@
-use Rattle.sched_core.proofs.Driving.{exact_along}
+use Rattle.machine_laws.proofs.Along.{exact_along}
 use Rattle.session_core.proofs.laws.answers_of_a_session.Goals as goal
 
 pub returns : goal.returns

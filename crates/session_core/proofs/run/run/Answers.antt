@@ -1,8 +1,7 @@
 use Rattle.std.proofs.Common.{[], refl, sym, subst, inr}
 use Rattle.session_core.specs.declared.Options.{Options}
-use Rattle.session_core.specs.Opening.{IsOpened}
 use Rattle.session_core.proofs.Progress.{with_options}
-use Rattle.session_core.proofs.Started.{IsFirst, first_of, same_options}
+use Rattle.session_core.proofs.Started.{IsFirst, same_options}
 use Rattle.session_core.proofs.Streams.{appended_none}
 use Rattle.session_core.proofs.run.run.Goals as goal
 

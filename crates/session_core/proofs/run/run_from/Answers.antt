@@ -20,7 +20,7 @@ loop-statement-init g c =
       so_far = (
         [],
         appended_none _,
-        rw add-zero (Progress-start (options_in c.args.system.now.config) all c.args.from _ _ _ _ _ p.1 p.2 p.3 none.marks none.text),
+        rw add-zero (Progress-start (options_in c.args.system.now.config) all c.args.from _ _ _ _ _ p.1 p.2 p.3 c.is_whole.ensures none.marks none.text),
         ([], rw none.text (AreApplied-none _ [])),
       );
       unfailed = search rules;

@@ -1,5 +1,6 @@
 use Rattle.std.proofs.Common.{◌≡◌, ap, subst, sym, ◌∙◌, None}
 use Rattle.config_core.specs.Configs.{Configuration, set_fault}
+use Rattle.shared_core.specs.LaidOut.{VolumesAreLaidOut}
 use Rattle.config_core.specs.Configured.{IsConfigured}
 use Rattle.config_core.proofs.Adding.{can_hold}
 use Rattle.config_core.proofs.Keeping.{set_configured}
@@ -31,4 +32,5 @@ invariant_of-self-2 c =
     let none : set_fault config c.args.set.now ≡ None =
     ap (λ v. set_fault v c.args.set.now) (c.self.view_is ∙ c.set_fault.ensures.same) ∙ sym c.set_fault.ensures.answer ∙ c.in_default.is in
     subst IsConfigured (λ i. record config { volumes = sym c.in_ok-enter_set.ensures.made i; catalog = sym c.in_ok-enter_set.ensures.entered i })
-    (set_configured config c.args.set.now c.self.invariant none c.is_name.ensures)
+    (set_configured config c.args.set.now c.self.invariant none c.is_name.ensures
+    (subst VolumesAreLaidOut (c.as_slice.ensures ∙ c.in_ok-enter_set.ensures.made) c.volumes_are_laid_out.ensures))

@@ -18,4 +18,4 @@ returns-in-Err-Refused-clause-step g c =
     subst (λ lines. Steps old e lines (world_of new)) (sym is) step
 
 pub returns-in_err-line-clause-next : goal.returns-in_err-line-clause-next
-returns-in_err-line-clause-next g c = IsNext-none c.args.self.now
+returns-in_err-line-clause-next g c = IsNext-none c.args.self.now c.is_whole.ensures

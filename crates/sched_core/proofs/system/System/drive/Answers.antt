@@ -1,6 +1,6 @@
 use Rattle.std.proofs.Common.{◌<◌, ◌+◌, length, [], ◌∷◌, ◌++◌, sym, ap, ◌∙◌, subst}
 use Rattle.std.specs.Prelude.{get_or}
-use Rattle.sched_core.proofs.Driving.{DrivenTo, driven_more, driven_now, promises_so}
+use Rattle.sched_core.proofs.Driving.{DrivenTo, driven_more, driven_now}
 use Rattle.sched_core.specs.Systems.{IsDriven}
 use Rattle.sched_core.proofs.system.System.drive.Goals as goal
 
@@ -25,27 +25,12 @@ returns-in_default-clause-done g c =
     subst (λ ys. IsDriven c.args.self.now c.args.events.now ys c.loop-event.done c.loop-event.self) (sym c.reserve.ensures.items)
     (driven_now c.args.self.now c.loop-event.self c.args.events.now c.loop-event.entries.items c.loop-event.done c.loop-event.invariant.1)
 
-pub returns-in_default-clause-promised : goal.returns-in_default-clause-promised
-returns-in_default-clause-promised g c =
-    promises_so c.promises_are_kept.ensures c.args.self.now c.loop-event.self c.args.events.now c.reserve.new.self.items c.loop-event.done
-    (returns-in_default-clause-done g c)
-
 pub returns-in_default-apply_shown-clause-done : goal.returns-in_default-apply_shown-clause-done
 returns-in_default-apply_shown-clause-done g c =
     subst (λ m. IsDriven c.args.self.now c.args.events.now c.reserve.new.self.items c.loop-event.done m) (sym c.in_default-apply_shown.ensures.err)
     (subst (λ ys. IsDriven c.args.self.now c.args.events.now ys c.loop-event.done c.loop-event.self) (sym c.reserve.ensures.items)
     (driven_now c.args.self.now c.loop-event.self c.args.events.now c.loop-event.entries.items c.loop-event.done c.loop-event.invariant.1))
 
-pub returns-in_default-apply_shown-clause-promised : goal.returns-in_default-apply_shown-clause-promised
-returns-in_default-apply_shown-clause-promised g c =
-    promises_so c.promises_are_kept.ensures c.args.self.now c.apply_shown.new.self c.args.events.now c.reserve.new.self.items c.loop-event.done
-    (returns-in_default-apply_shown-clause-done g c)
-
 pub returns-clause-done : goal.returns-clause-done
 returns-clause-done g c =
     driven_now c.args.self.now c.loop-event.self c.args.events.now c.loop-event.entries.items c.loop-event.done c.loop-event.invariant.1
-
-pub returns-clause-promised : goal.returns-clause-promised
-returns-clause-promised g c =
-    promises_so c.promises_are_kept.ensures c.args.self.now c.loop-event.self c.args.events.now c.loop-event.entries.items c.loop-event.done
-    (returns-clause-done g c)

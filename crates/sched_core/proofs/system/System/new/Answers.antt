@@ -5,13 +5,13 @@ use Rattle.sched_core.specs.declared.start.TheConstants.{FIRST_DAY}
 use Rattle.sched_core.proofs.Begun.{begins_kept, idle_seat, units_counted, units_few, world_at}
 use Rattle.sched_core.proofs.system.System.new.Goals as goal
 
-pub invariant_of-result : goal.invariant_of-result
-invariant_of-result g c = record {
+pub invariant_of-system : goal.invariant_of-system
+invariant_of-system g c = record {
   few_units = units_few c.requires.configured.0 c.args.store c.args.fixed.now c.requires.configured.1 c.requires.configured.2 c.volumes.result.now c.volumes.ensures;
 }
 
-pub invariant_of-result-2 : goal.invariant_of-result-2
-invariant_of-result-2 g c =
+pub invariant_of-system-2 : goal.invariant_of-system-2
+invariant_of-system-2 g c =
     let fixed = c.args.fixed.now in
     let few = units_few c.requires.configured.0 c.args.store fixed c.requires.configured.1 c.requires.configured.2 c.volumes.result.now c.volumes.ensures in
     let p : Profile = record {
@@ -32,8 +32,8 @@ invariant_of-result-2 g c =
       named = ap length c.names.ensures ∙ units_counted fixed.units ∙ sym (ap length c.volumes.ensures);
     }
 
-pub returns : goal.returns
-returns g c = λ config configured apart.
+pub returns-clause-started : goal.returns-clause-started
+returns-clause-started g c = λ config configured apart.
     let fixed = c.args.fixed.now in
     let few = units_few config c.args.store fixed configured apart c.volumes.result.now c.volumes.ensures in
     let p : Profile = record {

@@ -1,0 +1,4 @@
+pub mod Inputs
+pub mod Deciding
+pub mod Answers
+pub mod Next

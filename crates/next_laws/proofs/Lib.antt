@@ -1,0 +1,6 @@
+mod Fronts
+mod Keeping
+mod Extents
+mod Marks
+mod Volumes
+mod Stores
