@@ -1,8 +1,8 @@
 -- The volumes behind a step of the machine.
-use Rattle.std.proofs.Common.{◌≡◌, sym, ap, ◌∙◌, subst}
+use Rattle.std.proofs.Common.{sym, ap, ◌∙◌, subst}
 use Rattle.plain.specs.Lists.{Differ}
 use Rattle.next_laws.specs.Next.{IsNextStore, NextStoreIsDecided}
-use Rattle.sched_core.specs.Systems.{IsWhole, Machine, world_of}
+use Rattle.sched_core.specs.Systems.{IsWhole, Machine}
 use Rattle.world_meaning.specs.Worlds.{Config, World}
 use Rattle.machine_laws.specs.Next.{IsNextWithoutKeeping, NextVolumesAreDecided}
 

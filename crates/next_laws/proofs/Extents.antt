@@ -1,15 +1,14 @@
 -- The extents of each set behind an event.
-use Rattle.std.proofs.Common.{◌≡◌, ◌⊎◌, ℕ, List, Option, Some, None, refl, sym, ap, ◌∙◌, inl, inr}
+use Rattle.std.proofs.Common.{◌≡◌, ◌⊎◌, List, Option, Some, None, refl, sym, ap, ◌∙◌, inl, inr}
 use Rattle.std.specs.FinMap.{get}
 use Rattle.extent_core.specs.declared.extent.Extent.{Extent}
-use Rattle.vtoc_core.specs.declared.entry.SetKey.{SetKey}
 use Rattle.vtoc_core.specs.Extents.{free_extents, planned, tracks_in}
 use Rattle.vtoc_core.specs.Volumes.{empty_among}
 use Rattle.mount_core.specs.Mounts.{MountedState}
 use Rattle.shared_core.specs.Extents.{Follows, IsFront, IsGrown, IsMadeOf, StaysKept}
 use Rattle.mount_core.specs.declared.place.KeptPlace.{KeptPlace}
 use Rattle.next_laws.proofs.Fronts.{behind, front_is, grown_is, or_none}
-use Rattle.next_laws.proofs.Keeping.{IsGone, gone_or_same}
+use Rattle.next_laws.proofs.Keeping.{gone_or_same}
 
 module _ (old one other : MountedState) (same : one.kept ≡ other.kept) (stay : (at : KeptPlace) → StaysKept (get old.kept at) (get one.kept at)) where
   abbrev free : List Extent

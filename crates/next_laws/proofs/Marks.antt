@@ -1,10 +1,9 @@
 -- What each track is: its sets, what is kept, and which tracks are never free say it.
-use Rattle.std.proofs.Common.{◌≡◌, ◌≢◌, ◌<◌, ◌+◌, ℕ, zero, suc, Bool, true, false, cond, List, [], ◌∷◌, Option, Some, None, refl, sym, ap, ◌∙◌, arith}
+use Rattle.std.proofs.Common.{◌≡◌, ◌≢◌, ◌<◌, ℕ, zero, suc, Bool, true, false, cond, List, [], ◌∷◌, Option, Some, None, refl, sym, ap, ◌∙◌, arith}
 use Rattle.std.specs.List.{slice_get}
 use Rattle.std.specs.Option.{option_map}
 use Rattle.vtoc_core.specs.declared.volume.Track.{Track}
 use Rattle.vtoc_core.specs.declared.volume.Track.TheVariants.{Aside, Free, InSet, Unusable}
-use Rattle.vtoc_core.specs.Extents.{tracks_in}
 use Rattle.vtoc_core.specs.Volumes.{count_of, extents_of_all, is_kind, marked, times_in}
 use Rattle.vtoc_core.proofs.CountLemmas.{count-cons, moves}
 use Rattle.vtoc_core.proofs.KindLemmas.{marked_not_in}
@@ -44,8 +43,12 @@ module _ (m : MountedState) (laid_out : IsLaidOut m) where
   is_kept n aside out =
       let list = extents_kept m.kept in
       let left : slice_get (marked Free list m.volume.tracks) n ≡ Some Aside = marked_not_in Free list m.volume.tracks n out ∙ aside in
-      omega (arith, (moves Aside Free list m.volume.tracks aside_is_not_free laid_out.kept.aside).fewer, laid_out.kept.count,
-      counted (marked Free list m.volume.tracks) n left)
+      omega (
+        arith,
+        (moves Aside Free list m.volume.tracks aside_is_not_free laid_out.kept.aside).fewer,
+        laid_out.kept.count,
+        counted (marked Free list m.volume.tracks) n left,
+      )
 
   by : (n : ℕ) (track : Option Track) (sets kept : ℕ) → slice_get m.volume.tracks n ≡ track → in_sets n ≡ sets → in_kept n ≡ kept →
       track ≡ known sets kept (option_map is_unusable track)

@@ -1,5 +1,5 @@
 -- All volumes of a store, and its catalog.
-use Rattle.std.proofs.Common.{◌≡◌, ◌≢◌, ◌⊎◌, ℕ, Bool, true, false, cond, List, [], ◌∷◌, Option, Some, None, All, refl, sym, ap, ◌∙◌, subst, inl, inr}
+use Rattle.std.proofs.Common.{◌≡◌, ◌≢◌, ℕ, Bool, cond, List, [], ◌∷◌, Option, Some, All, refl, sym, ap, ◌∙◌, subst, inl, inr}
 use Rattle.std.specs.FinMap.{same_map, nat_cmp-IsAntisymmetric, slice_cmp-IsAntisymmetric}
 use Rattle.std.specs.Str.{bytes_eq}
 use Rattle.std.specs.Cmp.Lexicographic.{nat_list_cmp_total}
@@ -7,7 +7,6 @@ use Rattle.std.proofs.lemmas.Bool.{cases_Bool, false_from_ne_true}
 use Rattle.std.proofs.lemmas.List.Elements.{All-head, All-tail}
 use Rattle.std.proofs.lemmas.Slice.Eq.{bytes_eq-Decides}
 use Rattle.plain.specs.Lists.{Differ}
-use Rattle.vtoc_core.specs.declared.entry.SetKey.{SetKey}
 use Rattle.mount_core.specs.Mounts.{MountedState}
 use Rattle.shared_core.specs.Extents.{FollowOn}
 use Rattle.shared_core.specs.LaidOut.{IsLaidOut}
@@ -32,7 +31,7 @@ at_others m ms serial apart = ap (at serial m ms) (false_from_ne_true (bytes_eq 
 -- Lists of volumes with the same serials, which differ, are one where the volumes of each serial are.
 each_decided : (olds ones others : List MountedState) → Differ (serials_of olds) → serials_of ones ≡ serials_of olds → serials_of others ≡ serials_of olds →
     ((old one other : MountedState) → mounted_in olds old.serial ≡ Some old → mounted_in ones old.serial ≡ Some one →
-      mounted_in others old.serial ≡ Some other → one.serial ≡ old.serial → other.serial ≡ old.serial → one ≡ other) → ones ≡ others
+    mounted_in others old.serial ≡ Some other → one.serial ≡ old.serial → other.serial ≡ old.serial → one ≡ other) → ones ≡ others
 each_decided [] [] [] differ same same_too next = refl
 each_decided [] (x ∷ xs) others differ same same_too next = absurd cc
 each_decided [] [] (y ∷ ys) differ same same_too next = absurd cc
@@ -44,11 +43,11 @@ each_decided (o ∷ os) (x ∷ xs) (y ∷ ys) differ same same_too next =
     let of_xs : serials_of xs ≡ serials_of os = cc in
     let of_ys : serials_of ys ≡ serials_of os = cc in
     let first : x ≡ y = next o x y (at_first o os) (subst (λ s. mounted_in (x ∷ xs) s ≡ Some x) of_x (at_first x xs))
-      (subst (λ s. mounted_in (y ∷ ys) s ≡ Some y) of_y (at_first y ys)) of_x of_y in
+    (subst (λ s. mounted_in (y ∷ ys) s ≡ Some y) of_y (at_first y ys)) of_x of_y in
     let rest : xs ≡ ys = each_decided os xs ys differ.1 of_xs of_ys (λ old one other here here_one here_other one_so other_so.
-      let apart : o.serial ≢ old.serial = is_apart os old differ.0 here in
-      next old one other (at_others o os old.serial apart ∙ here) (at_others x xs old.serial (λ e. apart (sym of_x ∙ e)) ∙ here_one)
-      (at_others y ys old.serial (λ e. apart (sym of_y ∙ e)) ∙ here_other) one_so other_so) in
+    let apart : o.serial ≢ old.serial = is_apart os old differ.0 here in
+    next old one other (at_others o os old.serial apart ∙ here) (at_others x xs old.serial (λ e. apart (sym of_x ∙ e)) ∙ here_one)
+    (at_others y ys old.serial (λ e. apart (sym of_y ∙ e)) ∙ here_other) one_so other_so) in
     λ i. first i ∷ rest i
   where
     is_apart : (ms : List MountedState) (old : MountedState) → All (λ s. o.serial ≢ s) (serials_of ms) → mounted_in ms old.serial ≡ Some old →
@@ -91,16 +90,16 @@ module _ (old one other : SharedStore) (laid_out : All IsLaidOut old.volumes) (f
   volumes differ =
       each_decided old.volumes one.volumes other.volumes differ first.serials second.serials
       (λ m a b here here_one here_other of_one of_other.
-        next_volume_is_decided m a b (found IsLaidOut old.volumes m.serial m laid_out here)
-        (record {
-          follows = follow_so one first m a here here_one;
-          laid_out = found IsLaidOut one.volumes m.serial a first.laid_out here_one;
-        })
-        (record {
-          follows = follow_so other second m b here here_other;
-          laid_out = found IsLaidOut other.volumes m.serial b second.laid_out here_other;
-        })
-        (alike m a b here_one here_other of_one of_other))
+      next_volume_is_decided m a b (found IsLaidOut old.volumes m.serial m laid_out here)
+      (record {
+        follows = follow_so one first m a here here_one;
+        laid_out = found IsLaidOut one.volumes m.serial a first.laid_out here_one;
+      })
+      (record {
+        follows = follow_so other second m b here here_other;
+        laid_out = found IsLaidOut other.volumes m.serial b second.laid_out here_other;
+      })
+      (alike m a b here_one here_other of_one of_other))
 
   catalog : one.catalog ≡ other.catalog
   catalog =

@@ -1,5 +1,5 @@
 -- So the whole volume.
-use Rattle.std.proofs.Common.{◌≡◌, ℕ, ◌+◌, List, Option, Some, None, refl, sym, ap, ◌∙◌, subst, arith}
+use Rattle.std.proofs.Common.{◌≡◌, List, Option, Some, None, refl, sym, ap, ◌∙◌, subst, arith}
 use Rattle.std.specs.FinMap.{get, same_map}
 use Rattle.std.specs.Option.{option_map}
 use Rattle.extent_core.specs.declared.extent.Extent.{Extent}

@@ -9,9 +9,7 @@ ghost use Rattle.session_core.specs.Sessions.{refuses_in};
 ghost use Rattle.session_core.specs.declared.Options.{Options};
 
 use config_core::laws::configuration_is_start;
-use machine_laws::{
-    answers_are_exact, growth_is_refused, primary_is_refused, sets_are_placed,
-};
+use machine_laws::{answers_are_exact, growth_is_refused, primary_is_refused, sets_are_placed};
 use sched_core::laws::{chains_are_runs, chains_keep_promises};
 use sched_core::start::first_layout_is_for_machine;
 

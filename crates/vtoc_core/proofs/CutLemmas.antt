@@ -108,8 +108,12 @@ empty_in_parts n (e ∷ es) =
     (let i : empty_among es ≡ empty_among (kept_front (n - e.tracks) es) + empty_among (past_front (n - e.tracks) es) = empty_in_parts (n - e.tracks) es in
     omega (arith, empty-cons e es, empty-cons e (kept_front (n - e.tracks) es))))
     (λ (l : n < e.tracks). rw (front_part es e n z l, back_part es e n z l)
-    (omega (arith, empty-cons_not e es (omega arith), empty-cons_not (extent e.start n) [] (omega arith),
-    empty-cons_not (extent (e.start + n) (e.tracks - n)) es (omega arith))))
+    (omega (
+      arith,
+      empty-cons_not e es (omega arith),
+      empty-cons_not (extent e.start n) [] (omega arith),
+      empty-cons_not (extent (e.start + n) (e.tracks - n)) es (omega arith),
+    )))
     (⊎_elim (λ (l : n < e.tracks). inr l) (λ (l : e.tracks ≤ n). inl l) (cases_lt n e.tracks)))
     (cases_eq n 0)
 
