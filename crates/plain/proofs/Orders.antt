@@ -5,7 +5,7 @@ use Rattle.std.specs.Cmp.Lexicographic.{slice_cmp}
 use Rattle.std.proofs.lemmas.Cmp.{ranked}
 
 -- the answer of a comparison, by what holds of the two
-from_rank : (x y : ℕ) (o : Ordering) → MatchOrdering o (x < y) (x ≡ y) (y < x) → nat_cmp x y ≡ o
+pub from_rank : (x y : ℕ) (o : Ordering) → MatchOrdering o (x < y) (x ≡ y) (y < x) → nat_cmp x y ≡ o
 from_rank x y o m = by (nat_cmp x y) o (ranked x y (nat_cmp x y) refl) m
   where
     by : (p o : Ordering) → MatchOrdering p (x < y) (x ≡ y) (y < x) → MatchOrdering o (x < y) (x ≡ y) (y < x) → p ≡ o
@@ -19,7 +19,7 @@ from_rank x y o m = by (nat_cmp x y) o (ranked x y (nat_cmp x y) refl) m
     by Greater Equal h k = absurd (omega (arith, h, k))
     by Greater Greater h k = refl
 
-next : (a b : ℕ) → nat_cmp (suc a) (suc b) ≡ nat_cmp a b
+pub next : (a b : ℕ) → nat_cmp (suc a) (suc b) ≡ nat_cmp a b
 next a b = by (nat_cmp a b) (ranked a b (nat_cmp a b) refl)
   where
     by : (o : Ordering) → MatchOrdering o (a < b) (a ≡ b) (b < a) → nat_cmp (suc a) (suc b) ≡ o
@@ -27,7 +27,7 @@ next a b = by (nat_cmp a b) (ranked a b (nat_cmp a b) refl)
     by Equal h = from_rank (suc a) (suc b) Equal (ap suc h)
     by Greater h = from_rank (suc a) (suc b) Greater (omega (arith, h))
 
-decided : (x y : ℕ) (rest : Ordering) → x ≢ y → ordering_then (nat_cmp x y) rest ≡ nat_cmp x y
+pub decided : (x y : ℕ) (rest : Ordering) → x ≢ y → ordering_then (nat_cmp x y) rest ≡ nat_cmp x y
 decided x y rest apart = by (nat_cmp x y) (ranked x y (nat_cmp x y) refl)
   where
     by : (o : Ordering) → MatchOrdering o (x < y) (x ≡ y) (y < x) → ordering_then o rest ≡ o
@@ -35,7 +35,7 @@ decided x y rest apart = by (nat_cmp x y) (ranked x y (nat_cmp x y) refl)
     by Equal h = absurd (apart h)
     by Greater h = refl
 
-passed : (x y : ℕ) (xs ys : List ℕ) → x ≡ y → slice_cmp nat_cmp (x ∷ xs) (y ∷ ys) ≡ slice_cmp nat_cmp xs ys
+pub passed : (x y : ℕ) (xs ys : List ℕ) → x ≡ y → slice_cmp nat_cmp (x ∷ xs) (y ∷ ys) ≡ slice_cmp nat_cmp xs ys
 passed x y xs ys e = ap (λ o. ordering_then o (slice_cmp nat_cmp xs ys)) (from_rank x y Equal e)
 
 -- where all bytes that both have are equal, the lengths decide

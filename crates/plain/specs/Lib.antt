@@ -1,3 +1,4 @@
 pub mod Drafts
 pub mod Lists
 pub mod Smalls
+pub mod Words

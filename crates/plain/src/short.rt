@@ -2,6 +2,7 @@
 ghost use Rattle.std.specs.Prelude.{◌≡◌, ◌+◌, ◌-◌, ◌≤◌, ◌==◌, ◌++◌, List, length, take, drop, replicate, Some, nat_eq, refl};
 ghost use Rattle.std.specs.Ordering.{nat_cmp};
 ghost use Rattle.std.specs.Cmp.{partial_equiv_from_equiv};
+ghost use Rattle.plain.specs.Words.{worth};
 ghost use Rattle.std.specs.Cmp.Lexicographic.{pointwise, slice_cmp, nat_list_eq_equiv, nat_list_cmp_total, texts_po, texts_ties};
 
 use std::cmp::Ordering;
@@ -45,8 +46,8 @@ impl<const N: usize> Short<N> {
     }
 }
 
-/// The order of two texts, byte by byte: short ones mostly differ soon.
-fn order(a: &[u8], b: &[u8]) -> Ordering
+/// The order of two texts, byte by byte.
+fn order_by_bytes(a: &[u8], b: &[u8]) -> Ordering
     ensures { result ≡ slice_cmp nat_cmp a.now b.now }
 {
     let both = a.len().min(b.len());
@@ -60,13 +61,48 @@ fn order(a: &[u8], b: &[u8]) -> Ordering
     a.len().cmp(&b.len())
 }
 
+/// Eight bytes from a place on as one number, in which the first counts most: so two such numbers differ as the bytes do.
+fn word_at(bytes: &[u8], at: usize) -> u64
+    requires { at + 8 ≤ length bytes.now }
+    ensures { result ≡ worth (take 8 (drop at bytes.now)) }
+{
+    u64::from_be_bytes([
+        bytes[at],
+        bytes[at + 1],
+        bytes[at + 2],
+        bytes[at + 3],
+        bytes[at + 4],
+        bytes[at + 5],
+        bytes[at + 6],
+        bytes[at + 7],
+    ])
+}
+
+/// The order of two texts that are as long as one another, eight bytes at a time.
+fn order(a: &[u8], b: &[u8]) -> Ordering
+    requires { length a.now ≡ length b.now }
+    ensures { result ≡ slice_cmp nat_cmp a.now b.now }
+{
+    let len = a.len();
+    let mut i = 0;
+    while len - i >= 8 {
+        let x = word_at(a, i);
+        let y = word_at(b, i);
+        if x != y {
+            return x.cmp(&y);
+        }
+        i += 8;
+    }
+    order_by_bytes(&a[i..], &b[i..])
+}
+
 impl<const N: usize> PartialEq for Short<N> {
     ghost eq = { λ s t. pointwise nat_eq s t };
 
     ghost laws = { partial_equiv_from_equiv nat_list_eq_equiv };
 
     fn eq(&self, other: &Self) -> bool {
-        self.as_slice() == other.as_slice()
+        self.cmp(other).is_eq()
     }
 }
 
@@ -93,7 +129,8 @@ impl<const N: usize> Ord for Short<N> {
 
     ghost matches_eq = { λ s t. texts_ties s t };
 
+    /// The bytes after a text are zeros, so the whole of both is compared, and their lengths decide where that is equal.
     fn cmp(&self, other: &Self) -> Ordering {
-        order(self.as_slice(), other.as_slice())
+        order(&self.bytes, &other.bytes).then(self.len.cmp(&other.len))
     }
 }

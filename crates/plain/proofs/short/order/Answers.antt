@@ -1,15 +1,27 @@
-use Rattle.std.proofs.Common.{◌<◌, ◌∙◌, arith, length, sym}
-use Rattle.plain.proofs.Orders.{alike, differ}
+use Rattle.std.proofs.Common.{◌≡◌, ◌≢◌, ◌≤◌, ◌+◌, nat_cmp, drop, length, take, ◌∙◌, sym, arith}
+use Rattle.plain.specs.Words.{worth}
+use Rattle.plain.proofs.Words.{AreBytes, word_decides_at, word_passes_at}
 use Rattle.plain.proofs.short.order.Goals as goal
 
-pub returns-then-a-i : goal.returns-then-a-i
-returns-then-a-i c =
+pub returns-then-x-y : goal.returns-then-x-y
+returns-then-x-y c =
+    let a = c.args.a.now in
+    let b = c.args.b.now in
     let i = c.loop-i.i in
-    let in_a : i < length c.args.a.now = omega (arith, c.loop-i-test.true, c.loop-i.invariant.both) in
-    let in_b : i < length c.args.b.now = omega (arith, c.loop-i-test.true, c.loop-i.invariant.both) in
-    c.cmp.ensures ∙ sym (differ c.args.a.now c.args.b.now i in_a in_b c.loop-i.invariant.equal c.if-a-i.true)
+    let bytes_a : AreBytes a = λ k. omega (arith, c.type_inv.a k) in
+    let bytes_b : AreBytes b = λ k. omega (arith, c.type_inv.b k) in
+    let within : i + 8 ≤ length a = omega (arith, c.loop-i-test.true, c.loop-i.invariant.within) in
+    let apart : worth (take 8 (drop i a)) ≢ worth (take 8 (drop i b)) = λ e. c.if-x-y.true (c.word_at-x.ensures ∙ e ∙ sym c.word_at-y.ensures) in
+    c.cmp.ensures ∙ (λ k. nat_cmp (c.word_at-x.ensures k) (c.word_at-y.ensures k))
+    ∙ sym (word_decides_at i a b within c.requires bytes_a bytes_b apart) ∙ sym c.loop-i.invariant.left
 
-pub returns : goal.returns
-returns c =
-    c.cmp-2.ensures
-    ∙ sym (alike c.args.a.now c.args.b.now (λ j in_a in_b. c.loop-i.invariant.equal j (omega (arith, c.loop-i-test.false, c.loop-i.invariant.both, c.loop-i.invariant.within, in_a, in_b))))
+pub loop-i-preserved : goal.loop-i-preserved
+loop-i-preserved c =
+    let a = c.args.a.now in
+    let b = c.args.b.now in
+    let i = c.loop-i.i in
+    let bytes_a : AreBytes a = λ k. omega (arith, c.type_inv.a k) in
+    let bytes_b : AreBytes b = λ k. omega (arith, c.type_inv.b k) in
+    let within : i + 8 ≤ length a = omega (arith, c.loop-i-test.true, c.loop-i.invariant.within) in
+    let same : worth (take 8 (drop i a)) ≡ worth (take 8 (drop i b)) = sym c.word_at-x.ensures ∙ c.if-x-y.false ∙ c.word_at-y.ensures in
+    record { same = c.requires; within = within; left = c.loop-i.invariant.left ∙ word_passes_at i a b within c.requires bytes_a bytes_b same }

@@ -1,9 +1,11 @@
-use Rattle.std.proofs.Common.{◌≡◌, ◌-◌, ◌<◌, ◌≤◌, ℕ, get_or, length, min}
+use Rattle.std.proofs.Common.{◌≡◌, ◌-◌, ◌≤◌, drop, length}
+use Rattle.std.specs.Ordering.{nat_cmp}
+use Rattle.std.specs.Cmp.Lexicographic.{slice_cmp}
 use Rattle.plain.proofs.short.order.Given as goal
 
--- those so far are equal
+-- what is left decides
 abbrev pub invariant-loop-i : goal.invariant-loop-i
-invariant-loop-i l = record { both : l.both ≡ min (length l.a) (length l.b); within : l.i ≤ l.both; equal : (j : ℕ) → j < l.i → get_or l.a j 0 ≡ get_or l.b j 0 }
+invariant-loop-i l = record { same : length l.a ≡ length l.b; within : l.i ≤ length l.a; left : slice_cmp nat_cmp l.a l.b ≡ slice_cmp nat_cmp (drop l.i l.a) (drop l.i l.b) }
 
 abbrev pub decreases-loop-i : goal.decreases-loop-i
-decreases-loop-i l = ◌-◌ l.both l.i
+decreases-loop-i l = ◌-◌ l.len l.i
