@@ -5,6 +5,7 @@ mod Passing
 mod Performing
 mod Places
 mod Saying
+mod Skipping
 pub mod Standing
 mod Starting
 mod StepEnds

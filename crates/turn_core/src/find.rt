@@ -4,6 +4,7 @@ ghost use Rattle.turn_core.specs.Passing.{IsFound};
 
 use crate::idle::is_idle;
 use crate::next::next;
+use crate::past::past;
 use crate::todo::{Next, Todo};
 use jcl_meaning::state::Own;
 use job_text::text::JobText;
@@ -14,7 +15,7 @@ pub(crate) fn find<T: JobText>(text: &T, programs: &ProgramLibrary, own: &Own, p
     requires { T.reads text.now }
     ensures { IsFound (moves_of programs.now) (T.plan text.now).steps own.now place result }
 {
-    let mut todo = place;
+    let mut todo = past(text, programs, own, place);
     loop {
         match next(text, programs, todo) {
             Next::Over => return Next::Over,
@@ -22,7 +23,7 @@ pub(crate) fn find<T: JobText>(text: &T, programs: &ProgramLibrary, own: &Own, p
                 if !is_idle(text, &task, own) {
                     return Next::Does(task, behind);
                 }
-                todo = behind;
+                todo = past(text, programs, own, behind);
             }
         }
     }

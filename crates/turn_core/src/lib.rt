@@ -8,6 +8,7 @@ pub mod laws;
 mod next;
 mod perform;
 mod said;
+mod past;
 pub mod todo;
 pub mod turn;
 mod volume;
