@@ -12,11 +12,30 @@ use jcl_plan::plan::JobPlan;
 use jname_core::serial::Serial;
 use path_search::verdict::RiskReport;
 use plain::listed::Listed;
+use verdict_core::known::KnownPlan;
 
-/// A job that is read and whose names are held. It must be spent.
+/// A job that is read and whose names are held: its plan, with what was found of it while it waits for space. It must be spent.
 pub struct NamedJob {
-    pub plan: JobPlan,
+    pub plan: KnownPlan,
     pub held: Held,
+}
+
+impl NamedJob {
+    /// A job of which nothing is found yet.
+    pub fn new(plan: JobPlan, held: Held) -> NamedJob
+        ensures { result ≡ record { plan = plan; held = held } }
+    {
+        NamedJob {
+            plan: KnownPlan::new(plan),
+            held,
+        }
+    }
+
+    pub fn plan(&self) -> &JobPlan
+        ensures { result.now ≡ self.now.plan }
+    {
+        self.plan.plan()
+    }
 }
 
 /// What is fixed for a job by its admission: where its sets are placed, what its keys mean, its date.
@@ -131,8 +150,8 @@ impl AdmittedJob {
         ensures { result.now ≡ (named_of self.now).plan }
     {
         match self {
-            AdmittedJob::Assured(job) => &job.named.plan,
-            AdmittedJob::Risky(job) => &job.named.plan,
+            AdmittedJob::Assured(job) => job.named.plan(),
+            AdmittedJob::Risky(job) => job.named.plan(),
         }
     }
 

@@ -104,12 +104,20 @@ fn assure(
     }
 }
 
+/// A job that waits no more: what was found of it is let go.
+fn answered(mut job: NamedJob) -> NamedJob
+    ensures { result ≡ job }
+{
+    job.plan.forget();
+    job
+}
+
 fn admission_of(job: NamedJob, given: Provision, assurance: Assurance) -> Admission
     ensures { result ≡ admission_of job given assurance }
 {
     match assurance {
         Assurance::Given { tracks, actions } => Admission::Assured(AssuredJob {
-            named: job,
+            named: answered(job),
             given,
             tracks,
             actions,
@@ -145,7 +153,7 @@ pub fn admit(
     store: &mut SharedStore,
     terms: &Terms<'_>,
     number: u16,
-    job: NamedJob,
+    mut job: NamedJob,
     date: Day,
     listing: &mut Listed<JobLine>,
 ) -> Result<Answer, NamedJob>
@@ -169,7 +177,7 @@ pub fn admit(
         alloc,
         store,
         number,
-        &job.plan,
+        &mut job.plan,
         terms.units,
         date,
         terms.most_views,
@@ -190,7 +198,7 @@ pub fn admit(
             store,
             terms.programs,
             number,
-            &job.plan,
+            job.plan(),
             made.as_slice(),
             listing,
         ) {
@@ -202,14 +210,26 @@ pub fn admit(
         },
         Verdict::Risk(report) => match tell_risk(alloc, &report, listing) {
             Ok(()) => Ok(Answer {
-                admission: Admission::Risky(RiskyJob { named: job, given }, report),
+                admission: Admission::Risky(
+                    RiskyJob {
+                        named: answered(job),
+                        given,
+                    },
+                    report,
+                ),
                 path,
             }),
             Err(_) => Err(job),
         },
         Verdict::TooMany { step } => match listing.push(JobLine::TooMany(step)) {
             Ok(()) => Ok(Answer {
-                admission: Admission::TooMany(RiskyJob { named: job, given }, step),
+                admission: Admission::TooMany(
+                    RiskyJob {
+                        named: answered(job),
+                        given,
+                    },
+                    step,
+                ),
                 path,
             }),
             Err(_) => Err(job),

@@ -85,7 +85,7 @@ pub(crate) fn going_on(
     ensures { result ≡ progress.GoesOn (record { job = job; walk = walk; stage = stage_behind plan wants held }) from }
 {
     let stage = match held {
-        Some(held) => Stage::Named(NamedJob { plan, held }),
+        Some(held) => Stage::Named(NamedJob::new(plan, held)),
         None => Stage::Wanting { plan, wants },
     };
     Progress::GoesOn {
@@ -104,7 +104,7 @@ fn go_behind(waits: &mut Stage, held: Option<Held>)
     };
     match mem::replace(waits, Stage::Selected { first: 0 }) {
         Stage::Wanting { plan, wants: _ } => {
-            match mem::replace(waits, Stage::Named(NamedJob { plan, held })) {
+            match mem::replace(waits, Stage::Named(NamedJob::new(plan, held))) {
                 Stage::Selected { first } => {
                     let _none = first;
                 }

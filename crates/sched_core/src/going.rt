@@ -99,7 +99,7 @@ fn most_explained(profile: &Profile<'_>, running: &Running) -> Result<usize, All
     match &running.stage {
         Stage::Selected { .. } => Ok(0),
         Stage::Wanting { .. } => Ok(0),
-        Stage::Named(named) => budget_of(&named.plan, profile.programs),
+        Stage::Named(named) => budget_of(named.plan(), profile.programs),
         Stage::Admitted(_) => Ok(0),
     }
 }

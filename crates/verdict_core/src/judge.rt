@@ -7,12 +7,12 @@ ghost use Rattle.shared_core.specs.Shown.{world_store_of};
 ghost use Rattle.world_meaning.specs.Lenses.{seen};
 ghost use Rattle.verdict_core.specs.Judging.{IsJudged};
 
+use crate::known::KnownPlan;
 use crate::verdict::{Finding, verdict_in};
 use disp_core::resolve::meanings_of;
 use jcl_meaning::meanings::Meanings;
 use jcl_meaning::state::Place;
 use jcl_plan::day::Day;
-use jcl_plan::plan::JobPlan;
 use jname_core::serial::Serial;
 use place_core::place::place_sets;
 use plain::listed::Listed;
@@ -32,25 +32,26 @@ pub fn judge(
     alloc: Global,
     store: &mut SharedStore,
     job: u16,
-    plan: &JobPlan,
+    known: &mut KnownPlan,
     units: &[Listed<Serial>],
     date: Day,
     most_views: usize,
     explains: bool,
 ) -> Result<Judged, AllocError>
     requires none { NothingKeptFor job store.old }
-    requires plan { IsWellFormedPlan plan.now }
+    requires plan { IsWellFormedPlan known.old }
     requires groups { HasSoundGroups (seen job (world_store_of store.old)) }
-    ensures judged { IfOk result (IsJudged store.old units.now job plan.now date most_views explains) }
+    ensures judged { IfOk result (IsJudged store.old units.now job known.old date most_views explains) }
     ensures store { store.new ≡ store.old }
+    ensures same { known.new ≡ known.old }
 {
-    let places = place_sets(alloc, store, job, plan, units)?;
-    let meanings = meanings_of(alloc, plan, &*store, job)?;
+    let places = place_sets(alloc, store, job, known.plan(), units)?;
+    let meanings = meanings_of(alloc, known.plan(), &*store, job)?;
     let finding = verdict_in(
         alloc,
         &*store,
         job,
-        plan,
+        known,
         places.as_slice(),
         &meanings,
         date,

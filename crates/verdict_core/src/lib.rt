@@ -2,5 +2,7 @@
 #![tactic(auto)]
 
 pub mod judge;
+pub mod known;
+mod same;
 pub mod tracks;
 pub mod verdict;

@@ -15,6 +15,7 @@ ghost use Rattle.shared_core.specs.Shown.{world_store_of};
 ghost use Rattle.verdict_core.specs.Judging.{IsFound, path_of};
 ghost use Rattle.world_meaning.specs.Lenses.{seen};
 
+use crate::known::KnownPlan;
 use jcl_meaning::meanings::Meanings;
 use jcl_meaning::names::{HeldName, names_of};
 use jcl_meaning::state::Place;
@@ -63,7 +64,7 @@ fn path_to(
 }
 
 /// What may become of a job that starts so, whose names are these, and whose keys mean this.
-fn find(
+fn find_anew(
     alloc: Global,
     plan: &JobPlan,
     start: &StartView,
@@ -82,37 +83,88 @@ fn find(
     Ok(Finding { verdict, path })
 }
 
+/// Keeps what was found of a job that starts so, where it is free.
+fn remember(
+    alloc: Global,
+    known: &mut KnownPlan,
+    start: StartView,
+    finding: &Finding,
+    explains: bool,
+) -> Result<(), AllocError>
+    requires { IsFound (fixed_from start known.old) known.old (store_of start.store) start.most_views explains finding.now }
+    ensures { known.new ≡ known.old }
+{
+    match &finding.verdict {
+        Verdict::Safe(made) => known.remember(alloc, start, made.as_slice()),
+        Verdict::Risk(_) => Ok(()),
+        Verdict::TooMany { .. } => Ok(()),
+    }
+}
+
+/// A job that is free makes its sets at these places.
+fn free_at(alloc: Global, made: Vec<Place>) -> Finding
+    ensures { (fixed : Fixed) (plan : JobPlan) (store : Store) (most_views : ℕ) (explains : Bool) → IsFree fixed plan store most_views made.items →
+        IsFound fixed plan store most_views explains result }
+{
+    Finding {
+        verdict: Verdict::Safe(made),
+        path: Listed::empty(alloc),
+    }
+}
+
+/// What may become of a job that starts so. Nothing is looked for where it was free as it started so before.
+fn find(
+    alloc: Global,
+    known: &mut KnownPlan,
+    start: StartView,
+    names: &[HeldName],
+    meanings: &Meanings,
+    explains: bool,
+) -> Result<Finding, AllocError>
+    requires plan { IsWellFormedPlan known.old }
+    requires groups { HasSoundGroups (store_of start.store) }
+    requires names { names.now ≡ names_of known.old }
+    requires meanings { meanings.now ≡ meanings_of (store_of start.store) known.old }
+    ensures found { IfOk result (IsFound (fixed_from start known.old) known.old (store_of start.store) start.most_views explains) }
+    ensures same { known.new ≡ known.old }
+{
+    if let Some(made) = known.free_as_before(alloc, &start)? {
+        return Ok(free_at(alloc, made));
+    }
+    let finding = find_anew(alloc, known.plan(), &start, names, meanings, explains)?;
+    remember(alloc, known, start, &finding, explains)?;
+    Ok(finding)
+}
+
 /// What is told of a job that is free and makes no set.
 fn free(alloc: Global) -> Finding
     ensures { (fixed : Fixed) (plan : JobPlan) (store : Store) (most_views : ℕ) (explains : Bool) → IsFree fixed plan store most_views [] →
         IsFound fixed plan store most_views explains result }
 {
-    Finding {
-        verdict: Verdict::Safe(Vec::new(alloc)),
-        path: Listed::empty(alloc),
-    }
+    free_at(alloc, Vec::new(alloc))
 }
 
 /// What may become of a job in the store as it sees it, where its sets are placed so and its keys mean this, on a date, with this many views behind a step at most. It is found
-/// on a copy of what stands under the job's names; the store is as it was.
+/// on a copy of what stands under the job's names; the store is as it was. A job that is free is not looked at again where it starts in the same way.
 pub fn verdict_in(
     alloc: Global,
     store: &SharedStore,
     job: u16,
-    plan: &JobPlan,
+    known: &mut KnownPlan,
     places: &[Place],
     meanings: &Meanings,
     date: Day,
     most_views: usize,
     explains: bool,
 ) -> Result<Finding, AllocError>
-    requires plan { IsWellFormedPlan plan.now }
+    requires plan { IsWellFormedPlan known.old }
     requires groups { HasSoundGroups (seen job (world_store_of store.now)) }
-    requires meanings { meanings.now ≡ meanings_of (seen job (world_store_of store.now)) plan.now }
-    ensures { IfOk result (IsFound (fixed_in (serials_of store.now.volumes) (seen job (world_store_of store.now)) plan.now places.now date) plan.now
+    requires meanings { meanings.now ≡ meanings_of (seen job (world_store_of store.now)) known.old }
+    ensures found { IfOk result (IsFound (fixed_in (serials_of store.now.volumes) (seen job (world_store_of store.now)) known.old places.now date) known.old
         (seen job (world_store_of store.now)) most_views explains) }
+    ensures same { known.new ≡ known.old }
 {
-    if is_plainly_free(plan, store, job, meanings, most_views) {
+    if is_plainly_free(known.plan(), store, job, meanings, most_views) {
         return Ok(free(alloc));
     }
     start_fits();
@@ -121,7 +173,7 @@ pub fn verdict_in(
     earliest_is_seen();
     first_with_more_is_seen();
     path_is_seen();
-    let names = names_of(alloc, plan)?;
+    let names = names_of(alloc, known.plan())?;
     let part = part_of(alloc, store, job, names.as_slice())?;
     let places = Listed::copy_of(alloc, places)?;
     let start = StartView {
@@ -130,5 +182,5 @@ pub fn verdict_in(
         date,
         most_views,
     };
-    find(alloc, plan, &start, names.as_slice(), meanings, explains)
+    find(alloc, known, start, names.as_slice(), meanings, explains)
 }
