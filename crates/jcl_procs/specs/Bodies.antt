@@ -1,8 +1,7 @@
 -- The body of a procedure, and the steps that it brings at a call. (GC28-6704, "Cataloged and in-stream procedures")
-use Rattle.std.specs.Prelude.{ℕ, Bool, true, false, List, ◌++◌, Result, Ok, Err}
+use Rattle.std.specs.Prelude.{Bool, true, false, List, ◌++◌, Result, Ok, Err}
 use Rattle.card_core.specs.declared.fault.CardFault.{CardFault}
 use Rattle.card_core.specs.declared.statement.Statement.{Statement}
-use Rattle.card_core.specs.Deck.{statements_of}
 use Rattle.card_core.specs.RefusalNumbers.{number_of}
 use Rattle.jcl_plan.specs.declared.fault.Cause.{Cause}
 use Rattle.jcl_plan.specs.declared.fault.Cause.TheVariants.{C}
@@ -20,9 +19,6 @@ abbrev pub statements_by : Result (List Statement) CardFault → Result (List St
 statements_by (Err fault) = Err (C (number_of fault))
 statements_by (Ok statements) = Ok statements
 
-abbrev pub statements_in : List (List ℕ) → Result (List Statement) Cause
-statements_in lines = statements_by (statements_of lines)
-
 -- what a call and the procedure give to its steps
 abbrev pub call_with : Calling → List Symbol → Call
 call_with call own = record { name = call.name; place = call.place; symbols = call.symbols.now ++ own }
@@ -30,9 +26,9 @@ call_with call own = record { name = call.name; place = call.place; symbols = ca
 abbrev pub steps_with : Calling → Body → Result (List FlatStep) Cause
 steps_with call body = steps_of (call_with call body.symbols) body.statements
 
--- the steps of a procedure of the library
-abbrev pub steps_of_lines : Calling → List (List ℕ) → Result (List FlatStep) Cause
-steps_of_lines call lines = and_then (statements_in lines) (λ statements. and_then (body_of statements) (steps_with call))
+-- the steps of a procedure of the library, by what its cards are
+abbrev pub steps_by_reading : Calling → Result (List Statement) CardFault → Result (List FlatStep) Cause
+steps_by_reading call reading = and_then (statements_by reading) (λ statements. and_then (body_of statements) (steps_with call))
 
 -- the steps behind others
 abbrev pub behind : List FlatStep → Result (List FlatStep) Cause → Result (List FlatStep) Cause

@@ -10,7 +10,7 @@ ghost use Rattle.jcl_deck.specs.declared.operation.Operation.TheVariants.{IsProc
 ghost use Rattle.proc_library.specs.declared.library.LibraryProcedure.{LibraryProcedure};
 ghost use Rattle.jcl_procs.specs.declared.step.FlatStep.{FlatStep};
 ghost use Rattle.jcl_procs.specs.Calls.{steps_of};
-ghost use Rattle.jcl_procs.specs.Bodies.{call_with, is_proc, statements_in, steps_of_lines, steps_with};
+ghost use Rattle.jcl_procs.specs.Bodies.{call_with, is_proc, steps_by_reading, steps_with};
 ghost use Rattle.jcl_procs.specs.Counting.{IsLike, KeepsFirst, Passes, WasRead, counted, up_to};
 ghost use Rattle.jcl_procs.specs.Expansions.{and_then, body_by, body_named, body_of, called, flat_from, in_deck, plain_step, steps_by};
 
@@ -18,7 +18,6 @@ use crate::calls::{Caller, condition_or_none, steps_of};
 use crate::conditions::override_conditions;
 use crate::overriding::override_dds;
 use crate::step::FlatStep;
-use card_core::read::{ReadError as CardsError, read_statements};
 use card_core::statement::Statement;
 use jcl_cards::dd::DdCard;
 use jcl_cards::exec::{ExecCard, Runs};
@@ -29,10 +28,8 @@ use jcl_deck::operation::{Operation, operation_of};
 use jcl_plan::fault::{Cause, StatementFault};
 use jcl_symbols::symbol::Symbol;
 use jname_core::name8::Name8;
-use plain::lent::Lent;
 use plain::listed::Listed;
-use plain::text::Text;
-use proc_library::library::{LibraryProcedure, ProcLibrary};
+use proc_library::library::{ProcLibrary, Reading};
 use std::alloc::{AllocError, Global};
 use value_core::refusal::ReadError;
 
@@ -64,29 +61,6 @@ struct Calling<'a> {
     place: usize,
     /// The symbols to which it gives values.
     symbols: &'a [Symbol],
-}
-
-/// The cards that lines lend.
-fn cards_of<'a>(alloc: Global, lines: &'a [Text]) -> Result<Vec<Lent<'a>>, AllocError>
-    ensures { IfOk result (λ cards. cards.items ≡ lines.now) }
-{
-    let mut cards = Vec::new(alloc);
-    for line in lines {
-        cards.push(Lent::new(line.as_slice()))?;
-    }
-    Ok(cards)
-}
-
-/// The statements of a procedure of the library.
-fn statements_in(alloc: Global, lines: &[Text]) -> Result<Listed<Statement>, ReadError>
-    ensures { Gives result (statements_in lines.now) }
-{
-    let cards = cards_of(alloc, lines)?;
-    match read_statements(alloc, cards.as_slice()) {
-        Ok(statements) => Ok(Listed::new(statements)),
-        Err(CardsError::Fault(fault)) => Err(ReadError::Refused(Cause::C(fault.number()))),
-        Err(CardsError::Memory) => Err(ReadError::Memory),
-    }
 }
 
 /// The steps that a procedure's statements bring.
@@ -150,16 +124,18 @@ fn statements_steps(
     body_steps(alloc, call, &[], statements)
 }
 
-/// The cards of a procedure of the library are read at each call.
+/// The steps of a procedure of the library, whose cards were read when it was added; their first fault is told at each call.
 fn library_steps(
     alloc: Global,
     call: &Calling<'_>,
-    procedure: &LibraryProcedure,
+    reading: &Reading,
 ) -> Result<Listed<FlatStep>, ReadError>
-    ensures { Gives result (steps_of_lines call.now procedure.now.lines) }
+    ensures { Gives result (steps_by_reading call.now reading.now) }
 {
-    let statements = statements_in(alloc, procedure.lines.as_slice())?;
-    statements_steps(alloc, call, statements.as_slice())
+    match reading {
+        Ok(statements) => statements_steps(alloc, call, statements.as_slice()),
+        Err(fault) => Err(ReadError::Refused(Cause::C(fault.number()))),
+    }
 }
 
 /// The first procedure of a name in the stream.
@@ -187,8 +163,8 @@ fn procedure_steps(
         let symbols = procedure.symbols.as_slice();
         return body_steps(alloc, call, symbols, procedure.statements.as_slice());
     }
-    match sources.library.find(&name) {
-        Some(procedure) => library_steps(alloc, call, procedure),
+    match sources.library.reading(&name) {
+        Some(reading) => library_steps(alloc, call, reading),
         None => Err(ReadError::Refused(Cause::P(StatementFault::NoSuchProcedure))),
     }
 }

@@ -1,1 +1,2 @@
 pub mod Libraries
+pub mod Entries

@@ -1,10 +1,15 @@
 //! Procedures of the library.
-ghost use Rattle.std.specs.Prelude.{◌≡◌, ◌++◌, ◌∷◌, [], false, OnOk, OnErr};
+ghost use Rattle.std.specs.Prelude.{◌≡◌, ◌++◌, ◌∷◌, [], false, IfOk, OnOk, OnErr};
 ghost use Rattle.std.specs.Option.{option_copied};
-ghost use Rattle.proc_library.specs.Libraries.{has_procedure, in_library};
+ghost use Rattle.card_core.specs.Deck.{statements_of};
+ghost use Rattle.proc_library.specs.Libraries.{has_procedure, in_library, reading_in};
 
+use card_core::fault::CardFault;
+use card_core::read::{ReadError, read_statements};
+use card_core::statement::Statement;
 use jname_core::name8::Name8;
 use name_places::places::NamePlaces;
+use plain::lent::Lent;
 use plain::listed::Listed;
 use plain::text::Text;
 use std::alloc::{AllocError, Global};
@@ -17,10 +22,21 @@ pub struct LibraryProcedure {
     pub lines: Listed<Text>,
 }
 
+/// What the cards of a procedure are: its statements, or the first fault of its cards.
+pub type Reading = Result<Listed<Statement>, CardFault>;
+
+/// A procedure, and what its cards are.
+#[derive(Drop)]
+struct Entry {
+    procedure: LibraryProcedure,
+    reading: Reading,
+}
+
 /// The library in the order in which its procedures were added; one is found by its name without going through them all.
+/// The cards of each are read once, when it is added.
 #[derive(Drop)]
 pub struct ProcLibrary {
-    list: Vec<LibraryProcedure>,
+    list: Vec<Entry>,
     /// The names of the procedures, in the same order.
     places: NamePlaces,
 }
@@ -28,12 +44,45 @@ pub struct ProcLibrary {
 impl Model for ProcLibrary {
     ghost use Rattle.std.specs.Prelude.{◌≡◌, List, map};
     ghost use Rattle.proc_library.specs.declared.library.LibraryProcedure.{LibraryProcedure};
+    ghost use Rattle.proc_library.specs.Entries.{AreRead};
 
     ghost Value = { List LibraryProcedure };
 
-    ghost view = { λ l. l.list.items };
+    ghost view = { λ l. map (λ e. e.procedure) l.list.items };
 
-    ghost invariant = { λ l. map (λ p. p.name) l.list.items ≡ l.places };
+    ghost invariant = { λ l. (map (λ e. e.procedure.name) l.list.items ≡ l.places) × AreRead l.list.items };
+}
+
+/// The cards that lines lend.
+fn cards_of<'a>(alloc: Global, lines: &'a [Text]) -> Result<Vec<Lent<'a>>, AllocError>
+    ensures { IfOk result (λ cards. cards.items ≡ lines.now) }
+{
+    let mut cards = Vec::with_capacity(alloc, lines.len())?;
+    for line in lines {
+        cards.push(Lent::new(line.as_slice()))?;
+    }
+    Ok(cards)
+}
+
+/// Statements in as much memory as they take.
+fn kept(statements: Vec<Statement>) -> Listed<Statement>
+    ensures { result ≡ statements.items }
+{
+    let mut statements = statements;
+    statements.shrink_to_fit();
+    Listed::new(statements)
+}
+
+/// What lines are as cards.
+fn reading_of(alloc: Global, lines: &[Text]) -> Result<Reading, AllocError>
+    ensures { IfOk result (λ reading. reading ≡ statements_of lines.now) }
+{
+    let cards = cards_of(alloc, lines)?;
+    match read_statements(alloc, cards.as_slice()) {
+        Ok(statements) => Ok(Ok(kept(statements))),
+        Err(ReadError::Fault(fault)) => Ok(Err(fault)),
+        Err(ReadError::Memory) => Err(AllocError),
+    }
 }
 
 impl ProcLibrary {
@@ -58,20 +107,37 @@ impl ProcLibrary {
         ensures { option_copied result ≡ in_library self.now name.now }
     {
         match self.places.find(name.as_slice()) {
-            Some(place) => self.list.get(place),
+            Some(place) => match self.list.get(place) {
+                Some(entry) => Some(&entry.procedure),
+                None => None,
+            },
             None => None,
         }
     }
 
-    /// Adds a procedure of a new name. An `Err` changes nothing.
-    pub fn add(&mut self, procedure: LibraryProcedure) -> Result<(), AllocError>
+    /// What the cards of the procedure of a name are.
+    pub fn reading(&self, name: &Name8) -> Option<&Reading>
+        ensures { option_copied result ≡ reading_in self.now name.now }
+    {
+        match self.places.find(name.as_slice()) {
+            Some(place) => match self.list.get(place) {
+                Some(entry) => Some(&entry.reading),
+                None => None,
+            },
+            None => None,
+        }
+    }
+
+    /// Adds a procedure of a new name, and reads its cards. An `Err` changes nothing.
+    pub fn add(&mut self, alloc: Global, procedure: LibraryProcedure) -> Result<(), AllocError>
         requires { has_procedure self.old procedure.name ≡ false }
         ensures ok { OnOk result (self.new ≡ self.old ++ procedure ∷ []) }
         ensures err { OnErr result (self.new ≡ self.old) }
     {
+        let reading = reading_of(alloc, procedure.lines.as_slice())?;
         self.list.reserve(1)?;
         self.places.add(procedure.name.as_slice())?;
-        let Ok(()) = self.list.push(procedure) else {
+        let Ok(()) = self.list.push(Entry { procedure, reading }) else {
             unreachable!();
         };
         Ok(())

@@ -86,7 +86,7 @@ impl Coded {
     fn add_procedure(&mut self, alloc: Global, name: Name8, told: &mut Told) {
         let lines = mem::replace(&mut self.lines, Listed::empty(alloc));
         if !self.library.has(&name) {
-            told.over(self.library.add(LibraryProcedure { name, lines }));
+            told.over(self.library.add(alloc, LibraryProcedure { name, lines }));
         }
     }
 
