@@ -10,3 +10,4 @@ pub mod StepLists
 pub mod PlannedDds
 pub mod Asked
 pub mod Counted
+pub mod Early

@@ -4,5 +4,6 @@ pub mod Meant
 pub mod Plans
 pub mod Kinds
 pub mod Planning
+pub mod Early
 pub mod Looking
 pub mod Examples

@@ -1,5 +1,6 @@
 //! The plan of a job. (This profile)
-ghost use Rattle.std.specs.Prelude.{◌≡◌, ◌+◌, ◌≤◌, [], List, length, map, nat_lt, IfOk, IfSome, OnOk, count_by, true};
+ghost use Rattle.std.specs.Prelude.{◌≡◌, ◌+◌, ◌≤◌, [], List, length, map, nat_lt, slice_get, IfOk, IfSome, OnOk, Some, count_by, true};
+ghost use Rattle.std.specs.Bool.{OnTrue};
 ghost use Rattle.std.specs.List.{All, flat_map};
 ghost use Rattle.value_core.specs.Reads.{Gives};
 ghost use Rattle.jcl_plan.specs.declared.fault.Cause.TheVariants.{P};
@@ -7,6 +8,7 @@ ghost use Rattle.jcl_meaning.specs.Names.{dd_names, names_of, wanted_by};
 ghost use Rattle.jcl_procs.specs.declared.step.FlatStep.{FlatStep};
 ghost use Rattle.jcl_procs.specs.Counting.{up_to};
 ghost use Rattle.jcl_refs.specs.Plans.{job_with, kinds_in, most_names, most_steps, plan_of, with_dds_left};
+ghost use Rattle.jcl_refs.specs.Early.{AreTaken, IsEarly, many_refusal, settled_behind, settled_first};
 ghost use Rattle.jcl_refs.specs.Planning.{counts_in, has_many_dd_names, job_by, looks_for_later, plan_with, planned_counts, step_by, steps_by, with_units};
 
 use crate::kinds::planned_dds;
@@ -279,6 +281,105 @@ fn plan_with(
     Ok(plan)
 }
 
+/// The place of the first step with too many DDs that look for a later one, from 0.
+fn first_many(many: &[bool]) -> Option<usize>
+    ensures { IfSome result (λ n. slice_get many.now n ≡ Some true) }
+{
+    for n in 0..many.len() {
+        if many[n] {
+            return Some(n);
+        }
+    }
+    None
+}
+
+/// Settles the DDs of the first steps.
+fn leave_first(alloc: Global, steps: &mut [FlatStep], count: usize) -> Result<(), AllocError>
+    requires { count ≤ length steps.old }
+    ensures { OnOk result (steps.new ≡ settled_first count steps.old) }
+{
+    leave_each(alloc, &mut steps[..count])
+}
+
+/// Settles the DDs of the steps behind the first ones.
+fn leave_others(alloc: Global, steps: &mut [FlatStep], count: usize) -> Result<(), AllocError>
+    requires { count ≤ length steps.old }
+    ensures { OnOk result (steps.new ≡ settled_behind count steps.old) }
+{
+    leave_each(alloc, &mut steps[count..])
+}
+
+/// The refusal of a step with too many DDs that look for a later one: by its tests, or for these DDs.
+fn many_refusal(front: &[FlatStep], step: &FlatStep) -> Cause
+    requires { length front.now ≤ 32 }
+    ensures { result ≡ many_refusal front.now step.now }
+{
+    match tests_of(step.call, front.len() + 1, front, &step.condition.tests) {
+        Ok(_) => Cause::P(StatementFault::TooManyDdNames),
+        Err(cause) => cause,
+    }
+}
+
+/// Whether none of these steps is refused.
+fn are_taken(alloc: Global, steps: &[FlatStep], many: &[bool]) -> Result<bool, AllocError>
+    requires few { length steps.now ≤ 32 }
+    requires as_many { length many.now ≡ length steps.now }
+    ensures { IfOk result (λ taken. OnTrue taken (AreTaken steps.now many.now)) }
+{
+    match planned_steps(alloc, steps, many) {
+        Ok(_) => Ok(true),
+        Err(ReadError::Refused(_)) => Ok(false),
+        Err(ReadError::Memory) => Err(AllocError),
+    }
+}
+
+/// The refusal of a job in which the first step with too many DDs that look for a later one stands behind so many steps, where none of these is
+/// refused. Their DDs are settled, those of the others are not.
+fn early_refusal(
+    alloc: Global,
+    steps: &[FlatStep],
+    many: &[bool],
+    count: usize,
+) -> Result<Option<Cause>, AllocError>
+    requires few { length steps.now ≤ 32 }
+    requires as_many { length many.now ≡ length steps.now }
+    requires first { slice_get many.now count ≡ Some true }
+    ensures { IfOk result (λ found. IfSome found (IsEarly steps.now many.now count)) }
+{
+    let (front, behind) = steps.split_at(count);
+    let (before, _) = many.split_at(count);
+    let Some((step, _)) = behind.split_first() else {
+        return Ok(None);
+    };
+    if !are_taken(alloc, front, before)? {
+        return Ok(None);
+    }
+    Ok(Some(many_refusal(front, step)))
+}
+
+/// The refusal of a job in which a step has too many DDs that look for a later one; so many stand before the first. Its DDs are settled only where
+/// a step before it is refused.
+fn refused_plan(
+    alloc: Global,
+    units: &UnitNames,
+    job: JobCard,
+    steps: &mut [FlatStep],
+    many: &[bool],
+    count: usize,
+) -> Result<JobPlan, ReadError>
+    requires few { length steps.old ≤ 32 }
+    requires many { many.now ≡ map has_many_dd_names steps.old }
+    requires first { slice_get many.now count ≡ Some true }
+    ensures { Gives result (plan_of units.now job steps.old) }
+{
+    leave_first(alloc, steps, count)?;
+    if let Some(cause) = early_refusal(alloc, steps, many, count)? {
+        return Err(ReadError::Refused(cause));
+    }
+    leave_others(alloc, steps, count)?;
+    plan_with(alloc, units, job, steps, many)
+}
+
 /// The plan of a job whose steps are these, or the first refusal.
 fn plan_of_steps(
     alloc: Global,
@@ -292,6 +393,17 @@ fn plan_of_steps(
         return Err(refusal(StatementFault::TooManySteps));
     }
     let many = many_dd_names(alloc, steps.as_slice())?;
+    if let Some(count) = first_many(many.as_slice()) {
+        let mut steps = steps.into_vec();
+        return refused_plan(
+            alloc,
+            units,
+            job,
+            steps.as_mut_slice(),
+            many.as_slice(),
+            count,
+        );
+    }
     let left = steps_left(alloc, steps)?;
     plan_with(alloc, units, job, left.as_slice(), many.as_slice())
 }

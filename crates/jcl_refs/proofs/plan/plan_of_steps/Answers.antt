@@ -10,7 +10,7 @@ pub returns : goal.returns
 returns c =
     let F : Result JobPlan Cause → Type 0 = λ r. Gives c.plan_with.result r in
     subst F
-    (plan_is c.args.units.now c.args.job c.args.steps c.as_slice-2.result.now c.as_slice-3.result.now
+    (plan_is c.args.units.now c.args.job c.args.steps c.as_slice-3.result.now c.as_slice-4.result.now
     (omega (arith, c.len.ensures, c.if-len-gt-MOST_STEPS.false))
-    (c.as_slice-2.ensures ∙ c.in_ok-left.ensures) (c.as_slice-3.ensures.value ∙ c.in_ok-many.ensures ∙ ap (map has_many_dd_names) c.as_slice.ensures))
+    (c.as_slice-3.ensures ∙ c.in_ok-left.ensures) (c.as_slice-4.ensures.value ∙ c.in_ok-many.ensures ∙ ap (map has_many_dd_names) c.as_slice.ensures))
     c.plan_with.ensures
