@@ -209,29 +209,23 @@ pub fn admit(
             Err(_) => Err(job),
         },
         Verdict::Risk(report) => match tell_risk(alloc, &report, listing) {
-            Ok(()) => Ok(Answer {
-                admission: Admission::Risky(
-                    RiskyJob {
-                        named: answered(job),
-                        given,
-                    },
-                    report,
-                ),
-                path,
-            }),
+            Ok(()) => {
+                let named = answered(job);
+                Ok(Answer {
+                    admission: Admission::Risky(RiskyJob { named, given }, report),
+                    path,
+                })
+            }
             Err(_) => Err(job),
         },
         Verdict::TooMany { step } => match listing.push(JobLine::TooMany(step)) {
-            Ok(()) => Ok(Answer {
-                admission: Admission::TooMany(
-                    RiskyJob {
-                        named: answered(job),
-                        given,
-                    },
-                    step,
-                ),
-                path,
-            }),
+            Ok(()) => {
+                let named = answered(job);
+                Ok(Answer {
+                    admission: Admission::TooMany(RiskyJob { named, given }, step),
+                    path,
+                })
+            }
             Err(_) => Err(job),
         },
     }

@@ -34,7 +34,7 @@ returns-in-Ok-tell_risk-clause-ok c =
       admission = Risky (record { named = named; given = record { places = c.in-Ok.field-0.places; meanings = c.in-Ok.field-0.meanings; date = c.args.date } }) c.in-Risk.report;
       path = c.in-Ok.field-0.finding.path;
     }))
-    (sym (c.answered.ensures ∙ (λ i. record { plan = c.judge.ensures.same i; held = c.args.job.held })))
+    (sym (c.answered-named.ensures ∙ (λ i. record { plan = c.judge.ensures.same i; held = c.args.job.held })))
     (risky c.made_is_configured.ensures c.args.store.now c.args.terms.now c.args.number c.args.job c.args.date c.in-Ok.field-0 c.in-Ok.ensures.judged
     c.in-Risk.report c.in-Risk.is (subst (IsVerdict _ c.args.job.plan _ c.args.terms.now.most_views) c.in-Risk.is c.in-Ok.ensures.judged.found.verdict)
     c.judge.new.store c.judge.ensures.store)
@@ -45,7 +45,7 @@ returns-in-Ok-push-clause-ok c =
       admission = TooMany (record { named = named; given = record { places = c.in-Ok.field-0.places; meanings = c.in-Ok.field-0.meanings; date = c.args.date } }) c.in-TooMany.step;
       path = c.in-Ok.field-0.finding.path;
     }))
-    (sym (c.answered-in-Ok-push.ensures ∙ (λ i. record { plan = c.judge.ensures.same i; held = c.args.job.held })))
+    (sym (c.answered-named-in-Ok-push.ensures ∙ (λ i. record { plan = c.judge.ensures.same i; held = c.args.job.held })))
     (many c.made_is_configured.ensures c.args.store.now c.args.terms.now c.args.number c.args.job c.args.date c.in-Ok.field-0 c.in-Ok.ensures.judged
     c.in-TooMany.step c.in-TooMany.is (subst (IsVerdict _ c.args.job.plan _ c.args.terms.now.most_views) c.in-TooMany.is c.in-Ok.ensures.judged.found.verdict)
     c.judge.new.store c.judge.ensures.store)
