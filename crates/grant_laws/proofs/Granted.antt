@@ -25,9 +25,9 @@ use Rattle.disp_core.specs.Grants.{granted_by, granted_on, made_of, primary_gran
 use Rattle.disp_core.specs.Takings.{target_in}
 use Rattle.turn_core.specs.Ending.{ended_at}
 use Rattle.turn_core.specs.Passing.{is_idle}
-use Rattle.turn_core.specs.Performing.{growth_by, primary_by}
+use Rattle.turn_core.specs.Performing.{growth_by, primary_by, volume_started}
 use Rattle.turn_core.specs.Standing.{JobActs, count_at, undone}
-use Rattle.turn_core.specs.Turning.{Acts, Around, answers_in, operations_by, turn_in, volume_started}
+use Rattle.turn_core.specs.Turning.{Acts, Around, answers_in, operations_by, turn_in}
 use Rattle.turn_core.specs.declared.walk.Acted.{Acted}
 use Rattle.turn_core.specs.declared.walk.Walk.{Walk}
 use Rattle.case_laws.proofs.Known.{IsKnown, all_known}

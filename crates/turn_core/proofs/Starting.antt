@@ -26,9 +26,9 @@ use Rattle.request_core.specs.Requests.{growth_at, growth_at_dd, growth_for, gro
 use Rattle.world_meaning.specs.Turns.{volume_needed}
 use Rattle.turn_core.specs.Ending.{ended_at}
 use Rattle.turn_core.specs.Passing.{is_idle}
-use Rattle.turn_core.specs.Performing.{StoreAnswers, growth_by, growth_granted}
+use Rattle.turn_core.specs.Performing.{StoreAnswers, growth_by, growth_granted, volume_started}
 use Rattle.turn_core.specs.TurnLaws.{IsVolumeOfSet, StartsWhereSetsAre}
-use Rattle.turn_core.specs.Turning.{volume_started}
+use Rattle.turn_core.specs.Turning.{}
 use Rattle.turn_core.proofs.Performing.{cancelled_now}
 use Rattle.request_core.proofs.Reading.{sources_drop}
 use Rattle.turn_core.proofs.Saying.{says}

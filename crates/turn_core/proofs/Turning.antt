@@ -17,8 +17,8 @@ use Rattle.disp_core.specs.declared.course.Course.{Course}
 use Rattle.world_meaning.specs.Turns.{Advanced, advance, is_cancelled, must_wait, operations_after, state_in, unless_silent, volume_needed}
 use Rattle.turn_core.specs.Ending.{course_ended, ended_at, ended_by, number_over}
 use Rattle.turn_core.specs.Passing.{Passes, is_idle}
-use Rattle.turn_core.specs.Performing.{Performs, growth_by, primary_by}
-use Rattle.turn_core.specs.Turning.{Acts, Around, Ends, Tells, Waits, acts, answers_in, operations_by, turn_in, volume_started}
+use Rattle.turn_core.specs.Performing.{Performs, growth_by, primary_by, volume_started}
+use Rattle.turn_core.specs.Turning.{Acts, Around, Ends, Tells, Waits, acts, answers_in, operations_by, turn_in}
 use Rattle.turn_core.specs.Waiting.{volume_due, waits_at}
 use Rattle.turn_core.specs.declared.todo.Todo.{Todo}
 use Rattle.turn_core.specs.declared.walk.Acted.{Acted}
@@ -26,7 +26,7 @@ use Rattle.turn_core.specs.declared.walk.Turned.{Turned}
 use Rattle.turn_core.specs.declared.walk.Turned.TheVariants as turned
 use Rattle.turn_core.proofs.Passing.{advance_silent, drop_next}
 use Rattle.turn_core.proofs.Performing.{cancelled_now}
-use Rattle.turn_core.proofs.Saying.{Says, says, waits_as_told}
+use Rattle.turn_core.proofs.Saying.{Says, cancels_at, says, waits_as_told}
 
 -- an action that writes is where a turn ends
 abbrev pub stopped : (Action → Own → Answers) → Fixed → Action → Store → Own → ℕ → Advanced
@@ -49,7 +49,7 @@ module _ (w : Around) (a : Action) (actions : List Action) (seen : Store) (own :
   abbrev here : State
   here = record { store = seen; own = own; answers = answers_in w growth primary a own }
 
-  said : Says (act w.fixed a here).lines a own (volume_due w.cancel a seen own)
+  said : Says (act w.fixed a here).lines a own (volume_due w.cancel a seen own) (cancels_at w.cancel a here)
   said = says w.fixed a here w.cancel h k (cancelled_now w.cancel own.lines)
 
   stops : turn_in w (a ∷ actions) seen own count growth primary ≡ Some (stopped (answers_in w growth primary) w.fixed a seen own count)
@@ -66,10 +66,6 @@ waits_here w a actions seen own count h k e = record {
   advances = stops w a actions seen own count true true h k;
   waits = waits_told w a actions seen own count true true h k ∙ e;
 }
-
--- the lines of an action, behind those before
-pub lines_from : (lines before said : List JobLine) (n : ℕ) → lines ≡ before ++ said → n ≡ length before → drop n lines ≡ said
-lines_from lines before said n e f = (λ i. drop (f i) (e i)) ∙ drop-append_seam before said
 
 -- which operations are under way behind lines, by their first
 operations_told : (operations : List Operation) (job : ℕ) (lines : List JobLine) → operations_after operations job lines ≡ operations_by operations job (volume_started lines) (is_cancelled lines)
@@ -91,18 +87,15 @@ neither true b h = h
 neither false b h = refl
 
 -- it acts
-pub acts_here : (w : Around) (a : Action) (actions : List Action) (seen new : Store) (before after : Course) (count said : ℕ) (lines : List JobLine) (told : Acted) →
+pub acts_here : (w : Around) (a : Action) (actions : List Action) (seen new : Store) (before after : Course) (count : ℕ) (told : Acted) →
     is_idle a before.own ≡ false → ended_at a before.own ≡ None → waits_at w.operations w.job w.cancel a seen before.own ≡ false →
-    Performs w.programs w.steps w.grants w.cancel w.fixed a seen before new after told.made →
-    lines ≡ after.lines → said ≡ length before.lines → told.starts ≡ volume_started (drop said lines) → told.cancelled ≡ is_cancelled (drop said lines) →
-    Acts w (a ∷ actions) seen before new after actions count told
-acts_here w a actions seen new before after count said lines told h k e p ls n starts cancelled =
+    Performs w.programs w.steps w.grants w.cancel w.fixed a seen before new after told → Acts w (a ∷ actions) seen before new after actions count told
+acts_here w a actions seen new before after count told h k e p =
     let growth : Bool = growth_by w.grants.growth w.cancel a seen before.own in
     let primary : Bool = primary_by w.grants.new w.fixed a seen before.own in
     let new_lines : List JobLine = (act w.fixed a (record { store = seen; own = before.own; answers = answers_in w growth primary a before.own })).lines in
     let goes : must_wait w.operations w.job (stopped (answers_in w growth primary) w.fixed a seen before.own count) ≡ false =
     waits_told w a actions seen before.own count growth primary h k ∙ e in
-    let own_lines : drop said lines ≡ new_lines = lines_from lines before.lines new_lines said (ls ∙ p.its_lines) n in
     record {
       its_turn = stopped (answers_in w growth primary) w.fixed a seen before.own count;
       growth = growth;
@@ -123,11 +116,11 @@ acts_here w a actions seen new before after count said lines told h k e p ls n s
       own = p.its_own;
       lines = p.its_lines;
       made = p.its_made;
-      starts = starts ∙ ap volume_started own_lines;
-      cancelled = cancelled ∙ ap is_cancelled own_lines;
-      idle = ap (is_busy w.operations) (starts ∙ ap volume_started own_lines) ∙ needs_idle w.operations new_lines a before.own (neither _ _ goes);
+      starts = p.its_start;
+      cancelled = p.its_cancel;
+      idle = ap (is_busy w.operations) p.its_start ∙ needs_idle w.operations new_lines a before.own (neither _ _ goes);
       operations = operations_told w.operations w.job new_lines
-          ∙ (λ i. operations_by w.operations w.job (sym (starts ∙ ap volume_started own_lines) i) (sym (cancelled ∙ ap is_cancelled own_lines) i));
+          ∙ (λ i. operations_by w.operations w.job (sym p.its_start i) (sym p.its_cancel i));
       passed = 1;
       left = refl;
       counted = one_more count;

@@ -1,6 +1,8 @@
 -- An action carried out, with the answers of the store.
-use Rattle.std.specs.Prelude.{◌≡◌, ℕ, Bool, true, List, ◌++◌, Option, Some, None}
+use Rattle.std.specs.Prelude.{◌≡◌, ℕ, Bool, true, List, ◌∷◌, ◌++◌, Option, Some, None}
 use Rattle.jname_core.specs.declared.key.Key.{Key}
+use Rattle.jcl_plan.specs.declared.entry.JobLine.{JobLine}
+use Rattle.jcl_plan.specs.declared.entry.JobLine.TheVariants as line
 use Rattle.jcl_plan.specs.declared.plan.StepPlan.{StepPlan}
 use Rattle.jcl_meaning.specs.declared.program.SoloProgram.{SoloProgram}
 use Rattle.jcl_meaning.specs.declared.state.Own.{Own}
@@ -15,9 +17,10 @@ use Rattle.disp_core.specs.declared.course.Course.{Course}
 use Rattle.request_core.specs.Requests.{Growth, growth_asked}
 use Rattle.store_core.specs.declared.job_store.JobStore.{Ghosts}
 use Rattle.disp_core.specs.Courses.{fixed_by}
-use Rattle.world_meaning.specs.Turns.{Granting, answers_due}
+use Rattle.world_meaning.specs.Turns.{Granting, answers_due, is_cancelled}
 use Rattle.turn_core.specs.Places.{action_of}
 use Rattle.turn_core.specs.declared.todo.Task.{Task}
+use Rattle.turn_core.specs.declared.walk.Acted.{Acted}
 use Rattle.turn_core.specs.declared.walk.Setting.{Setting}
 
 -- whether the store grants the primary of the set that an action makes, and the growth that it asks for
@@ -52,19 +55,28 @@ granting_by grants cancel fixed a seen own = record {
 abbrev pub done_by : List SoloProgram → List StepPlan → Granting → Fixed → Action → Store → Own → Done
 done_by programs steps g fixed a seen own = act fixed a (state_at seen own (answers_due programs steps g a own))
 
--- it was done: this is what it left of the store and of the job's own part; its lines stand behind those before; it made this set, or none
-pub record HasActed (done : Done) (seen : Store) (after before : Course) (made : Option Place) : Type 0 where
+-- the volume on which an operation starts
+abbrev pub volume_started : List JobLine → Option (List ℕ)
+volume_started (line.GetStart name serial ∷ lines) = Some serial
+volume_started (line.PutStart name serial grown ∷ lines) = Some serial
+volume_started other = None
+
+-- It was done: this is what it left of the store and of the job's own part; its lines stand behind those before; and what is told of it is so: where it made
+-- a set, on which volume its operation starts, and whether a cancel acted.
+pub record HasActed (done : Done) (seen : Store) (after before : Course) (told : Acted) : Type 0 where
   pub its_store : done.state.store ≡ seen
   pub its_own : done.state.own ≡ after.own
   pub its_lines : after.lines ≡ before.lines ++ done.lines
-  pub its_made : done.made ≡ made_of made
+  pub its_made : done.made ≡ made_of told.made
+  pub its_start : told.starts ≡ volume_started done.lines
+  pub its_cancel : told.cancelled ≡ is_cancelled done.lines
 
-abbrev pub Performs : List SoloProgram → List StepPlan → StoreAnswers → Bool → Fixed → Action → Store → Course → Store → Course → Option Place → Type 0
-Performs programs steps grants cancel fixed a old before new after made =
-    HasActed (done_by programs steps (granting_by grants cancel fixed a old before.own) fixed a old before.own) new after before made
+abbrev pub Performs : List SoloProgram → List StepPlan → StoreAnswers → Bool → Fixed → Action → Store → Course → Store → Course → Acted → Type 0
+Performs programs steps grants cancel fixed a old before new after told =
+    HasActed (done_by programs steps (granting_by grants cancel fixed a old before.own) fixed a old before.own) new after before told
 
 -- over a store, with its answers
-abbrev pub PerformsOver : {S : Type 0} → Ghosts S → Setting → List StepPlan → Task → S → Course → S → Course → Option Place → Type 0
-PerformsOver store s steps task old before new after made =
+abbrev pub PerformsOver : {S : Type 0} → Ghosts S → Setting → List StepPlan → Task → S → Course → S → Course → Acted → Type 0
+PerformsOver store s steps task old before new after told =
     Performs s.programs.now steps (answers_from store s.job old) s.cancelled (fixed_by s.given) (action_of steps task)
-    (store.seen s.job old) before (store.seen s.job new) after made
+    (store.seen s.job old) before (store.seen s.job new) after told

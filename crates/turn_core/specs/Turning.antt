@@ -21,7 +21,7 @@ use Rattle.world_meaning.specs.Turns.{Advanced, advance, answers_due, is_cancell
 use Rattle.turn_core.specs.Ending.{ended_at}
 use Rattle.turn_core.specs.Passing.{is_idle}
 use Rattle.turn_core.specs.Places.{agenda_at}
-use Rattle.turn_core.specs.Performing.{StoreAnswers, answers_from, growth_by, primary_by}
+use Rattle.turn_core.specs.Performing.{StoreAnswers, answers_from, growth_by, primary_by, volume_started}
 use Rattle.turn_core.specs.declared.walk.Acted.{Acted}
 use Rattle.turn_core.specs.declared.walk.Setting.{Setting}
 use Rattle.turn_core.specs.declared.walk.Turned.{Turned}
@@ -60,12 +60,6 @@ answers_in w growth primary = answers_due w.programs w.steps (record { cancel = 
 -- the turn of a job with these actions left
 abbrev pub turn_in : Around → List Action → Store → Own → ℕ → Bool → Bool → Option Advanced
 turn_in w actions seen own count growth primary = advance (answers_in w growth primary) w.fixed actions (state_in seen own) count
-
--- the volume on which an operation starts
-abbrev pub volume_started : List JobLine → Option (List ℕ)
-volume_started (line.GetStart name serial ∷ lines) = Some serial
-volume_started (line.PutStart name serial grown ∷ lines) = Some serial
-volume_started other = None
 
 -- the operations under way behind lines of which the first starts one on this volume, or of which it tells that a cancel acted
 abbrev pub operations_by : List Operation → ℕ → Option (List ℕ) → Bool → List Operation

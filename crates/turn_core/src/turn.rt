@@ -7,10 +7,9 @@ ghost use Rattle.turn_core.specs.Turning.{TellsFrom, acts, made_in};
 use crate::ended::{BeforeEnd, before_end, end_step, ended_step, take_back};
 use crate::find::find;
 use crate::perform::perform;
-use crate::said::{is_cancelled_from, started_from};
 use crate::todo::{Next, Todo};
 use crate::wait::must_wait;
-use crate::walk::{Acted, Setting, Turned, Walk};
+use crate::walk::{Setting, Turned, Walk};
 use job_text::text::JobText;
 use std::alloc::{AllocError, Global};
 use store_core::job_store::JobStore;
@@ -47,15 +46,9 @@ pub fn turn<T: JobText, S: JobStore>(
                 if must_wait(text, setting, &*store, &walk.course.own, &task) {
                     return Ok(Turned::Waits);
                 }
-                let said = walk.course.lines.len();
-                let made = perform(alloc, text, setting, store, &mut walk.course, &task)?;
+                let acted = perform(alloc, text, setting, store, &mut walk.course, &task)?;
                 walk.todo = behind;
-                let lines = walk.course.lines.as_slice();
-                Ok(Turned::Acts(Acted {
-                    made,
-                    starts: started_from(lines, said),
-                    cancelled: is_cancelled_from(lines, said),
-                }))
+                Ok(Turned::Acts(acted))
             }
             Some(n) => {
                 let place = walk.todo;

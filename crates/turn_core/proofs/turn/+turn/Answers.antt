@@ -7,7 +7,6 @@ use Rattle.turn_core.specs.Passing.{Finds}
 use Rattle.turn_core.specs.Places.{action_of, agenda_at}
 use Rattle.turn_core.specs.Turning.{Around, Tells}
 use Rattle.turn_core.specs.declared.walk.Turned.{Turned}
-use Rattle.turn_core.specs.declared.walk.Acted.{Acted}
 use Rattle.turn_core.specs.declared.walk.Turned.TheVariants as turned
 use Rattle.turn_core.proofs.Turning.{acts_here, below, ends_here, fewer, tells_behind, tells_on, waits_here}
 use Rattle.turn_core.proofs.turn.+turn.Goals as goal
@@ -67,8 +66,8 @@ returns-then-must_wait-clause-ok g t c =
     tells_on turned.Waits w from (a ∷ rest) rest seen seen before before found.passes
     (λ count. waits_here w a rest seen before.own count found.acts goes_on (sym c.must_wait.ensures ∙ c.if-must_wait.true))
 
-pub returns-in_ok-made-in-None-clause-ok : goal.returns-in_ok-made-in-None-clause-ok
-returns-in_ok-made-in-None-clause-ok g t c =
+pub returns-in_ok-acted-in-None-clause-ok : goal.returns-in_ok-acted-in-None-clause-ok
+returns-in_ok-acted-in-None-clause-ok g t c =
     let w : Around = record {
       programs = c.args.setting.now.programs.now;
       steps = (g.T.JobText.plan c.args.text.now).steps;
@@ -90,11 +89,9 @@ returns-in_ok-made-in-None-clause-ok g t c =
     let goes_on : ended_at a before.own ≡ None = sym (c.in-None.ensures steps) in
     let new = g.S.JobStore.seen c.args.setting.now.job c.perform.new.store in
     let after = c.perform.new.course in
-    let told : Acted = record { made = c.in_ok-made-in-None.made; starts = c.started_from.result; cancelled = c.is_cancelled_from.result } in
+    let told = c.in_ok-acted-in-None.acted in
     tells_on (turned.Acts told) w from (a ∷ rest) rest seen new before after found.passes
-    (λ count. acts_here w a rest seen new before after count c.len-said.result c.as_slice-lines.result.now told
-    found.acts goes_on (sym c.must_wait.ensures ∙ c.if-must_wait.false)
-    c.in_ok-made-in-None.ensures.ok c.as_slice-lines.ensures c.len-said.ensures c.started_from.ensures c.is_cancelled_from.ensures)
+    (λ count. acts_here w a rest seen new before after count told found.acts goes_on (sym c.must_wait.ensures ∙ c.if-must_wait.false) c.in_ok-acted-in-None.ensures.ok)
 
 pub returns-in-Ok-Acts-clause-ok : goal.returns-in-Ok-Acts-clause-ok
 returns-in-Ok-Acts-clause-ok g t c =
