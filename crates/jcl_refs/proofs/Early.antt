@@ -240,12 +240,12 @@ kind_same a b leads unnamed dd none =
     let faults : Naming → List Cause → List Cause → List Cause = λ n v r. naming_faults n ++ v ++ r ++ last n in
     let made : DdKind → List Cause → Read DdKind = λ value faults. record { value = value; faults = faults } in
     let same_faults : faults nb (volume b nb) (blocks b) ≡ faults na (volume a na) (blocks a) =
-      ap (λ n. faults n (volume b n) (blocks b)) named
-      ∙ ap (λ v. faults na v (blocks b)) (volume_faults_same a b leads (is_some (key_of own na)) dd.volume no_volume)
-      ∙ ap (λ r. faults na (volume a na) r) (references_same a b leads rs no_block) in
+    ap (λ n. faults n (volume b n) (blocks b)) named
+    ∙ ap (λ v. faults na v (blocks b)) (volume_faults_same a b leads (is_some (key_of own na)) dd.volume no_volume)
+    ∙ ap (λ r. faults na (volume a na) r) (references_same a b leads rs no_block) in
     let same_value : kind_with b dd own nb ≡ kind_with a dd own na =
-      ap (kind_with b dd own) named
-      ∙ kind_with_same a b dd own na (volume_plan_same a b leads (is_some (key_of own na)) dd.volume no_volume) in
+    ap (kind_with b dd own) named
+    ∙ kind_with_same a b dd own na (volume_plan_same a b leads (is_some (key_of own na)) dd.volume no_volume) in
     ap (λ v. made v (faults nb (volume b nb) (blocks b))) same_value ∙ ap (made (kind_with a dd own na)) same_faults
 
 leads_on : (front more : List FlatStep) (call : Option ℕ) (k : ℕ) (planned : List (List DdKind)) (here : List DdKind) → k - 1 < length front →
@@ -292,7 +292,7 @@ step_same front more k planned many s plan within is =
     let b = kinds_from (front ++ more) s.call k planned [] s.dds in
     let make : List Test → List DdKind → StepPlan = λ ts kinds. step_with s ts (dds_with s.dds kinds) in
     let all : Result (List Test) Cause → Result StepPlan Cause = λ found. and_then found (λ ts. refused_if many (P TooManyDdNames)
-      (refused_if (nat_lt most_dds (length s.dds)) (P TooManyDds) (and_then b (λ kinds. Ok (make ts kinds))))) in
+    (refused_if (nat_lt most_dds (length s.dds)) (P TooManyDds) (and_then b (λ kinds. Ok (make ts kinds))))) in
     ap all (tests_same s.call k front more tests (omega (arith, within)))
     ∙ step_cases (tests_of s.call k front tests) many (nat_lt most_dds (length s.dds)) (kinds_from front s.call k planned [] s.dds) b make plan
     (λ kinds. kinds_same front more s.call k planned within [] s.dds kinds) is
@@ -347,12 +347,12 @@ pub is_early : (steps : List FlatStep) (many : List Bool) (count : ℕ) (s : Fla
 is_early steps many count s rest front before as_many there split front_is before_is taken =
     let lt : count < length many = slice_get_within many count true there in
     let same : length before ≡ length front =
-      ap (λ (bs : List Bool). length bs) before_is ∙ taken_length many count (omega (arith, lt))
-      ∙ sym (ap (λ (ss : List FlatStep). length ss) front_is ∙ taken_length steps count (omega (arith, lt, as_many))) in
+    ap (λ (bs : List Bool). length bs) before_is ∙ taken_length many count (omega (arith, lt))
+    ∙ sym (ap (λ (ss : List FlatStep). length ss) front_is ∙ taken_length steps count (omega (arith, lt, as_many))) in
     let left_is : settled_behind count steps ≡ front ++ with_dds_left s ∷ map with_dds_left rest =
-      ap (λ ss. ss ++ map with_dds_left (drop count steps)) (sym front_is) ∙ ap (λ ss. front ++ map with_dds_left ss) split in
+    ap (λ ss. ss ++ map with_dds_left (drop count steps)) (sym front_is) ∙ ap (λ ss. front ++ map with_dds_left ss) split in
     let many_is : many ≡ before ++ true ∷ drop (suc count) many =
-      marks_cut many count there ∙ ap (λ bs. bs ++ true ∷ drop (suc count) many) (sym before_is) in
+    marks_cut many count there ∙ ap (λ bs. bs ++ true ∷ drop (suc count) many) (sym before_is) in
     ap (λ ss. steps_by ss 1 [] many ss) left_is
     ∙ ap (λ bs. steps_by (front ++ with_dds_left s ∷ map with_dds_left rest) 1 [] bs (front ++ with_dds_left s ∷ map with_dds_left rest)) many_is
     ∙ early front (map with_dds_left rest) (with_dds_left s) before (drop (suc count) many) taken.0 same taken.1

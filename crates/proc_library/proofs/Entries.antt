@@ -1,15 +1,17 @@
 -- A procedure of the library, and what its cards are, by its place among the entries.
-use Rattle.std.proofs.Common.{◌≡◌, ℕ, Bool, true, false, cond, List, [], ◌∷◌, ◌++◌, map, zero, suc, arith, Option, Some, Result, refl, ap}
+use Rattle.std.proofs.Common.{◌≡◌, ℕ, Bool, true, false, cond, List, [], ◌∷◌, ◌++◌, map, zero, suc, arith, Option, Some, None, Err, Result, refl, sym, ap}
 use Rattle.std.specs.Option.{option_map}
 use Rattle.std.specs.Str.{bytes_eq}
 use Rattle.std.proofs.lemmas.List.Elements.{All-append}
 use Rattle.name_places.proofs.Named.{first_named}
 use Rattle.card_core.specs.declared.fault.CardFault.{CardFault}
 use Rattle.card_core.specs.declared.statement.Statement.{Statement}
-use Rattle.card_core.specs.Deck.{statements_of}
+use Rattle.card_core.specs.Cards.{filled, first_line_fault}
+use Rattle.card_core.specs.declared.fault.CardFault.TheVariants.{DataBeforeExec}
+use Rattle.card_core.specs.Deck.{Statements, statements_behind, statements_of, unless}
 use Rattle.proc_library.specs.declared.library.Entry.{Entry}
 use Rattle.proc_library.specs.declared.library.LibraryProcedure.{LibraryProcedure}
-use Rattle.proc_library.specs.Entries.{AreRead}
+use Rattle.proc_library.specs.Entries.{AreRead, BeginsWithData, data_fault, or_data}
 use Rattle.proc_library.specs.Libraries.{in_library, reading_in}
 
 pub named_is : (entries : List Entry) (name : List ℕ) →
@@ -39,3 +41,11 @@ read_more entries e read is = All-append (λ e. e.reading ≡ statements_of e.pr
     one : (e : Entry) → e.reading ≡ statements_of e.procedure.lines → AreRead (e ∷ [])
     one e is zero d below = is
     one e is (suc k) d below = absurd (omega (arith, below))
+
+-- cards that begin with data
+unless_data : (fault : Option CardFault) (statements : Statements) → statements ≡ Err DataBeforeExec → Err (or_data fault) ≡ unless fault statements
+unless_data (Some fault) statements is = refl
+unless_data None statements is = sym is
+
+pub data_read : (lines : List (List ℕ)) → BeginsWithData lines → Err (data_fault lines) ≡ statements_of lines
+data_read lines begins = unless_data (first_line_fault lines) (statements_behind false 0 (map filled lines)) begins

@@ -1,15 +1,11 @@
 //! Procedures of the library.
-ghost use Rattle.std.specs.Prelude.{◌≡◌, ◌++◌, ◌∷◌, [], false, IfOk, OnOk, OnErr};
+ghost use Rattle.std.specs.Prelude.{◌≡◌, ◌++◌, ◌∷◌, [], false, OnOk, OnErr};
 ghost use Rattle.std.specs.Option.{option_copied};
-ghost use Rattle.card_core.specs.Deck.{statements_of};
 ghost use Rattle.proc_library.specs.Libraries.{has_procedure, in_library, reading_in};
 
-use card_core::fault::CardFault;
-use card_core::read::{ReadError, read_statements};
-use card_core::statement::Statement;
+use crate::reading::{Reading, reading_of};
 use jname_core::name8::Name8;
 use name_places::places::NamePlaces;
-use plain::lent::Lent;
 use plain::listed::Listed;
 use plain::text::Text;
 use std::alloc::{AllocError, Global};
@@ -21,9 +17,6 @@ pub struct LibraryProcedure {
     pub name: Name8,
     pub lines: Listed<Text>,
 }
-
-/// What the cards of a procedure are: its statements, or the first fault of its cards.
-pub type Reading = Result<Listed<Statement>, CardFault>;
 
 /// A procedure, and what its cards are.
 #[derive(Drop)]
@@ -51,38 +44,6 @@ impl Model for ProcLibrary {
     ghost view = { λ l. map (λ e. e.procedure) l.list.items };
 
     ghost invariant = { λ l. (map (λ e. e.procedure.name) l.list.items ≡ l.places) × AreRead l.list.items };
-}
-
-/// The cards that lines lend.
-fn cards_of<'a>(alloc: Global, lines: &'a [Text]) -> Result<Vec<Lent<'a>>, AllocError>
-    ensures { IfOk result (λ cards. cards.items ≡ lines.now) }
-{
-    let mut cards = Vec::with_capacity(alloc, lines.len())?;
-    for line in lines {
-        cards.push(Lent::new(line.as_slice()))?;
-    }
-    Ok(cards)
-}
-
-/// Statements in as much memory as they take.
-fn kept(statements: Vec<Statement>) -> Listed<Statement>
-    ensures { result ≡ statements.items }
-{
-    let mut statements = statements;
-    statements.shrink_to_fit();
-    Listed::new(statements)
-}
-
-/// What lines are as cards.
-fn reading_of(alloc: Global, lines: &[Text]) -> Result<Reading, AllocError>
-    ensures { IfOk result (λ reading. reading ≡ statements_of lines.now) }
-{
-    let cards = cards_of(alloc, lines)?;
-    match read_statements(alloc, cards.as_slice()) {
-        Ok(statements) => Ok(Ok(kept(statements))),
-        Err(ReadError::Fault(fault)) => Ok(Err(fault)),
-        Err(ReadError::Memory) => Err(AllocError),
-    }
 }
 
 impl ProcLibrary {
