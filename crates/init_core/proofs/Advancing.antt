@@ -1,6 +1,6 @@
 -- A turn of an admitted job is the machine's case.
 use Rattle.std.proofs.Common.{◌≡◌, ◌≢◌, ℕ, suc, ◌≤◌, Bool, true, false, cond, arith, List, [], ◌∷◌, ◌++◌, All, drop, map, Option, Some, None, length, refl, sym, ap, ◌∙◌, subst, inl}
-use Rattle.std.specs.Prelude.{IfOk, IfSome, OnErr, OnOk, Result, Ok, Err}
+use Rattle.std.specs.Prelude.{IfOk, IfSome, OnOk, Result, Ok, Err}
 use Rattle.std.specs.List.{Contains}
 use Rattle.std.proofs.lemmas.List.Elements.{All-append, All-cons, All-head, All-nil, All-tail}
 use Rattle.enq_core.specs.Holds.{HoldsNone}
@@ -141,10 +141,6 @@ module _ {Q : Type 0} (queue_of : Q → RecordQueue) (profile : Profile) (p : Pa
       IsWritten job (made_of (made_in same)) p.store st
   written_as st n told same own is w = subst (λ (x : ℕ × Turned). IsWritten x.0 (made_of (made_in x.1)) p.store st) (λ i. (own i, is i)) w
 
-  pub ended_err : (r : Result Progress Running) (old new : Parts Q) → old ≡ p → OnErr r (new ≡ old) → OnErr r (new ≡ p)
-  ended_err (Ok came) old new is same = tt
-  ended_err (Err back) old new is same = same ∙ is
-
   module _ (some : job ≢ 0) (at : IsAt c p.names job walk (stage.Admitted a)) where
     -- where the job's sets are, and its operation starts
     pub moved_on : (st : SharedStore) (after : Walk) (told : Acted) → JobActs its_around plan (seen job (world_store_of p.store)) (seen job (world_store_of st)) walk after told →
@@ -278,16 +274,10 @@ module _ {Q : Type 0} (queue_of : Q → RecordQueue) (profile : Profile) (p : Pa
             };
           }
 
-    pub ended_by : (r : Result Progress Running) (old : Parts Q) (after : Walk) → old ≡ p → (new : Parts Q) → after ≡ walk →
-        IfOk r (λ came. came ≡ Over None line.End) → OnOk r (IsEnded queue_of job after plan old new) → EndsAdvance →
-        JobEnds its_around plan (seen job (world_store_of p.store)) walk → IfOk r (Went queue_of c p its new)
-    ended_by (Ok came) old after is new same over e law h =
-        subst (Went queue_of c p its new) (sym over)
-        (ended new
-        (subst (λ s. IsEnded queue_of job walk plan s new) is
-        (subst (λ w. IsEnded queue_of job w plan old new) same e))
-        law h)
-    ended_by (Err back) old after is new same over e law h = tt
+    pub ended_by : (r : Result Progress Running) (new : Parts Q) → IfOk r (λ came. came ≡ Over None line.End) → OnOk r (IsEnded queue_of job walk plan p new) →
+        EndsAdvance → JobEnds its_around plan (seen job (world_store_of p.store)) walk → IfOk r (Went queue_of c p its new)
+    ended_by (Ok came) new over e law h = subst (Went queue_of c p its new) (sym over) (ended new e law h)
+    ended_by (Err back) new over e law h = tt
 
     -- the store grants each primary of an assured job
     all_granted : IsForAction queue_of c p job a walk → GrantsAll its_around plan (seen job (world_store_of p.store)) walk
@@ -334,16 +324,16 @@ module _ {Q : Type 0} (queue_of : Q → RecordQueue) (profile : Profile) (p : Pa
       acted_so grants provided = by_admission (is_assured a) refl grants provided
 
 -- what an admitted job's turn in its place is, is a job's turn in its place
-pub in_place : {Q : Type 0} (queue_of : Q → RecordQueue) (profile : Profile) (p : Parts Q) (job : ℕ) (a : AdmittedJob) (before : Walk) (new : Parts Q) (after : Walk)
+in_place : {Q : Type 0} (queue_of : Q → RecordQueue) (profile : Profile) (p : Parts Q) (job : ℕ) (a : AdmittedJob) (before : Walk) (new : Parts Q) (after : Walk)
     (o : Option ℕ) → ActsInPlace queue_of profile p job a before new after o →
-    WentInPlace queue_of (config_of profile (queue_of p.queue).layout) p (record { job = job; walk = before; stage = stage.Admitted a }) new
+    WentInPlace queue_of profile p (record { job = job; walk = before; stage = stage.Admitted a }) new
     (record { job = job; walk = after; stage = stage.Admitted a }) o
 in_place queue_of profile p job a before new after (Some n) h = h
-in_place queue_of profile p job a before new after None h = (h.0, ap (λ w. record { job = job; walk = w; stage = stage.Admitted a }) h.1)
+in_place queue_of profile p job a before new after None h = (h.0, ap (λ w. record { job = job; walk = w; stage = stage.Admitted a }) h.1, h.2)
 
 pub all_in_place : {Q : Type 0} {E : Type 0} (queue_of : Q → RecordQueue) (profile : Profile) (p : Parts Q) (job : ℕ) (a : AdmittedJob) (before : Walk)
     (new : Parts Q) (after : Walk) (r : Result (Option ℕ) E) → IfOk r (ActsInPlace queue_of profile p job a before new after) →
-    IfOk r (WentInPlace queue_of (config_of profile (queue_of p.queue).layout) p (record { job = job; walk = before; stage = stage.Admitted a }) new
+    IfOk r (WentInPlace queue_of profile p (record { job = job; walk = before; stage = stage.Admitted a }) new
     (record { job = job; walk = after; stage = stage.Admitted a }))
 all_in_place queue_of profile p job a before new after (Ok o) h = in_place queue_of profile p job a before new after o h
 all_in_place queue_of profile p job a before new after (Err e) h = tt

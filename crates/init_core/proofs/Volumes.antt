@@ -48,7 +48,8 @@ use Rattle.jcl_meaning.specs.TakeActs.{decided, decision_at, new_dd, takes, take
 use Rattle.jcl_meaning.specs.Takes.{decide, is_known, is_there, looked_at, secondary_of, taken}
 use Rattle.world_meaning.specs.Turns.{Advanced, advance, answers_due, state_in, unless_silent}
 use Rattle.turn_core.specs.Standing.{JobActs, count_at, undone}
-use Rattle.turn_core.specs.Turning.{Around, volume_started}
+use Rattle.turn_core.specs.Performing.{volume_started}
+use Rattle.turn_core.specs.Turning.{Around}
 use Rattle.turn_core.specs.declared.walk.Acted.{Acted}
 use Rattle.turn_core.specs.declared.walk.Walk.{Walk}
 use Rattle.init_core.specs.Running.{AreOn, IsTakenOn}

@@ -22,7 +22,7 @@ use Rattle.init_core.specs.declared.running.Progress.{Progress}
 use Rattle.init_core.specs.declared.running.Progress.TheVariants.{GoesOn}
 use Rattle.init_core.specs.declared.running.Running.{Running}
 use Rattle.init_core.specs.declared.running.Stage.{Stage}
-use Rattle.init_core.specs.declared.running.Stage.TheVariants.{Admitted, Named}
+use Rattle.init_core.specs.declared.running.Stage.TheVariants.{Admitted, Named, Selected, Wanting}
 use Rattle.init_core.specs.Choosing.{IsChosenByVolumes}
 use Rattle.init_core.specs.Extents.{ExtentsFollow}
 use Rattle.init_core.specs.Running.{IsGood, IsReady, config_of, lines_told, path_told, runs_after, shown_running}
@@ -73,7 +73,19 @@ ActsInPlace queue_of profile old job a before new after (Some from) =
 ActsInPlace queue_of profile old job a before new after None = (new ≡ old) × (after ≡ before)
     × JobEnds (around_in profile old.units job a (has_cancel old.cancels job) old.store) (named_of a).plan (seen job (world_store_of old.store)) before
 
--- A turn of a job in its place: so it went on; or nothing has changed, and it is still to go on.
-abbrev pub WentInPlace : {Q : Type 0} → (Q → RecordQueue) → Config → Parts Q → Running → Parts Q → Running → Option ℕ → Type 0
-WentInPlace queue_of c old before new after (Some from) = Went queue_of c old before new (GoesOn after from)
-WentInPlace queue_of c old before new after None = (new ≡ old) × (after ≡ before)
+-- A job that may leave its place by its turn: it is to be read or to be admitted, or its END is due; it does not wait for its names.
+abbrev pub MayLeaveAt : {Q : Type 0} → Profile → Parts Q → ℕ → Walk → Stage → Type 0
+MayLeaveAt profile p job walk (Selected first) = Unit {0}
+MayLeaveAt profile p job walk (Wanting plan wants) = ⊥
+MayLeaveAt profile p job walk (Named named) = Unit {0}
+MayLeaveAt profile p job walk (Admitted a) =
+    JobEnds (around_in profile p.units job a (has_cancel p.cancels job) p.store) (named_of a).plan (seen job (world_store_of p.store)) walk
+
+abbrev pub MayLeave : {Q : Type 0} → Profile → Parts Q → Running → Type 0
+MayLeave profile p r = MayLeaveAt profile p r.job r.walk r.stage
+
+-- A turn of a job in its place: so it went on; or nothing has changed, and it may leave its place.
+abbrev pub WentInPlace : {Q : Type 0} → (Q → RecordQueue) → Profile → Parts Q → Running → Parts Q → Running → Option ℕ → Type 0
+WentInPlace queue_of profile old before new after (Some from) =
+    Went queue_of (config_of profile (queue_of old.queue).layout) old before new (GoesOn after from)
+WentInPlace queue_of profile old before new after None = (new ≡ old) × (after ≡ before) × MayLeave profile old before

@@ -1,5 +1,5 @@
 //! A job's names are held, all of them or none: NAMES, WAIT NAMES.
-ghost use Rattle.std.specs.Prelude.{◌≡◌, ◌≢◌, IfErr, IfOk, List, OnErr, length};
+ghost use Rattle.std.specs.Prelude.{◌≡◌, ◌≢◌, IfOk, List, OnErr, length};
 ghost use Rattle.enq_core.specs.Holds.{AreWants, HoldsNone};
 ghost use Rattle.world_meaning.specs.Holdings.{wants_of};
 ghost use Rattle.world_meaning.specs.Worlds.{Config};
@@ -138,38 +138,4 @@ pub(crate) fn want_in_place<Q: RecordStore>(
     let held = wish(parts, job, walk, wants.as_slice())?;
     go_behind(waits, held);
     Ok(from)
-}
-
-/// A turn of a job whose records are read. Where memory is wanting the job is given back as it was, and nothing has changed.
-pub(crate) fn want<Q: RecordStore>(
-    parts: &mut Parts<Q>,
-    job: u16,
-    mut walk: Walk,
-    plan: JobPlan,
-    wants: Listed<Want>,
-) -> Result<Progress, Running>
-    requires some { job ≢ 0 }
-    requires none { HoldsNone parts.old.names job }
-    requires wants { wants ≡ wants_of plan }
-    ensures ok { (c : Config) → IsGood Q.queue c parts.old →
-        IfOk result (Went Q.queue c parts.old (record { job = job; walk = walk; stage = stage.Wanting plan wants }) parts.new) }
-    ensures err { IfErr result (λ r. r ≡ record { job = job; walk = walk; stage = stage.Wanting plan wants }) }
-    ensures same { OnErr result (parts.new ≡ parts.old) }
-{
-    let mut waits = Stage::Wanting { plan, wants };
-    match want_in_place(parts, job, &mut walk, &mut waits) {
-        Ok(from) => Ok(Progress::GoesOn {
-            job: Running {
-                job,
-                walk,
-                stage: waits,
-            },
-            from,
-        }),
-        Err(_) => Err(Running {
-            job,
-            walk,
-            stage: waits,
-        }),
-    }
 }

@@ -1,7 +1,9 @@
 //! A job at an initiator, and what is fixed for all jobs.
-ghost use Rattle.std.specs.Prelude.{◌≡◌, ◌≤◌, drop, length};
+ghost use Rattle.std.specs.Prelude.{◌≡◌, ◌≤◌, drop, length, true};
+ghost use Rattle.std.specs.Str.{bytes_eq};
 ghost use Rattle.init_core.specs.declared.running.Progress.TheVariants as progress;
 ghost use Rattle.machine_meaning.specs.declared.config.TheConstants.{MOST_UNITS};
+ghost use Rattle.plain.specs.Lists.{all_different};
 
 use admit_core::admission::{AdmittedJob, NamedJob};
 use enq_core::table::Want;
@@ -45,8 +47,8 @@ impl Running {
     }
 }
 
-/// What is fixed for all jobs: the serials of the volumes, the volumes of each unit name, the programs, whether jobs that may fail are refused, the
-/// limit of views, and whether a risk's path is shown.
+/// What is fixed for all jobs: the serials of the volumes, of which no two are the same, the volumes of each unit name, the programs, whether jobs that may
+/// fail are refused, the limit of views, and whether a risk's path is shown.
 #[derive(Clone, Copy)]
 pub struct Profile<'c> {
     pub volumes: &'c [Serial],
@@ -56,6 +58,7 @@ pub struct Profile<'c> {
     pub most_views: usize,
     pub explains: bool,
     pub ghost few_units: { length units.now ≤ MOST_UNITS },
+    pub ghost apart: { all_different bytes_eq volumes.now ≡ true },
 }
 
 /// What a job was answered: its line, and the lines of the path that this tells, where they are asked for.

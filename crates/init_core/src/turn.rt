@@ -6,7 +6,7 @@ ghost use Rattle.world_meaning.specs.Holdings.{cancels_without};
 ghost use Rattle.disp_core.specs.Courses.{fixed_by};
 ghost use Rattle.admit_core.specs.Admissions.{fixed_for, given_to, named_of};
 ghost use Rattle.turn_core.specs.Turning.{operations_by};
-ghost use Rattle.init_core.specs.Going.{ActsInPlace, Went};
+ghost use Rattle.init_core.specs.Going.{ActsInPlace};
 ghost use Rattle.init_core.specs.Providing.{IsProvided};
 ghost use Rattle.init_core.specs.Running.{IsAt, IsGood, config_of};
 ghost use Rattle.init_core.specs.Turning.{IsEnded};
@@ -26,7 +26,7 @@ use prog_core::units::{Units, operations_are_apart};
 use shared_core::laws::{kept_is_spent, sets_of_others_stay, taking_follows, tracks_are_conserved};
 use shared_core::sums::volumes_add_up;
 use std::alloc::{AllocError, Global};
-use turn_core::laws::{acts_advance, ends_advance, few_lines, waits_advance};
+use turn_core::laws::{acts_advance, few_lines, waits_advance};
 use turn_core::turn::turn;
 use turn_core::walk::{Acted, Setting, Turned, Walk};
 
@@ -79,7 +79,7 @@ fn running(job: u16, walk: Walk, admitted: AdmittedJob) -> Running
 }
 
 /// END: the writers have what the job wrote, and what it held is given back. Where memory is wanting the job is given back as it was, and nothing has changed.
-fn end<Q: RecordStore>(
+pub(crate) fn end<Q: RecordStore>(
     parts: &mut Parts<Q>,
     job: u16,
     mut walk: Walk,
@@ -153,35 +153,5 @@ pub(crate) fn act<Q: RecordStore>(
         }
         Ok(Turned::Ends) => Ok(None),
         Err(_) => Err(AllocError),
-    }
-}
-
-/// A turn of an admitted job. Where memory is wanting the job is given back as it was, and nothing has changed.
-pub(crate) fn advance<Q: RecordStore>(
-    alloc: Global,
-    parts: &mut Parts<Q>,
-    profile: &Profile<'_>,
-    job: u16,
-    mut walk: Walk,
-    admitted: AdmittedJob,
-) -> Result<Progress, Running>
-    requires some { job ≢ 0 }
-    requires at { IsAt (config_of profile.now (Q.queue parts.old.queue).layout) parts.old.names job walk (stage.Admitted admitted) }
-    requires good { IsGood Q.queue (config_of profile.now (Q.queue parts.old.queue).layout) parts.old }
-    requires provided { IsProvided Q.queue (config_of profile.now (Q.queue parts.old.queue).layout) parts.old
-        (record { job = job; walk = walk; stage = stage.Admitted admitted }) }
-    ensures ok { IfOk result (Went Q.queue (config_of profile.now (Q.queue parts.old.queue).layout) parts.old
-        (record { job = job; walk = walk; stage = stage.Admitted admitted }) parts.new) }
-    ensures err { IfErr result (λ r. r ≡ record { job = job; walk = walk; stage = stage.Admitted admitted }) }
-    ensures same { OnErr result (parts.new ≡ parts.old) }
-{
-    ends_advance();
-    match act(alloc, parts, profile, job, &mut walk, &admitted) {
-        Ok(Some(from)) => Ok(Progress::GoesOn {
-            job: running(job, walk, admitted),
-            from,
-        }),
-        Ok(None) => end(parts, job, walk, admitted),
-        Err(_) => Err(running(job, walk, admitted)),
     }
 }

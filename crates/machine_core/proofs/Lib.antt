@@ -1,4 +1,5 @@
 pub mod Devices
 pub mod Releasing
 pub mod Unnamed
+mod Volumes
 pub mod Writers

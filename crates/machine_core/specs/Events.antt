@@ -6,9 +6,11 @@ use Rattle.jcl_plan.specs.declared.entry.Entry.TheVariants as entry
 use Rattle.jcl_plan.specs.declared.entry.Written.{Written}
 use Rattle.jcl_plan.specs.declared.fault.Cause.TheVariants.{A}
 use Rattle.jcl_plan.specs.declared.fault.EventFault.{EventFault}
+use Rattle.mount_core.specs.Mounts.{MountedState}
 use Rattle.world_meaning.specs.Devices.{EndsDevice, Writes}
 use Rattle.world_meaning.specs.Displays.{busy, shown_lines}
 use Rattle.world_meaning.specs.Worlds.{Shared, World}
+use Rattle.shared_core.specs.Tracks.{free_tracks, kept_tracks}
 use Rattle.machine_core.specs.declared.parts.Parts.{Parts}
 use Rattle.machine_core.specs.Shown.{shown}
 
@@ -34,6 +36,10 @@ written_lines class (Some told) = entry.Writer class told.0 told.1 ∷ []
 
 abbrev pub WriterWrites : {Q : Type 0} → (Q → RecordQueue) → Parts Q → ℕ → Option (ℕ × Written) → Parts Q → Type 0
 WriterWrites queue_of old class told new = (w : World) → w.shared ≡ shown queue_of old → Writes w class (written_lines class told) (with_shared w (shown queue_of new))
+
+-- a volume's line
+abbrev pub line_of : MountedState → Entry
+line_of m = entry.Volume m.serial (free_tracks (Some m)) (sum_by (λ k. k.tracks) (kept_tracks (Some m)))
 
 -- what is shown, with so many jobs at initiators
 pub record IsShowing {Q : Type 0} (queue_of : Q → RecordQueue) (volumes : List (List ℕ)) (parts : Parts Q) (running : ℕ) (w : World) : Type 0 where

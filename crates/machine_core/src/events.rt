@@ -1,18 +1,19 @@
 //! The events that change no job at an initiator.
 ghost use Rattle.std.specs.Prelude.{◌≡◌, ◌+◌, ◌++◌, ◌∷◌, [], IfErr, IfOk, IfSome, IfNone, OnErr, OnOk, map};
 ghost use Rattle.jcl_plan.specs.declared.entry.Entry.TheVariants as entry;
-ghost use Rattle.world_meaning.specs.Displays.{volume_line};
-ghost use Rattle.machine_core.specs.Events.{DeviceEnds, DeviceIsRefused, Shows, WriterWrites};
-ghost use Rattle.machine_core.specs.Shown.{shown};
+ghost use Rattle.plain.specs.Lists.{Differ};
+ghost use Rattle.place_core.specs.Placings.{serials_of};
+ghost use Rattle.machine_core.specs.Events.{DeviceEnds, DeviceIsRefused, Shows, WriterWrites, line_of};
 
 use crate::parts::Parts;
-use crate::tracks::{VolumeTracks, tracks_on};
+use crate::tracks::{VolumeTracks, tracks_of};
 use cb_queue::store::RecordStore;
 use jcl_plan::entry::{Entry, Written};
 use jcl_plan::fault::EventFault;
 use jname_core::serial::{Serial, is_among};
+use mount_core::mounted::Mounted;
 use plain::listed::Listed;
-use std::alloc::{AllocError, Global};
+use std::alloc::AllocError;
 
 /// The operation under way on a volume is over. A refusal changes nothing.
 pub fn end_device<Q: RecordStore>(
@@ -43,30 +44,38 @@ pub fn write<Q: RecordStore>(parts: &mut Parts<Q>, class: u8) -> Option<(u16, Wr
 }
 
 /// What is shown of a volume: its free tracks, and those that are kept.
-fn volume_line<Q: RecordStore>(parts: &Parts<Q>, serial: Serial) -> Entry
-    ensures { result ≡ volume_line (shown Q.queue parts.now) serial }
+fn volume_line(m: &Mounted) -> Entry
+    ensures { result ≡ line_of m.now }
 {
-    let VolumeTracks { free, kept } = tracks_on(parts.store.volumes.as_slice(), serial);
-    Entry::Volume { serial, free, kept }
+    let VolumeTracks { free, kept } = tracks_of(m);
+    Entry::Volume {
+        serial: m.serial(),
+        free,
+        kept,
+    }
 }
 
-/// What is shown: a line for each volume, and one of the queue, with so many jobs at initiators.
+/// What is shown: a line for each volume, of which no two have the same serial, and one of the queue, with so many jobs at initiators. The lines are in the
+/// room, where that is enough.
 pub fn show<Q: RecordStore>(
-    alloc: Global,
     parts: &Parts<Q>,
-    volumes: &[Serial],
     running: usize,
+    room: Vec<Entry>,
 ) -> Result<Listed<Entry>, AllocError>
-    ensures { IfOk result (Shows Q.queue volumes.now parts.now running) }
+    requires { Differ (serials_of parts.now.store.volumes) }
+    ensures { IfOk result (Shows Q.queue (serials_of parts.now.store.volumes) parts.now running) }
 {
-    let mut lines = Listed::empty(alloc);
-    for serial in volumes {
-        lines.push(volume_line(parts, *serial))?;
+    let volumes = parts.store.volumes.as_slice();
+    let mut lines = room;
+    lines.clear();
+    lines.reserve(volumes.len() + 1)?;
+    for m in volumes {
+        lines.push_reserved(volume_line(m));
     }
-    lines.push(Entry::Queue {
+    lines.push_reserved(Entry::Queue {
         queued: parts.queue.waiting_count(),
         running,
         records: parts.queue.free_count() as usize,
-    })?;
-    Ok(lines)
+    });
+    Ok(Listed::new(lines))
 }

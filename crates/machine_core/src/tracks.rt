@@ -13,7 +13,7 @@ pub struct VolumeTracks {
     pub kept: usize,
 }
 
-fn tracks_of(m: &Mounted) -> VolumeTracks
+pub(crate) fn tracks_of(m: &Mounted) -> VolumeTracks
     ensures free { result.free ≡ free_tracks (Some m.now) }
     ensures kept { result.kept ≡ sum_by (λ k. k.tracks) (kept_tracks (Some m.now)) }
 {

@@ -1,5 +1,6 @@
 -- The machine of a configuration is a start, sound and fit.
-use Rattle.std.proofs.Common.{◌≡◌, ◌≢◌, ◌≤◌, ℕ, zero, suc, List, [], ◌∷◌, All, map, Some, None, length, slice_get, refl, sym, ap, ◌∙◌, subst, arith}
+use Rattle.std.proofs.Common.{◌≡◌, ◌≢◌, ◌≤◌, ℕ, zero, suc, List, [], ◌∷◌, All, map, Some, None, length, slice_get, refl, sym, ap, ◌∙◌, subst, true, arith}
+use Rattle.std.specs.Str.{bytes_eq}
 use Rattle.std.proofs.lemmas.List.{length-map}
 use Rattle.std.proofs.lemmas.List.Elements.{All-nil}
 use Rattle.std.specs.List.{Contains}
@@ -18,6 +19,7 @@ use Rattle.enq_core.specs.declared.table.Hold.{Hold}
 use Rattle.machine_meaning.specs.declared.config.ConfiguredInitiator.{ConfiguredInitiator}
 use Rattle.machine_meaning.specs.declared.config.ConfiguredUnit.{ConfiguredUnit}
 use Rattle.machine_meaning.specs.declared.config.TheConstants.{MOST_UNITS}
+use Rattle.plain.specs.Lists.{Differ, all_different}
 use Rattle.prog_core.specs.declared.units.Operation.{Operation}
 use Rattle.case_laws.specs.Cases.{IsSupplied, StartsSupplied}
 use Rattle.law_core.specs.Soundness.{IsSound, StartsSound}
@@ -43,6 +45,7 @@ use Rattle.sched_core.specs.Starting.{IsForMachine}
 use Rattle.sched_core.specs.declared.start.TheConstants.{FIRST_DAY}
 use Rattle.sched_core.specs.declared.state.Initiator.{Initiator}
 use Rattle.sched_core.specs.declared.state.State.{State}
+use Rattle.sched_core.proofs.Apart.{all_differ}
 
 abbrev pub idle_seat : ConfiguredInitiator → Initiator
 idle_seat x = record { number = x.number; classes = x.classes; running = None }
@@ -173,6 +176,11 @@ pub units_few : (c : Configuration) (store : SharedStore) (fixed : Fixed) → Is
 units_few c store fixed is apart volumes those =
     let listed : length volumes ≡ length fixed.units = ap length those ∙ length-map fixed.units (λ (u : ConfiguredUnit). u.serials) in
     omega (arith, is.few_units, listed, ap length apart.units)
+
+-- no two of the configured volumes have the same serial
+pub volumes_apart : (c : Configuration) (store : SharedStore) (fixed : Fixed) → IsConfigured c → IsTakenApart c store fixed →
+    (serials : List (List ℕ)) → serials ≡ fixed.serials → all_different bytes_eq serials ≡ true
+volumes_apart c store fixed is apart serials those = all_differ serials (subst Differ (sym (those ∙ apart.serials)) is.serials)
 
 -- each unit has its name and its volumes
 pub units_counted : (us : List ConfiguredUnit) → length (unit_names us) ≡ length (unit_volumes us)

@@ -49,7 +49,7 @@ module _ {Q : Type 0} (queue_of : Q → RecordQueue) (profile : Profile) (s : St
 
     -- it went on in its place, from where its new lines begin
     pub in_place : (parts : Parts Q) (after : Running) (from : ℕ) (lines : List Entry) →
-        WentInPlace queue_of (config_in queue_of profile s) s.parts running parts after (Some from) → lines ≡ of_job running.job (drop from after.walk.course.lines) →
+        WentInPlace queue_of profile s.parts running parts after (Some from) → lines ≡ of_job running.job (drop from after.walk.course.lines) →
         TurnsAt queue_of (config_in queue_of profile s) place s.parts s.initiators.items parts
         (slice_set s.initiators.items place (record x { running = Some after })) lines
     in_place parts after from lines went told = record {

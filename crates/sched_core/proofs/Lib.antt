@@ -1,3 +1,4 @@
+pub mod Apart
 pub mod Seats
 pub mod Places
 pub mod Unchanged
@@ -12,6 +13,7 @@ pub mod Entered
 pub mod Cancelled
 pub mod Counting
 pub mod Happened
+pub mod Dones
 pub mod Copying
 pub mod Risks
 pub mod Shows

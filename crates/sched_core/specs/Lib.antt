@@ -9,6 +9,7 @@ pub mod Cancelling
 pub mod Reading
 pub mod Happening
 pub mod Systems
+pub mod Done
 pub mod Starting
 pub mod Zapping
 pub mod Views

@@ -9,10 +9,10 @@ ghost use Rattle.init_core.specs.Extents.{ExtentsFollow};
 ghost use Rattle.init_core.specs.Running.{IsReady};
 ghost use Rattle.init_core.specs.declared.running.Running.{Running};
 ghost use Rattle.sched_core.specs.Cancelling.{CancelsAt, CancelsRunning, GivesUp, LeavesQueue, RunsJob, has_admitted, has_job};
-ghost use Rattle.sched_core.specs.Events.{Answers, RefusesFirst};
-ghost use Rattle.sched_core.specs.Fits.{IsFit, IsKept};
+ghost use Rattle.sched_core.specs.Done.{EventDone};
+ghost use Rattle.sched_core.specs.Events.{RefusesFirst};
+ghost use Rattle.sched_core.specs.Fits.{IsKept};
 ghost use Rattle.sched_core.specs.Machines.{RunsIn, config_in, world_in};
-ghost use Rattle.sched_core.specs.Systems.{IsSameMachine};
 ghost use Rattle.sched_core.specs.declared.state.Initiator.{Initiator};
 
 use crate::fault::ApplyFault;
@@ -184,12 +184,8 @@ fn cancel_there<Q: RecordStore>(
 ) -> Result<Listed<Entry>, ApplyFault>
     requires kept { IsKept Q.queue (config_in Q.queue profile.now state.old) state.old }
     requires runs { (r : Running) × RunsIn state.old.initiators.items place r × (r.job ≡ job) }
-    ensures answer { Answers result (world_in Q.queue (config_in Q.queue profile.now state.old) state.old)
-        (world_in Q.queue (config_in Q.queue profile.now state.old) state.new)
-        (CancelsJob (world_in Q.queue (config_in Q.queue profile.now state.old) state.old) job) }
+    ensures done { EventDone Q.queue profile.now state.old result state.new (λ w. CancelsJob w job) }
     ensures refusal { RefusesFirst result (CancelsJob (world_in Q.queue (config_in Q.queue profile.now state.old) state.old) job) }
-    ensures fit { IsFit Q.queue (config_in Q.queue profile.now state.old) state.new }
-    ensures same { OnErr result (IsSameMachine Q.queue profile.now state.old state.new) }
     ensures extents { OnOk result (ExtentsFollow state.old.parts.store state.new.parts.store) }
 {
     match cancel_at(alloc, &mut state.parts, &mut state.initiators, place, job) {
@@ -206,12 +202,8 @@ pub(crate) fn cancel<Q: RecordStore>(
     job: u16,
 ) -> Result<Listed<Entry>, ApplyFault>
     requires { IsKept Q.queue (config_in Q.queue profile.now state.old) state.old }
-    ensures answer { Answers result (world_in Q.queue (config_in Q.queue profile.now state.old) state.old)
-        (world_in Q.queue (config_in Q.queue profile.now state.old) state.new)
-        (CancelsJob (world_in Q.queue (config_in Q.queue profile.now state.old) state.old) job) }
+    ensures done { EventDone Q.queue profile.now state.old result state.new (λ w. CancelsJob w job) }
     ensures refusal { RefusesFirst result (CancelsJob (world_in Q.queue (config_in Q.queue profile.now state.old) state.old) job) }
-    ensures fit { IsFit Q.queue (config_in Q.queue profile.now state.old) state.new }
-    ensures same { OnErr result (IsSameMachine Q.queue profile.now state.old state.new) }
     ensures extents { OnOk result (ExtentsFollow state.old.parts.store state.new.parts.store) }
 {
     if state.backlog.has(job) {

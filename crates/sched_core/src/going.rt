@@ -6,16 +6,17 @@ ghost use Rattle.jcl_plan.specs.declared.fault.Cause.{Cause};
 ghost use Rattle.world_meaning.specs.Transitions.{told_with};
 ghost use Rattle.world_meaning.specs.Worlds.{of_job};
 ghost use Rattle.init_core.specs.Extents.{ExtentsFollow};
+ghost use Rattle.init_core.specs.Going.{MayLeave};
 ghost use Rattle.init_core.specs.Providing.{IsProvided};
 ghost use Rattle.init_core.specs.Running.{IsGood, IsReady, config_of, path_before, told_before};
 ghost use Rattle.init_core.specs.declared.running.Running.{Running};
 ghost use Rattle.sched_core.specs.Copies.{unless_risk};
-ghost use Rattle.sched_core.specs.Events.{ActsAt, Answers};
+ghost use Rattle.sched_core.specs.Done.{EventDone};
+ghost use Rattle.sched_core.specs.Events.{ActsAt};
 ghost use Rattle.sched_core.specs.Explaining.{most_explained, most_lines};
-ghost use Rattle.sched_core.specs.Fits.{IsFit, IsKept};
+ghost use Rattle.sched_core.specs.Fits.{IsKept};
 ghost use Rattle.sched_core.specs.Going.{HasRoomFor, TurnsJob};
-ghost use Rattle.sched_core.specs.Machines.{RunsIn, config_in, world_in};
-ghost use Rattle.sched_core.specs.Systems.{IsSameMachine};
+ghost use Rattle.sched_core.specs.Machines.{RunsIn, config_in};
 ghost use Rattle.sched_core.specs.declared.fault.ApplyFault.TheVariants.{Refused};
 
 use crate::copies::copied;
@@ -132,7 +133,7 @@ fn room_for(
     Ok(room)
 }
 
-/// A turn of the job of an initiator by which it may leave: it is read, has its names, is admitted or is over. An `Err` changes nothing.
+/// A turn of the job of an initiator by which it may leave: it is read, is admitted, or its END is due. An `Err` changes nothing.
 fn turn_away<Q: RecordStore>(
     alloc: Global,
     parts: &mut Parts<Q>,
@@ -142,7 +143,8 @@ fn turn_away<Q: RecordStore>(
 ) -> Result<Listed<Entry>, AllocError>
     requires good { IsGood Q.queue (config_of profile.now (Q.queue parts.old.queue).layout) parts.old }
     requires runs { (r : Running) × (x.old.running ≡ Some r) × IsReady (config_of profile.now (Q.queue parts.old.queue).layout) parts.old.names r
-        × IsProvided Q.queue (config_of profile.now (Q.queue parts.old.queue).layout) parts.old r × HasRoomFor profile.now r entries }
+        × IsProvided Q.queue (config_of profile.now (Q.queue parts.old.queue).layout) parts.old r × MayLeave profile.now parts.old r
+        × HasRoomFor profile.now r entries }
     ensures ok { IfOk result (TurnsJob Q.queue (config_of profile.now (Q.queue parts.old.queue).layout) parts.old x.old parts.new x.new) }
     ensures err { OnErr result ((parts.new ≡ parts.old) × (x.new ≡ x.old)) }
 {
@@ -183,12 +185,8 @@ pub(crate) fn go_on_at<Q: RecordStore>(
 ) -> Result<Listed<Entry>, ApplyFault>
     requires kept { IsKept Q.queue (config_in Q.queue profile.now state.old) state.old }
     requires runs { (r : Running) × RunsIn state.old.initiators.items place r }
-    ensures answer { Answers result (world_in Q.queue (config_in Q.queue profile.now state.old) state.old)
-        (world_in Q.queue (config_in Q.queue profile.now state.old) state.new)
-        (ActsAt state.old.parts.store (world_in Q.queue (config_in Q.queue profile.now state.old) state.old) place) }
+    ensures done { EventDone Q.queue profile.now state.old result state.new (λ w. ActsAt state.old.parts.store w place) }
     ensures never_refused { (cause : Cause) → result ≢ Err (Refused cause) }
-    ensures fit { IsFit Q.queue (config_in Q.queue profile.now state.old) state.new }
-    ensures same { OnErr result (IsSameMachine Q.queue profile.now state.old state.new) }
     ensures extents { OnOk result (ExtentsFollow state.old.parts.store state.new.parts.store) }
 {
     let x = &mut state.initiators[place];

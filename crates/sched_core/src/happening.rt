@@ -4,11 +4,12 @@ ghost use Rattle.jcl_job.specs.Jobs.{job_of};
 ghost use Rattle.machine_meaning.specs.declared.machine.TheConstants.{MOST_EVENTS};
 ghost use Rattle.world_meaning.specs.Transitions.{Does, Transition, Turns};
 ghost use Rattle.init_core.specs.Extents.{ExtentsFollow};
-ghost use Rattle.sched_core.specs.Events.{Answers, DoesSo, FollowsSo, RefusesFirst, TurnsSo};
-ghost use Rattle.sched_core.specs.Fits.{IsFit, IsKept};
+ghost use Rattle.sched_core.specs.Done.{EventDone};
+ghost use Rattle.sched_core.specs.Events.{DoesSo, FollowsSo, RefusesFirst, TurnsSo};
+ghost use Rattle.sched_core.specs.Fits.{IsKept};
 ghost use Rattle.sched_core.specs.Happening.{IsSeat};
 ghost use Rattle.sched_core.specs.Machines.{config_in, world_in};
-ghost use Rattle.sched_core.specs.Systems.{Applies, IsSameMachine, KeepsIfRefused, machine_in, meant_by};
+ghost use Rattle.sched_core.specs.Systems.{Applies, KeepsIfRefused, machine_in, meant_by};
 
 use crate::cancelling::cancel;
 use crate::fault::ApplyFault;
@@ -53,12 +54,8 @@ fn turn<Q: RecordStore>(
     room: &mut Vec<Entry>,
 ) -> Result<Listed<Entry>, ApplyFault>
     requires { IsKept Q.queue (config_in Q.queue profile.now state.old) state.old }
-    ensures answer { Answers result (world_in Q.queue (config_in Q.queue profile.now state.old) state.old)
-        (world_in Q.queue (config_in Q.queue profile.now state.old) state.new)
-        (TurnsSo state.old.parts.store (world_in Q.queue (config_in Q.queue profile.now state.old) state.old) number) }
+    ensures done { EventDone Q.queue profile.now state.old result state.new (λ w. TurnsSo state.old.parts.store w number) }
     ensures refusal { RefusesFirst result (Turns (world_in Q.queue (config_in Q.queue profile.now state.old) state.old) number) }
-    ensures fit { IsFit Q.queue (config_in Q.queue profile.now state.old) state.new }
-    ensures same { OnErr result (IsSameMachine Q.queue profile.now state.old state.new) }
     ensures extents { OnOk result (ExtentsFollow state.old.parts.store state.new.parts.store) }
 {
     let Some(place) = place_of(state.initiators.as_slice(), number) else {
@@ -83,14 +80,9 @@ fn happen<Q: RecordStore>(
 ) -> Result<Listed<Entry>, ApplyFault>
     requires kept { IsKept Q.queue (config_in Q.queue profile.now state.old) state.old }
     requires named { length units.now ≡ length profile.now.units.now }
-    ensures answer { Answers result (world_in Q.queue (config_in Q.queue profile.now state.old) state.old)
-        (world_in Q.queue (config_in Q.queue profile.now state.old) state.new)
-        (DoesSo state.old.parts.store (job_of units.now library.now) (world_in Q.queue (config_in Q.queue profile.now state.old) state.old)
-        (meant_by event.now)) }
+    ensures done { EventDone Q.queue profile.now state.old result state.new (λ w. DoesSo state.old.parts.store (job_of units.now library.now) w (meant_by event.now)) }
     ensures refusal { RefusesFirst result
         (Does (job_of units.now library.now) (world_in Q.queue (config_in Q.queue profile.now state.old) state.old) (meant_by event.now)) }
-    ensures fit { IsFit Q.queue (config_in Q.queue profile.now state.old) state.new }
-    ensures same { OnErr result (IsSameMachine Q.queue profile.now state.old state.new) }
     ensures extents { OnOk result (ExtentsFollow state.old.parts.store state.new.parts.store) }
 {
     match event {
@@ -112,7 +104,7 @@ fn happen<Q: RecordStore>(
             offset,
             bytes,
         } => zap(alloc, state, profile, *n, *offset, bytes.get().as_slice()),
-        Event::Display => display(alloc, state, profile),
+        Event::Display => display(alloc, state, profile, room),
     }
 }
 

@@ -8,11 +8,11 @@ ghost use Rattle.jcl_plan.specs.declared.fault.Cause.{Cause};
 ghost use Rattle.jcl_refs.specs.Plans.{most_steps};
 ghost use Rattle.machine_meaning.specs.declared.machine.TheConstants.{MOST_JOBS};
 ghost use Rattle.world_meaning.specs.Readings.{Reads, read_line};
-ghost use Rattle.sched_core.specs.Events.{Answers, RefusesFirst};
-ghost use Rattle.sched_core.specs.Fits.{IsFit, IsKept};
+ghost use Rattle.sched_core.specs.Done.{EventDone};
+ghost use Rattle.sched_core.specs.Events.{RefusesFirst};
+ghost use Rattle.sched_core.specs.Fits.{IsKept};
 ghost use Rattle.sched_core.specs.Machines.{config_in, world_in};
 ghost use Rattle.sched_core.specs.Reading.{ReadsPlan, TakesIn, listing_of};
-ghost use Rattle.sched_core.specs.Systems.{IsSameMachine};
 ghost use Rattle.sched_core.specs.declared.fault.ApplyFault.TheVariants.{Refused};
 
 use crate::fault::ApplyFault;
@@ -115,12 +115,8 @@ fn accept<Q: RecordStore>(
     requires kept { IsKept Q.queue (config_in Q.queue profile.now state.old) state.old }
     requires few { state.old.jobs < MOST_JOBS }
     requires writable { IsWritable most_steps (length profile.now.units.now) plan.now }
-    ensures answer { Answers result (world_in Q.queue (config_in Q.queue profile.now state.old) state.old)
-        (world_in Q.queue (config_in Q.queue profile.now state.old) state.new)
-        (ReadsPlan (world_in Q.queue (config_in Q.queue profile.now state.old) state.old) plan.now) }
+    ensures done { EventDone Q.queue profile.now state.old result state.new (λ w. ReadsPlan w plan.now) }
     ensures never_refused { (cause : Cause) → result ≢ Err (Refused cause) }
-    ensures fit { IsFit Q.queue (config_in Q.queue profile.now state.old) state.new }
-    ensures same { OnErr result (IsSameMachine Q.queue profile.now state.old state.new) }
     ensures store { state.new.parts.store ≡ state.old.parts.store }
 {
     let job = state.jobs + 1;
@@ -152,13 +148,9 @@ pub(crate) fn read<Q: RecordStore>(
 ) -> Result<Listed<Entry>, ApplyFault>
     requires kept { IsKept Q.queue (config_in Q.queue profile.now state.old) state.old }
     requires named { length units.now ≡ length profile.now.units.now }
-    ensures answer { Answers result (world_in Q.queue (config_in Q.queue profile.now state.old) state.old)
-        (world_in Q.queue (config_in Q.queue profile.now state.old) state.new)
-        (Reads (job_of units.now library.now) (world_in Q.queue (config_in Q.queue profile.now state.old) state.old) deck.now) }
+    ensures done { EventDone Q.queue profile.now state.old result state.new (λ w. Reads (job_of units.now library.now) w deck.now) }
     ensures refusal { RefusesFirst result
         (Reads (job_of units.now library.now) (world_in Q.queue (config_in Q.queue profile.now state.old) state.old) deck.now) }
-    ensures fit { IsFit Q.queue (config_in Q.queue profile.now state.old) state.new }
-    ensures same { OnErr result (IsSameMachine Q.queue profile.now state.old state.new) }
     ensures store { state.new.parts.store ≡ state.old.parts.store }
 {
     if MOST_JOBS <= state.jobs {

@@ -8,11 +8,11 @@ ghost use Rattle.world_meaning.specs.Selections.{Selects};
 ghost use Rattle.job_core.specs.Backlogs.{IsListingOf, told};
 ghost use Rattle.job_core.specs.Listed.{AreListed, but_listing};
 ghost use Rattle.job_core.specs.declared.backlog.Listing.{Listing};
-ghost use Rattle.sched_core.specs.Events.{Answers, SelectsAt};
-ghost use Rattle.sched_core.specs.Fits.{IsFit, IsKept};
-ghost use Rattle.sched_core.specs.Machines.{config_in, world_in};
+ghost use Rattle.sched_core.specs.Done.{EventDone};
+ghost use Rattle.sched_core.specs.Events.{SelectsAt};
+ghost use Rattle.sched_core.specs.Fits.{IsKept};
+ghost use Rattle.sched_core.specs.Machines.{config_in};
 ghost use Rattle.sched_core.specs.Selecting.{IsIdleAt, Seats, queue_without, selected_as};
-ghost use Rattle.sched_core.specs.Systems.{IsSameMachine};
 ghost use Rattle.sched_core.specs.declared.fault.ApplyFault.TheVariants.{Refused};
 
 use crate::fault::ApplyFault;
@@ -122,12 +122,8 @@ pub(crate) fn select_at<Q: RecordStore>(
 ) -> Result<Listed<Entry>, ApplyFault>
     requires kept { IsKept Q.queue (config_in Q.queue profile.now state.old) state.old }
     requires idle { IsIdleAt state.old.initiators.items place }
-    ensures answer { Answers result (world_in Q.queue (config_in Q.queue profile.now state.old) state.old)
-        (world_in Q.queue (config_in Q.queue profile.now state.old) state.new)
-        (SelectsAt (world_in Q.queue (config_in Q.queue profile.now state.old) state.old) place) }
+    ensures done { EventDone Q.queue profile.now state.old result state.new (λ w. SelectsAt w place) }
     ensures never_refused { (cause : Cause) → result ≢ Err (Refused cause) }
-    ensures fit { IsFit Q.queue (config_in Q.queue profile.now state.old) state.new }
-    ensures same { OnErr result (IsSameMachine Q.queue profile.now state.old state.new) }
     ensures store { state.new.parts.store ≡ state.old.parts.store }
 {
     let _layout = state.parts.queue.layout();

@@ -1,12 +1,12 @@
 //! The events that change no job at an initiator: a device's end, a writer's line, and what is shown.
-ghost use Rattle.std.specs.Prelude.{◌≡◌, ◌≢◌, ◌≤◌, Err, OnErr, filter, is_some, length};
+ghost use Rattle.std.specs.Prelude.{◌≡◌, ◌≢◌, ◌≤◌, Err, filter, is_some, length};
 ghost use Rattle.jcl_plan.specs.declared.fault.Cause.{Cause};
 ghost use Rattle.world_meaning.specs.Devices.{EndsDevice, Writes};
 ghost use Rattle.world_meaning.specs.Transitions.{Shows};
-ghost use Rattle.sched_core.specs.Events.{Answers, RefusesFirst};
-ghost use Rattle.sched_core.specs.Fits.{IsFit, IsKept};
+ghost use Rattle.sched_core.specs.Done.{EventDone};
+ghost use Rattle.sched_core.specs.Events.{RefusesFirst};
+ghost use Rattle.sched_core.specs.Fits.{IsKept};
 ghost use Rattle.sched_core.specs.Machines.{config_in, world_in};
-ghost use Rattle.sched_core.specs.Systems.{IsSameMachine};
 ghost use Rattle.sched_core.specs.declared.fault.ApplyFault.TheVariants.{Refused};
 
 use crate::fault::ApplyFault;
@@ -20,6 +20,7 @@ use job_core::laws::waiting_are_listed;
 use machine_core::events;
 use plain::listed::Listed;
 use std::alloc::Global;
+use std::mem;
 
 /// The operation under way on a volume ends.
 pub(crate) fn end_device<Q: RecordStore>(
@@ -29,12 +30,8 @@ pub(crate) fn end_device<Q: RecordStore>(
     serial: Serial,
 ) -> Result<Listed<Entry>, ApplyFault>
     requires { IsKept Q.queue (config_in Q.queue profile.now state.old) state.old }
-    ensures answer { Answers result (world_in Q.queue (config_in Q.queue profile.now state.old) state.old)
-        (world_in Q.queue (config_in Q.queue profile.now state.old) state.new)
-        (EndsDevice (world_in Q.queue (config_in Q.queue profile.now state.old) state.old) serial) }
+    ensures done { EventDone Q.queue profile.now state.old result state.new (λ w. EndsDevice w serial) }
     ensures refusal { RefusesFirst result (EndsDevice (world_in Q.queue (config_in Q.queue profile.now state.old) state.old) serial) }
-    ensures fit { IsFit Q.queue (config_in Q.queue profile.now state.old) state.new }
-    ensures same { OnErr result (IsSameMachine Q.queue profile.now state.old state.new) }
     ensures store { state.new.parts.store ≡ state.old.parts.store }
 {
     match events::end_device(&mut state.parts, profile.volumes, serial) {
@@ -51,12 +48,8 @@ pub(crate) fn write<Q: RecordStore>(
     class: u8,
 ) -> Result<Listed<Entry>, ApplyFault>
     requires { IsKept Q.queue (config_in Q.queue profile.now state.old) state.old }
-    ensures answer { Answers result (world_in Q.queue (config_in Q.queue profile.now state.old) state.old)
-        (world_in Q.queue (config_in Q.queue profile.now state.old) state.new)
-        (Writes (world_in Q.queue (config_in Q.queue profile.now state.old) state.old) class) }
+    ensures done { EventDone Q.queue profile.now state.old result state.new (λ w. Writes w class) }
     ensures never_refused { (cause : Cause) → result ≢ Err (Refused cause) }
-    ensures fit { IsFit Q.queue (config_in Q.queue profile.now state.old) state.new }
-    ensures same { OnErr result (IsSameMachine Q.queue profile.now state.old state.new) }
     ensures store { state.new.parts.store ≡ state.old.parts.store }
 {
     let mut lines = Vec::with_capacity(alloc, 1)?;
@@ -90,20 +83,19 @@ fn count_busy(initiators: &[Initiator]) -> usize
     }
 }
 
-/// The volumes and the queue are shown.
+/// The volumes and the queue are shown. The lines are in the room, where that is enough.
 pub(crate) fn display<Q: RecordStore>(
     alloc: Global,
     state: &State<Q>,
     profile: &Profile<'_>,
+    room: &mut Vec<Entry>,
 ) -> Result<Listed<Entry>, ApplyFault>
     requires { IsKept Q.queue (config_in Q.queue profile.now state.now) state.now }
-    ensures answer { Answers result (world_in Q.queue (config_in Q.queue profile.now state.now) state.now)
-        (world_in Q.queue (config_in Q.queue profile.now state.now) state.now)
-        (Shows (world_in Q.queue (config_in Q.queue profile.now state.now) state.now)) }
+    ensures done { EventDone Q.queue profile.now state.now result state.now (λ w. Shows w) }
     ensures never_refused { (cause : Cause) → result ≢ Err (Refused cause) }
 {
     waiting_are_listed();
     let running = count_busy(state.initiators.as_slice());
-    let lines = events::show(alloc, &state.parts, profile.volumes, running)?;
+    let lines = events::show(&state.parts, running, mem::replace(room, Vec::new(alloc)))?;
     Ok(lines)
 }

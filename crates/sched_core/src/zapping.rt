@@ -7,10 +7,10 @@ ghost use Rattle.job_core.specs.Listed.{AreListed};
 ghost use Rattle.world_meaning.specs.Worlds.{Config};
 ghost use Rattle.world_meaning.specs.Zaps.{ZapsRecord, is_within};
 ghost use Rattle.sched_core.specs.Cancelling.{has_job};
-ghost use Rattle.sched_core.specs.Events.{Answers, RefusesFirst};
-ghost use Rattle.sched_core.specs.Fits.{IsFit, IsKept};
+ghost use Rattle.sched_core.specs.Done.{EventDone};
+ghost use Rattle.sched_core.specs.Events.{RefusesFirst};
+ghost use Rattle.sched_core.specs.Fits.{IsKept};
 ghost use Rattle.sched_core.specs.Machines.{config_in, world_in};
-ghost use Rattle.sched_core.specs.Systems.{IsSameMachine};
 ghost use Rattle.sched_core.specs.Zapping.{IsJudged, IsOpen, fault_of_owner};
 
 use crate::cancelling::has_job;
@@ -90,12 +90,8 @@ pub(crate) fn zap<Q: RecordStore>(
     bytes: &[u8],
 ) -> Result<Listed<Entry>, ApplyFault>
     requires { IsKept Q.queue (config_in Q.queue profile.now state.old) state.old }
-    ensures answer { Answers result (world_in Q.queue (config_in Q.queue profile.now state.old) state.old)
-        (world_in Q.queue (config_in Q.queue profile.now state.old) state.new)
-        (ZapsRecord (world_in Q.queue (config_in Q.queue profile.now state.old) state.old) n offset bytes.now) }
+    ensures done { EventDone Q.queue profile.now state.old result state.new (λ w. ZapsRecord w n offset bytes.now) }
     ensures refusal { RefusesFirst result (ZapsRecord (world_in Q.queue (config_in Q.queue profile.now state.old) state.old) n offset bytes.now) }
-    ensures fit { IsFit Q.queue (config_in Q.queue profile.now state.old) state.new }
-    ensures same { OnErr result (IsSameMachine Q.queue profile.now state.old state.new) }
     ensures store { state.new.parts.store ≡ state.old.parts.store }
 {
     if let Some(fault) = zap_fault(&*state, n, offset, bytes.len()) {

@@ -11,7 +11,7 @@ returns-in-Admitted-clause-ok g c =
     let queue_of = g.Q.RecordStore.queue in
     let p = c.args.parts.now in
     let before = c.args.running.now in
-    subst (λ (s : Stage). IfOk c.act.result (WentInPlace queue_of (config_of c.args.profile.now (queue_of p.queue).layout) p
+    subst (λ (s : Stage). IfOk c.act.result (WentInPlace queue_of c.args.profile.now p
     (record { job = before.job; walk = before.walk; stage = s }) c.act.new.parts
     (record { job = before.job; walk = c.act.new.walk; stage = stage.Admitted c.in-Admitted.admitted })))
     (sym c.in-Admitted.is)

@@ -4,7 +4,7 @@ use Rattle.sched_core.specs.Machines.{config_in, world_in}
 use Rattle.sched_core.specs.Systems.{parts_of}
 use Rattle.sched_core.specs.declared.fault.ApplyFault.TheVariants.{Memory}
 use Rattle.sched_core.proofs.Cancelled.{fit_running, leads_running, never_refused, some_running}
-use Rattle.sched_core.proofs.Unchanged.{queue_alone, same_fit, same_machine}
+use Rattle.sched_core.proofs.Unchanged.{same_world, queue_alone, same_fit, same_machine}
 use Rattle.sched_core.proofs.Followed.{cancelled_extents}
 use Rattle.sched_core.proofs.cancelling.cancel_there.Goals as goal
 
@@ -24,12 +24,20 @@ cancel_at-requires g c =
       },
     )
 
-pub returns-in-Ok-clause-answer : goal.returns-in-Ok-clause-answer
-returns-in-Ok-clause-answer g c =
-    let s = c.args.state.now in
-    leads_running g.Q.RecordStore.queue (config_in g.Q.RecordStore.queue c.args.profile.now s) s c.requires.kept c.args.job
-    (record s { parts = c.cancel_at.new.parts; initiators = c.cancel_at.new.initiators }) c.in-Ok.lines refl refl
-    c.args.place c.requires.runs.0 c.requires.runs.1 c.requires.runs.2 refl c.in-Ok.ensures.ok
+pub returns-in-Ok-clause-done : goal.returns-in-Ok-clause-done
+returns-in-Ok-clause-done g c = record {
+  answer =
+      let s = c.args.state.now in
+      leads_running g.Q.RecordStore.queue (config_in g.Q.RecordStore.queue c.args.profile.now s) s c.requires.kept c.args.job
+      (record s { parts = c.cancel_at.new.parts; initiators = c.cancel_at.new.initiators }) c.in-Ok.lines refl refl
+      c.args.place c.requires.runs.0 c.requires.runs.1 c.requires.runs.2 refl c.in-Ok.ensures.ok;
+  fit =
+      let s = c.args.state.now in
+      fit_running g.Q.RecordStore.queue (config_in g.Q.RecordStore.queue c.args.profile.now s) s c.requires.kept c.args.job
+      (record s { parts = c.cancel_at.new.parts; initiators = c.cancel_at.new.initiators }) c.in-Ok.lines refl refl
+      c.args.place c.requires.runs.0 c.requires.runs.1 c.requires.runs.2 refl c.in-Ok.ensures.ok;
+  same = tt;
+}
 
 pub returns-in-Ok-clause-refusal : goal.returns-in-Ok-clause-refusal
 returns-in-Ok-clause-refusal g c =
@@ -38,13 +46,6 @@ returns-in-Ok-clause-refusal g c =
     (some_running g.Q.RecordStore.queue (config_in g.Q.RecordStore.queue c.args.profile.now s) s c.requires.kept c.args.job
     c.args.place c.requires.runs.0 c.requires.runs.1 c.requires.runs.2)
 
-pub returns-in-Ok-clause-fit : goal.returns-in-Ok-clause-fit
-returns-in-Ok-clause-fit g c =
-    let s = c.args.state.now in
-    fit_running g.Q.RecordStore.queue (config_in g.Q.RecordStore.queue c.args.profile.now s) s c.requires.kept c.args.job
-    (record s { parts = c.cancel_at.new.parts; initiators = c.cancel_at.new.initiators }) c.in-Ok.lines refl refl
-    c.args.place c.requires.runs.0 c.requires.runs.1 c.requires.runs.2 refl c.in-Ok.ensures.ok
-
 pub returns-in-Err-clause-refusal : goal.returns-in-Err-clause-refusal
 returns-in-Err-clause-refusal g c =
     let s = c.args.state.now in
@@ -52,20 +53,27 @@ returns-in-Err-clause-refusal g c =
     (some_running g.Q.RecordStore.queue (config_in g.Q.RecordStore.queue c.args.profile.now s) s c.requires.kept c.args.job
     c.args.place c.requires.runs.0 c.requires.runs.1 c.requires.runs.2)
 
-pub returns-in-Err-clause-fit : goal.returns-in-Err-clause-fit
-returns-in-Err-clause-fit g c =
-    let s = c.args.state.now in
-    let same = c.in-Err.ensures.err.0 in
-    same_fit g.Q.RecordStore.queue (config_in g.Q.RecordStore.queue c.args.profile.now s) s
-    (record s { parts = c.cancel_at.new.parts; initiators = c.cancel_at.new.initiators })
-    (queue_alone s.parts c.cancel_at.new.parts same)
-    (ap (λ (p : Parts _). g.Q.RecordStore.queue p.queue) same) refl c.in-Err.ensures.err.1 refl refl c.requires.kept.fit
-
-pub returns-in-Err-clause-same : goal.returns-in-Err-clause-same
-returns-in-Err-clause-same g c =
-    let s = c.args.state.now in
-    same_machine g.Q.RecordStore.queue c.args.profile.now s (record s { parts = c.cancel_at.new.parts; initiators = c.cancel_at.new.initiators })
-    (ap (parts_of g.Q.RecordStore.queue) c.in-Err.ensures.err.0) c.in-Err.ensures.err.1 refl refl refl
+pub returns-in-Err-clause-done : goal.returns-in-Err-clause-done
+returns-in-Err-clause-done g c = record {
+  answer =
+      let s = c.args.state.now in
+      let same = c.in-Err.ensures.err.0 in
+      same_world g.Q.RecordStore.queue (config_in g.Q.RecordStore.queue c.args.profile.now s) s
+      (record s { parts = c.cancel_at.new.parts; initiators = c.cancel_at.new.initiators })
+      (queue_alone s.parts c.cancel_at.new.parts same)
+      (ap (λ (p : Parts _). g.Q.RecordStore.queue p.queue) same) refl c.in-Err.ensures.err.1 refl refl;
+  fit =
+      let s = c.args.state.now in
+      let same = c.in-Err.ensures.err.0 in
+      same_fit g.Q.RecordStore.queue (config_in g.Q.RecordStore.queue c.args.profile.now s) s
+      (record s { parts = c.cancel_at.new.parts; initiators = c.cancel_at.new.initiators })
+      (queue_alone s.parts c.cancel_at.new.parts same)
+      (ap (λ (p : Parts _). g.Q.RecordStore.queue p.queue) same) refl c.in-Err.ensures.err.1 refl refl c.requires.kept.fit;
+  same =
+      let s = c.args.state.now in
+      same_machine g.Q.RecordStore.queue c.args.profile.now s (record s { parts = c.cancel_at.new.parts; initiators = c.cancel_at.new.initiators })
+      (ap (parts_of g.Q.RecordStore.queue) c.in-Err.ensures.err.0) c.in-Err.ensures.err.1 refl refl refl;
+}
 
 pub returns-in-Ok-clause-extents : goal.returns-in-Ok-clause-extents
 returns-in-Ok-clause-extents g c = cancelled_extents c.in-Ok.ensures.ok.cancels

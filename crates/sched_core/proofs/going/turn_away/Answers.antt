@@ -27,7 +27,7 @@ tell_answer-requires g c =
     few_paths c.explanation_is_few.ensures queue_of c.args.profile.now layout c.args.parts.now c.in-Some.running c.go_on.new.parts
     (Answered c.in-Ok-Answered.running c.in-Ok-Answered.told) went in
     let is : c.requires.runs.0 ≡ c.in-Some.running = cc (c.requires.runs.1, c.in-Some.ensures.value) in
-    let room = subst (λ r. HasRoomFor c.args.profile.now r c.args.entries) is c.requires.runs.4 in
+    let room = subst (λ r. HasRoomFor c.args.profile.now r c.args.entries) is c.requires.runs.5 in
     let none = room.empty in
     let left = room.room in
     omega (arith, few, none, left)
@@ -42,7 +42,7 @@ tell_end-requires g c =
     few_paths c.explanation_is_few.ensures queue_of c.args.profile.now layout c.args.parts.now c.in-Some.running c.go_on.new.parts
     (Over c.in-Ok-Over.before c.in-Ok-Over.last) went in
     let is : c.requires.runs.0 ≡ c.in-Some.running = cc (c.requires.runs.1, c.in-Some.ensures.value) in
-    let room = subst (λ r. HasRoomFor c.args.profile.now r c.args.entries) is c.requires.runs.4 in
+    let room = subst (λ r. HasRoomFor c.args.profile.now r c.args.entries) is c.requires.runs.5 in
     let none = room.empty in
     let left = room.room in
     omega (arith, few, none, left)

@@ -11,16 +11,20 @@ use Rattle.sched_core.proofs.Happened.{never_so, shows_never, so_answers, writes
 use Rattle.sched_core.proofs.Followed.{on_ok, same_extents}
 use Rattle.sched_core.proofs.happening.happen.Goals as goal
 
-pub returns-in-Read-clause-answer : goal.returns-in-Read-clause-answer
-returns-in-Read-clause-answer g c =
-    let queue_of = g.Q.RecordStore.queue in
-    let s = c.args.state.now in
-    let config = config_in queue_of c.args.profile.now s in
-    let job = job_of c.args.units.now c.args.library.now in
-    let w = world_in queue_of config s in
-    subst (λ e. Answers c.read.result w (world_in queue_of config c.read.new.state) (DoesSo s.parts.store job w (meant_by e))) (sym c.in-Read.is)
-    (so_answers c.read.result w (world_in queue_of config c.read.new.state) _ _ (λ lines v d. (d, tt))
-    (subst (λ d. Answers c.read.result w (world_in queue_of config c.read.new.state) (Reads job w d)) (c.as_slice.ensures ∙ c.get.ensures) c.read.ensures.answer))
+pub returns-in-Read-clause-done : goal.returns-in-Read-clause-done
+returns-in-Read-clause-done g c = record {
+  answer =
+      let queue_of = g.Q.RecordStore.queue in
+      let s = c.args.state.now in
+      let config = config_in queue_of c.args.profile.now s in
+      let job = job_of c.args.units.now c.args.library.now in
+      let w = world_in queue_of config s in
+      subst (λ e. Answers c.read.result w (world_in queue_of config c.read.new.state) (DoesSo s.parts.store job w (meant_by e))) (sym c.in-Read.is)
+      (so_answers c.read.result w (world_in queue_of config c.read.new.state) _ _ (λ lines v d. (d, tt))
+      (subst (λ d. Answers c.read.result w (world_in queue_of config c.read.new.state) (Reads job w d)) (c.as_slice.ensures ∙ c.get.ensures) c.read.ensures.done.answer));
+  fit = c.read.ensures.done.fit;
+  same = c.read.ensures.done.same;
+}
 
 pub returns-in-Read-clause-refusal : goal.returns-in-Read-clause-refusal
 returns-in-Read-clause-refusal g c =
@@ -32,14 +36,18 @@ returns-in-Read-clause-refusal g c =
     subst (λ e. RefusesFirst c.read.result (Does job w (meant_by e))) (sym c.in-Read.is)
     (subst (λ d. RefusesFirst c.read.result (Reads job w d)) (c.as_slice.ensures ∙ c.get.ensures) c.read.ensures.refusal)
 
-pub returns-in-Turn-clause-answer : goal.returns-in-Turn-clause-answer
-returns-in-Turn-clause-answer g c =
-    let queue_of = g.Q.RecordStore.queue in
-    let s = c.args.state.now in
-    let config = config_in queue_of c.args.profile.now s in
-    let job = job_of c.args.units.now c.args.library.now in
-    let w = world_in queue_of config s in
-    subst (λ e. Answers c.turn.result w (world_in queue_of config c.turn.new.state) (DoesSo s.parts.store job w (meant_by e))) (sym c.in-Turn.is) c.turn.ensures.answer
+pub returns-in-Turn-clause-done : goal.returns-in-Turn-clause-done
+returns-in-Turn-clause-done g c = record {
+  answer =
+      let queue_of = g.Q.RecordStore.queue in
+      let s = c.args.state.now in
+      let config = config_in queue_of c.args.profile.now s in
+      let job = job_of c.args.units.now c.args.library.now in
+      let w = world_in queue_of config s in
+      subst (λ e. Answers c.turn.result w (world_in queue_of config c.turn.new.state) (DoesSo s.parts.store job w (meant_by e))) (sym c.in-Turn.is) c.turn.ensures.done.answer;
+  fit = c.turn.ensures.done.fit;
+  same = c.turn.ensures.done.same;
+}
 
 pub returns-in-Turn-clause-refusal : goal.returns-in-Turn-clause-refusal
 returns-in-Turn-clause-refusal g c =
@@ -50,15 +58,19 @@ returns-in-Turn-clause-refusal g c =
     let w = world_in queue_of config s in
     subst (λ e. RefusesFirst c.turn.result (Does job w (meant_by e))) (sym c.in-Turn.is) c.turn.ensures.refusal
 
-pub returns-in-DeviceEnd-clause-answer : goal.returns-in-DeviceEnd-clause-answer
-returns-in-DeviceEnd-clause-answer g c =
-    let queue_of = g.Q.RecordStore.queue in
-    let s = c.args.state.now in
-    let config = config_in queue_of c.args.profile.now s in
-    let job = job_of c.args.units.now c.args.library.now in
-    let w = world_in queue_of config s in
-    subst (λ e. Answers c.end_device.result w (world_in queue_of config c.end_device.new.state) (DoesSo s.parts.store job w (meant_by e))) (sym c.in-DeviceEnd.is)
-    (so_answers c.end_device.result w (world_in queue_of config c.end_device.new.state) _ _ (λ lines v d. (d, tt)) c.end_device.ensures.answer)
+pub returns-in-DeviceEnd-clause-done : goal.returns-in-DeviceEnd-clause-done
+returns-in-DeviceEnd-clause-done g c = record {
+  answer =
+      let queue_of = g.Q.RecordStore.queue in
+      let s = c.args.state.now in
+      let config = config_in queue_of c.args.profile.now s in
+      let job = job_of c.args.units.now c.args.library.now in
+      let w = world_in queue_of config s in
+      subst (λ e. Answers c.end_device.result w (world_in queue_of config c.end_device.new.state) (DoesSo s.parts.store job w (meant_by e))) (sym c.in-DeviceEnd.is)
+      (so_answers c.end_device.result w (world_in queue_of config c.end_device.new.state) _ _ (λ lines v d. (d, tt)) c.end_device.ensures.done.answer);
+  fit = c.end_device.ensures.done.fit;
+  same = c.end_device.ensures.done.same;
+}
 
 pub returns-in-DeviceEnd-clause-refusal : goal.returns-in-DeviceEnd-clause-refusal
 returns-in-DeviceEnd-clause-refusal g c =
@@ -69,15 +81,19 @@ returns-in-DeviceEnd-clause-refusal g c =
     let w = world_in queue_of config s in
     subst (λ e. RefusesFirst c.end_device.result (Does job w (meant_by e))) (sym c.in-DeviceEnd.is) c.end_device.ensures.refusal
 
-pub returns-in-Write-clause-answer : goal.returns-in-Write-clause-answer
-returns-in-Write-clause-answer g c =
-    let queue_of = g.Q.RecordStore.queue in
-    let s = c.args.state.now in
-    let config = config_in queue_of c.args.profile.now s in
-    let job = job_of c.args.units.now c.args.library.now in
-    let w = world_in queue_of config s in
-    subst (λ e. Answers c.write.result w (world_in queue_of config c.write.new.state) (DoesSo s.parts.store job w (meant_by e))) (sym c.in-Write.is)
-    (so_answers c.write.result w (world_in queue_of config c.write.new.state) _ _ (λ lines v d. (d, tt)) c.write.ensures.answer)
+pub returns-in-Write-clause-done : goal.returns-in-Write-clause-done
+returns-in-Write-clause-done g c = record {
+  answer =
+      let queue_of = g.Q.RecordStore.queue in
+      let s = c.args.state.now in
+      let config = config_in queue_of c.args.profile.now s in
+      let job = job_of c.args.units.now c.args.library.now in
+      let w = world_in queue_of config s in
+      subst (λ e. Answers c.write.result w (world_in queue_of config c.write.new.state) (DoesSo s.parts.store job w (meant_by e))) (sym c.in-Write.is)
+      (so_answers c.write.result w (world_in queue_of config c.write.new.state) _ _ (λ lines v d. (d, tt)) c.write.ensures.done.answer);
+  fit = c.write.ensures.done.fit;
+  same = c.write.ensures.done.same;
+}
 
 pub returns-in-Write-clause-refusal : goal.returns-in-Write-clause-refusal
 returns-in-Write-clause-refusal g c =
@@ -88,15 +104,19 @@ returns-in-Write-clause-refusal g c =
     let w = world_in queue_of config s in
     subst (λ e. RefusesFirst c.write.result (Does job w (meant_by e))) (sym c.in-Write.is) (never_so (Writes w c.in-Write.class) c.write.result (writes_never w c.in-Write.class))
 
-pub returns-in-Cancel-clause-answer : goal.returns-in-Cancel-clause-answer
-returns-in-Cancel-clause-answer g c =
-    let queue_of = g.Q.RecordStore.queue in
-    let s = c.args.state.now in
-    let config = config_in queue_of c.args.profile.now s in
-    let job = job_of c.args.units.now c.args.library.now in
-    let w = world_in queue_of config s in
-    subst (λ e. Answers c.cancel.result w (world_in queue_of config c.cancel.new.state) (DoesSo s.parts.store job w (meant_by e))) (sym c.in-Cancel.is)
-    (so_answers c.cancel.result w (world_in queue_of config c.cancel.new.state) _ _ (λ lines v d. (d, tt)) c.cancel.ensures.answer)
+pub returns-in-Cancel-clause-done : goal.returns-in-Cancel-clause-done
+returns-in-Cancel-clause-done g c = record {
+  answer =
+      let queue_of = g.Q.RecordStore.queue in
+      let s = c.args.state.now in
+      let config = config_in queue_of c.args.profile.now s in
+      let job = job_of c.args.units.now c.args.library.now in
+      let w = world_in queue_of config s in
+      subst (λ e. Answers c.cancel.result w (world_in queue_of config c.cancel.new.state) (DoesSo s.parts.store job w (meant_by e))) (sym c.in-Cancel.is)
+      (so_answers c.cancel.result w (world_in queue_of config c.cancel.new.state) _ _ (λ lines v d. (d, tt)) c.cancel.ensures.done.answer);
+  fit = c.cancel.ensures.done.fit;
+  same = c.cancel.ensures.done.same;
+}
 
 pub returns-in-Cancel-clause-refusal : goal.returns-in-Cancel-clause-refusal
 returns-in-Cancel-clause-refusal g c =
@@ -117,15 +137,19 @@ returns-in-Zap-clause-refusal g c =
     subst (λ e. RefusesFirst c.zap.result (Does job w (meant_by e))) (sym c.in-Zap.is)
     (subst (λ bytes. RefusesFirst c.zap.result (ZapsRecord w c.in-Zap.n c.in-Zap.offset bytes)) (c.as_slice-in-Zap.ensures.value ∙ c.get-in-Zap.ensures) c.zap.ensures.refusal)
 
-pub returns-in-Display-clause-answer : goal.returns-in-Display-clause-answer
-returns-in-Display-clause-answer g c =
-    let queue_of = g.Q.RecordStore.queue in
-    let s = c.args.state.now in
-    let config = config_in queue_of c.args.profile.now s in
-    let job = job_of c.args.units.now c.args.library.now in
-    let w = world_in queue_of config s in
-    subst (λ e. Answers c.display.result w (world_in queue_of config c.args.state.now) (DoesSo s.parts.store job w (meant_by e))) (sym c.in-Display.is)
-    (so_answers c.display.result w (world_in queue_of config c.args.state.now) _ _ (λ lines v d. (d, tt)) c.display.ensures.answer)
+pub returns-in-Display-clause-done : goal.returns-in-Display-clause-done
+returns-in-Display-clause-done g c = record {
+  answer =
+      let queue_of = g.Q.RecordStore.queue in
+      let s = c.args.state.now in
+      let config = config_in queue_of c.args.profile.now s in
+      let job = job_of c.args.units.now c.args.library.now in
+      let w = world_in queue_of config s in
+      subst (λ e. Answers c.display.result w (world_in queue_of config c.args.state.now) (DoesSo s.parts.store job w (meant_by e))) (sym c.in-Display.is)
+      (so_answers c.display.result w (world_in queue_of config c.args.state.now) _ _ (λ lines v d. (d, tt)) c.display.ensures.done.answer);
+  fit = c.display.ensures.done.fit;
+  same = c.display.ensures.done.same;
+}
 
 pub returns-in-Display-clause-refusal : goal.returns-in-Display-clause-refusal
 returns-in-Display-clause-refusal g c =
@@ -150,3 +174,19 @@ returns-in-Zap-clause-extents g c = on_ok c.zap.result (same_extents c.args.stat
 
 pub returns-in-Display-clause-extents : goal.returns-in-Display-clause-extents
 returns-in-Display-clause-extents g c = on_ok c.display.result (same_extents c.args.state.now.parts.store c.args.state.now.parts.store refl)
+
+pub returns-in-Zap-clause-done : goal.returns-in-Zap-clause-done
+returns-in-Zap-clause-done g c =
+    let queue_of = g.Q.RecordStore.queue in
+    let s = c.args.state.now in
+    let config = config_in queue_of c.args.profile.now s in
+    let job = job_of c.args.units.now c.args.library.now in
+    let w = world_in queue_of config s in
+    record {
+      answer = subst (λ e. Answers c.zap.result w (world_in queue_of config c.zap.new.state) (DoesSo s.parts.store job w (meant_by e))) (sym c.in-Zap.is)
+          (so_answers c.zap.result w (world_in queue_of config c.zap.new.state) _ _ (λ lines v d. (d, tt))
+          (subst (λ bytes. Answers c.zap.result w (world_in queue_of config c.zap.new.state) (ZapsRecord w c.in-Zap.n c.in-Zap.offset bytes))
+          (c.as_slice-in-Zap.ensures.value ∙ c.get-in-Zap.ensures) c.zap.ensures.done.answer));
+      fit = c.zap.ensures.done.fit;
+      same = c.zap.ensures.done.same;
+    }

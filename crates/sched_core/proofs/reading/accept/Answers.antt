@@ -15,37 +15,36 @@ take_in-requires-clause-listed g c =
     let s = c.args.state.now in
     listed_before g.Q.RecordStore.queue (config_in g.Q.RecordStore.queue c.args.profile.now s) s c.requires.kept c.requires.few
 
-pub returns-in-Ok-clause-answer : goal.returns-in-Ok-clause-answer
-returns-in-Ok-clause-answer g c =
-    let s = c.args.state.now in
-    leads g.Q.RecordStore.queue (config_in g.Q.RecordStore.queue c.args.profile.now s) s c.requires.kept c.requires.few c.args.plan.now
-    (record s { parts = record s.parts { queue = c.take_in.new.queue }; backlog = c.take_in.new.backlog; jobs = s.jobs + 1 })
-    c.in-Ok.lines refl refl refl refl c.requires.writable c.in-Ok.ensures.ok
+pub returns-in-Ok-clause-done : goal.returns-in-Ok-clause-done
+returns-in-Ok-clause-done g c = record {
+  answer =
+      let s = c.args.state.now in
+      leads g.Q.RecordStore.queue (config_in g.Q.RecordStore.queue c.args.profile.now s) s c.requires.kept c.requires.few c.args.plan.now
+      (record s { parts = record s.parts { queue = c.take_in.new.queue }; backlog = c.take_in.new.backlog; jobs = s.jobs + 1 })
+      c.in-Ok.lines refl refl refl refl c.requires.writable c.in-Ok.ensures.ok;
+  fit =
+      let s = c.args.state.now in
+      fit g.Q.RecordStore.queue (config_in g.Q.RecordStore.queue c.args.profile.now s) s c.requires.kept c.requires.few c.args.plan.now
+      (record s { parts = record s.parts { queue = c.take_in.new.queue }; backlog = c.take_in.new.backlog; jobs = s.jobs + 1 })
+      c.in-Ok.lines refl refl refl refl c.in-Ok.ensures.ok;
+  same = tt;
+}
 
-pub returns-in-Ok-clause-fit : goal.returns-in-Ok-clause-fit
-returns-in-Ok-clause-fit g c =
-    let s = c.args.state.now in
-    fit g.Q.RecordStore.queue (config_in g.Q.RecordStore.queue c.args.profile.now s) s c.requires.kept c.requires.few c.args.plan.now
-    (record s { parts = record s.parts { queue = c.take_in.new.queue }; backlog = c.take_in.new.backlog; jobs = s.jobs + 1 })
-    c.in-Ok.lines refl refl refl refl c.in-Ok.ensures.ok
-
-pub returns-in-Err-clause-answer : goal.returns-in-Err-clause-answer
-returns-in-Err-clause-answer g c =
-    let s = c.args.state.now in
-    same_world g.Q.RecordStore.queue (config_in g.Q.RecordStore.queue c.args.profile.now s) s
-    (record s { parts = record s.parts { queue = c.take_in.new.queue }; backlog = c.take_in.new.backlog })
-    refl c.in-Err.ensures.err.0 c.in-Err.ensures.err.1 refl refl refl
-
-pub returns-in-Err-clause-fit : goal.returns-in-Err-clause-fit
-returns-in-Err-clause-fit g c =
-    let s = c.args.state.now in
-    same_fit g.Q.RecordStore.queue (config_in g.Q.RecordStore.queue c.args.profile.now s) s
-    (record s { parts = record s.parts { queue = c.take_in.new.queue }; backlog = c.take_in.new.backlog })
-    refl c.in-Err.ensures.err.0 c.in-Err.ensures.err.1 refl refl refl c.requires.kept.fit
-
-pub returns-in-Err-clause-same : goal.returns-in-Err-clause-same
-returns-in-Err-clause-same g c =
-    let s = c.args.state.now in
-    same_machine g.Q.RecordStore.queue c.args.profile.now s
-    (record s { parts = record s.parts { queue = c.take_in.new.queue }; backlog = c.take_in.new.backlog })
-    (λ i. record (parts_of g.Q.RecordStore.queue s.parts) { queue = c.in-Err.ensures.err.0 i }) refl c.in-Err.ensures.err.1 refl refl
+pub returns-in-Err-clause-done : goal.returns-in-Err-clause-done
+returns-in-Err-clause-done g c = record {
+  answer =
+      let s = c.args.state.now in
+      same_world g.Q.RecordStore.queue (config_in g.Q.RecordStore.queue c.args.profile.now s) s
+      (record s { parts = record s.parts { queue = c.take_in.new.queue }; backlog = c.take_in.new.backlog })
+      refl c.in-Err.ensures.err.0 c.in-Err.ensures.err.1 refl refl refl;
+  fit =
+      let s = c.args.state.now in
+      same_fit g.Q.RecordStore.queue (config_in g.Q.RecordStore.queue c.args.profile.now s) s
+      (record s { parts = record s.parts { queue = c.take_in.new.queue }; backlog = c.take_in.new.backlog })
+      refl c.in-Err.ensures.err.0 c.in-Err.ensures.err.1 refl refl refl c.requires.kept.fit;
+  same =
+      let s = c.args.state.now in
+      same_machine g.Q.RecordStore.queue c.args.profile.now s
+      (record s { parts = record s.parts { queue = c.take_in.new.queue }; backlog = c.take_in.new.backlog })
+      (λ i. record (parts_of g.Q.RecordStore.queue s.parts) { queue = c.in-Err.ensures.err.0 i }) refl c.in-Err.ensures.err.1 refl refl;
+}

@@ -2,18 +2,20 @@ use Rattle.std.proofs.Common.{map, length, refl, sym, ap, ◌∙◌}
 use Rattle.config_core.specs.Configs.{unit_names}
 use Rattle.init_core.specs.declared.running.Profile.{Profile}
 use Rattle.sched_core.specs.declared.start.TheConstants.{FIRST_DAY}
-use Rattle.sched_core.proofs.Begun.{begins_kept, idle_seat, units_counted, units_few, world_at}
+use Rattle.sched_core.proofs.Begun.{begins_kept, idle_seat, units_counted, units_few, volumes_apart, world_at}
 use Rattle.sched_core.proofs.system.System.new.Goals as goal
 
 pub invariant_of-system : goal.invariant_of-system
 invariant_of-system g c = record {
   few_units = units_few c.requires.configured.0 c.args.store c.args.fixed.now c.requires.configured.1 c.requires.configured.2 c.volumes.result.now c.volumes.ensures;
+  apart = volumes_apart c.requires.configured.0 c.args.store c.args.fixed.now c.requires.configured.1 c.requires.configured.2 c.as_slice-2.result.now c.as_slice-2.ensures;
 }
 
 pub invariant_of-system-2 : goal.invariant_of-system-2
 invariant_of-system-2 g c =
     let fixed = c.args.fixed.now in
     let few = units_few c.requires.configured.0 c.args.store fixed c.requires.configured.1 c.requires.configured.2 c.volumes.result.now c.volumes.ensures in
+    let differ = volumes_apart c.requires.configured.0 c.args.store fixed c.requires.configured.1 c.requires.configured.2 c.as_slice-2.result.now c.as_slice-2.ensures in
     let p : Profile = record {
       volumes = c.as_slice-2.result;
       units = c.volumes.result;
@@ -22,6 +24,7 @@ invariant_of-system-2 g c =
       most_views = c.args.most_views;
       explains = c.args.explains;
       few_units = few;
+      apart = differ;
     } in
     record {
       kept = begins_kept g.Q.RecordStore.queue c.args.store c.args.queue fixed p c.started.result c.started.ensures.parts
@@ -36,6 +39,7 @@ pub returns-clause-started : goal.returns-clause-started
 returns-clause-started g c = λ config configured apart.
     let fixed = c.args.fixed.now in
     let few = units_few config c.args.store fixed configured apart c.volumes.result.now c.volumes.ensures in
+    let differ = volumes_apart config c.args.store fixed configured apart c.as_slice-2.result.now c.as_slice-2.ensures in
     let p : Profile = record {
       volumes = c.as_slice-2.result;
       units = c.volumes.result;
@@ -44,6 +48,7 @@ returns-clause-started g c = λ config configured apart.
       most_views = c.args.most_views;
       explains = c.args.explains;
       few_units = few;
+      apart = differ;
     } in
     record {
       is_start = c.configuration_is_start.ensures config c.args.refuses c.args.most_views c.args.explains FIRST_DAY _ configured c.requires.layout.link;
