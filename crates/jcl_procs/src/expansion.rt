@@ -29,7 +29,8 @@ use jcl_plan::fault::{Cause, StatementFault};
 use jcl_symbols::symbol::Symbol;
 use jname_core::name8::Name8;
 use plain::listed::Listed;
-use proc_library::library::{ProcLibrary, Reading};
+use proc_library::library::ProcLibrary;
+use proc_library::reading::Reading;
 use std::alloc::{AllocError, Global};
 use value_core::refusal::ReadError;
 
