@@ -1,5 +1,5 @@
 -- The volumes as they stand have the lines that are shown of them, serial by serial.
-use Rattle.std.proofs.Common.{◌≡◌, ◌≢◌, ◌∙◌, ◌++◌, Bool, false, ℕ, List, [], ◌∷◌, All, Option, Some, None, length, map, refl, sym, ap, cond}
+use Rattle.std.proofs.Common.{◌≡◌, ◌≢◌, ◌∙◌, ◌++◌, Bool, ℕ, List, [], ◌∷◌, All, Option, Some, length, map, refl, sym, ap, cond}
 use Rattle.std.specs.Prelude.{sum_by}
 use Rattle.std.specs.Str.{bytes_eq}
 use Rattle.std.proofs.lemmas.Bool.{false_from_ne_true}
@@ -11,12 +11,12 @@ use Rattle.jcl_plan.specs.declared.entry.Entry.TheVariants as entry
 use Rattle.cb_queue.specs.RecordQueues.{RecordQueue}
 use Rattle.mount_core.specs.Mounts.{MountedState}
 use Rattle.world_meaning.specs.Displays.{volume_line}
-use Rattle.world_meaning.specs.Worlds.{Shared, World}
+use Rattle.world_meaning.specs.Worlds.{Shared}
 use Rattle.place_core.specs.Placings.{serials_of}
 use Rattle.shared_core.specs.Shown.{mounted_in}
 use Rattle.shared_core.specs.Tracks.{free_tracks, kept_tracks}
 use Rattle.machine_core.specs.declared.parts.Parts.{Parts}
-use Rattle.machine_core.specs.Events.{IsShowing, Shows, line_of}
+use Rattle.machine_core.specs.Events.{Shows, line_of}
 use Rattle.machine_core.specs.Shown.{shown}
 
 abbrev at : List ℕ → MountedState → List MountedState → Bool → Option MountedState

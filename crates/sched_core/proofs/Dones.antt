@@ -1,14 +1,13 @@
 -- What an event comes to that was done, or changed nothing.
-use Rattle.std.proofs.Common.{◌≡◌, List, [], ◌∷◌, Result, Ok, Err, ap, refl, ◌∙◌}
+use Rattle.std.proofs.Common.{◌≡◌, List, [], ◌∷◌, Result, Ok, Err, ap, ◌∙◌}
 use Rattle.cb_queue.specs.RecordQueues.{RecordQueue}
 use Rattle.jcl_plan.specs.declared.entry.Entry.{Entry}
 use Rattle.jcl_plan.specs.declared.entry.Entry.TheVariants as entry
 use Rattle.jcl_plan.specs.declared.fault.Cause.{Cause}
 use Rattle.world_meaning.specs.Worlds.{World}
-use Rattle.machine_core.specs.declared.parts.Parts.{Parts}
 use Rattle.init_core.specs.declared.running.Profile.{Profile}
 use Rattle.sched_core.specs.Done.{EventDone}
-use Rattle.sched_core.specs.Events.{Answers, LeadsTo}
+use Rattle.sched_core.specs.Events.{LeadsTo}
 use Rattle.sched_core.specs.Fits.{IsFit, IsKept}
 use Rattle.sched_core.specs.Machines.{config_in, world_in}
 use Rattle.sched_core.specs.Systems.{IsSameMachine, parts_of}

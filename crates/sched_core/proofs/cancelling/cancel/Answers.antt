@@ -84,9 +84,9 @@ returns-in_default-clause-done g c = record {
       let s = c.args.state.now in
       let none = All-same (λ x. has_job x.running c.args.job ≡ false) s.initiators.items c.as_slice.result.now
       (sym c.as_slice.ensures.value) c.in_default.ensures.none in (
-      table.no_job (no_job g.Q.RecordStore.queue (config_in g.Q.RecordStore.queue c.args.profile.now s) s c.requires c.args.job
-          (sym c.if-has.ensures) none) refl refl,
-      refl,
+        table.no_job (no_job g.Q.RecordStore.queue (config_in g.Q.RecordStore.queue c.args.profile.now s) s c.requires c.args.job
+            (sym c.if-has.ensures) none) refl refl,
+        refl,
       );
   fit = c.requires.fit;
   same = λ names library. refl;

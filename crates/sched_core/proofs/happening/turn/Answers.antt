@@ -11,9 +11,9 @@ pub returns-in_default-clause-done : goal.returns-in_default-clause-done
 returns-in_default-clause-done g c = record {
   answer =
       let s = c.args.state.now in (
-      refused g.Q.RecordStore.queue (config_in g.Q.RecordStore.queue c.args.profile.now s) s c.args.number
-          (subst (λ xs. All (λ (x : Initiator). x.number ≢ c.args.number) xs) c.as_slice.ensures.value (c.in_default.ensures.none)),
-      refl,
+        refused g.Q.RecordStore.queue (config_in g.Q.RecordStore.queue c.args.profile.now s) s c.args.number
+            (subst (λ xs. All (λ (x : Initiator). x.number ≢ c.args.number) xs) c.as_slice.ensures.value (c.in_default.ensures.none)),
+        refl,
       );
   fit = c.requires.fit;
   same = λ names library. refl;

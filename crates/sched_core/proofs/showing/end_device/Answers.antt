@@ -33,8 +33,8 @@ returns-in-Err-clause-done g c = record {
   answer =
       let queue_of = g.Q.RecordStore.queue in
       let s = c.args.state.now in (
-      is_refused queue_of (config_in queue_of c.args.profile.now s) s c.requires c.args.serial c.in-Err.fault c.in-Err.ensures.refused,
-      world_same queue_of (config_in queue_of c.args.profile.now s) s c.requires c.end_device.new.parts c.in-Err.ensures.err,
+        is_refused queue_of (config_in queue_of c.args.profile.now s) s c.requires c.args.serial c.in-Err.fault c.in-Err.ensures.refused,
+        world_same queue_of (config_in queue_of c.args.profile.now s) s c.requires c.end_device.new.parts c.in-Err.ensures.err,
       );
   fit =
       let queue_of = g.Q.RecordStore.queue in

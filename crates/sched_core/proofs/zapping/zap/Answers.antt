@@ -11,9 +11,9 @@ returns-in-Some-clause-done g c = record {
   answer =
       let s = c.args.state.now in
       let config = config_in g.Q.RecordStore.queue c.args.profile.now s in (
-      is_refused g.Q.RecordStore.queue config s c.requires c.args.n c.args.offset c.args.bytes.now c.in-Some.fault
-          (subst (IsJudged (world_in g.Q.RecordStore.queue config s) c.args.n c.args.offset _) c.in-Some.is (c.zap_fault.ensures.judged config refl)),
-      refl,
+        is_refused g.Q.RecordStore.queue config s c.requires c.args.n c.args.offset c.args.bytes.now c.in-Some.fault
+            (subst (IsJudged (world_in g.Q.RecordStore.queue config s) c.args.n c.args.offset _) c.in-Some.is (c.zap_fault.ensures.judged config refl)),
+        refl,
       );
   fit = c.requires.fit;
   same = λ names library. refl;
