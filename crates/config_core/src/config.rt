@@ -291,7 +291,8 @@ impl Config {
             return Err(ConfigError::Refused(fault));
         }
         let lines = copied(self.alloc, lines)?;
-        self.library.add(self.alloc, LibraryProcedure { name, lines })?;
+        self.library
+            .add(self.alloc, LibraryProcedure { name, lines })?;
         Ok(())
     }
 

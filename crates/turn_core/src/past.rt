@@ -56,12 +56,7 @@ fn has_disposed<T: JobText>(text: &T, own: &Own, step: usize, dd: usize) -> bool
 }
 
 /// The place up to which a turn passes over all actions, as far as is seen at once.
-pub(crate) fn past<T: JobText>(
-    text: &T,
-    programs: &ProgramLibrary,
-    own: &Own,
-    place: Todo,
-) -> Todo
+pub(crate) fn past<T: JobText>(text: &T, programs: &ProgramLibrary, own: &Own, place: Todo) -> Todo
     requires { T.reads text.now }
     ensures { Passes own.now (agenda_at (moves_of programs.now) (T.plan text.now).steps place)
         (agenda_at (moves_of programs.now) (T.plan text.now).steps result) }

@@ -19,7 +19,7 @@ pub returns-in-Ok-assure-clause-ok : goal.returns-in-Ok-assure-clause-ok
 returns-in-Ok-assure-clause-ok c =
     subst (λ (a : Admission). IsAnswered c.args.store.now c.args.terms.now c.args.number c.args.job c.args.date c.assure.new.store (record { admission = a; path = c.in-Ok.field-0.finding.path }))
     (sym (c.admission_of.ensures ∙ (λ i. admission_of (record { plan = c.judge.ensures.same i; held = c.args.job.held })
-        (record { places = c.in-Ok.field-0.places; meanings = c.in-Ok.field-0.meanings; date = c.args.date }) c.in-Ok-assure.assurance)))
+    (record { places = c.in-Ok.field-0.places; meanings = c.in-Ok.field-0.meanings; date = c.args.date }) c.in-Ok-assure.assurance)))
     (safe c.made_is_configured.ensures c.args.store.now c.args.terms.now c.args.number c.args.job c.args.date c.in-Ok.field-0 c.in-Ok.ensures.judged
     c.in-Safe.made c.in-Safe.is (subst (IsVerdict _ c.args.job.plan _ c.args.terms.now.most_views) c.in-Safe.is c.in-Ok.ensures.judged.found.verdict)
     c.judge.new.store c.assure.new.store c.judge.ensures.store c.in-Ok-assure.assurance
