@@ -42,10 +42,17 @@ card_of lines (Some n) = slice_get lines n
 abbrev pub spot_text : List (List ℕ) → Spot → List ℕ
 spot_text lines spot = marked_text (card_of lines spot.card) spot.column
 
+-- the line of the session that a line of a procedure is, if it is one
+abbrev pub of_session_text : Option ℕ → List ℕ
+of_session_text None = []
+of_session_text (Some line) = codes ", line " ++ decimal line ++ codes " of the session"
+
 -- the statement of a called procedure, if it is for one: its line in the procedure, and its card
 abbrev pub inside_text : Option Inside → List ℕ
 inside_text None = []
-inside_text (Some inside) = codes "    line " ++ decimal inside.line ++ codes " of the procedure " ++ inside.procedure ++ codes ":\n" ++ card_text inside.card
+inside_text (Some inside) =
+    codes "    line " ++ decimal inside.line ++ codes " of the procedure " ++ inside.procedure ++ of_session_text inside.of_session ++ codes ":\n"
+    ++ card_text inside.card
 
 -- what is wrong is told in words, then the card with its mark, then the statement of a called procedure, then the rest
 abbrev pub TellsPlace : List (List ℕ) → Report → List ℕ → Type 0

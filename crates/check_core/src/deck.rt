@@ -7,7 +7,7 @@ ghost use Rattle.check_core.specs.Reports.{AreTold};
 ghost use Rattle.check_core.specs.Spots.{IsSpotOf};
 
 use crate::called::brought_in;
-use crate::guess::guess_of;
+use crate::guess::{guess_of, hint_at};
 use crate::inside::inside_at;
 use crate::known::is_known;
 use crate::mark::spot_of;
@@ -29,13 +29,14 @@ pub const MOST_REPORTS: usize = 100;
 pub const MOST_READ: usize = 1_000_000;
 
 /// What a deck is read with: the names of units, and the procedures of the session. The names of both stand beside them once more, from which one is
-/// guessed that may have been meant.
+/// guessed that may have been meant, and the lines of the session on which the procedures begin.
 #[derive(Clone, Copy)]
 pub struct Sources<'a> {
     pub units: &'a UnitNames,
     pub library: &'a ProcLibrary,
     pub unit_names: &'a [Text],
     pub procedure_names: &'a [Text],
+    pub procedure_lines: &'a [usize],
 }
 
 /// A card of the deck as it was.
@@ -62,8 +63,13 @@ fn report_of(
         IsPlace units library mended.now.lines.items cause at → IfOk result (λ r. IsSpotOf mended.now.lines.items cause at r.spot) }
 {
     let spot = spot_of(alloc, mended, cause, at)?;
-    let inside = inside_at(alloc, sources.library, mended, cause, at)?;
-    let guess = guess_of(alloc, sources, mended, cause, spot)?;
+    let inside = inside_at(alloc, sources, mended, cause, at)?;
+    let guess = if inside.is_some() {
+        None
+    } else {
+        guess_of(alloc, sources, mended, cause, spot)?
+    };
+    let hint = hint_at(mended, cause, spot);
     let spot = Spot {
         card: own_card(mended, spot.card),
         column: spot.column,
@@ -74,6 +80,7 @@ fn report_of(
         spot,
         inside,
         guess,
+        hint,
     })
 }
 
@@ -135,18 +142,38 @@ fn next_refusal(
     }
 }
 
+/// Whether two refusals are for the same statement of a procedure.
+fn is_same(one: &Report, other: &Report) -> bool {
+    match (&one.inside, &other.inside) {
+        (Some(one_of), Some(other_of)) => {
+            one.cause == other.cause
+                && one_of.line == other_of.line
+                && one_of.procedure.as_slice() == other_of.procedure.as_slice()
+        }
+        _ => false,
+    }
+}
+
+/// Puts a report behind the others, unless it is for a statement of a procedure that one of them is for.
+fn push_report(later: &mut Vec<Report>, first: &Report, report: Report) -> Result<(), AllocError> {
+    if is_same(first, &report) || later.iter().any(|other| is_same(other, &report)) {
+        return Ok(());
+    }
+    later.push(report)?;
+    Ok(())
+}
+
 /// What else is wrong, once the first refusal is mended.
 fn later_of(
     alloc: Global,
     sources: &Sources<'_>,
     mended: &mut Mended,
-    cause: Cause,
-    at: At,
+    first: &Report,
 ) -> Result<Vec<Report>, AllocError> {
     let mut later = Vec::new(alloc);
     let mut left = MOST_READ;
-    let mut cause = cause;
-    let mut at = at;
+    let mut cause = first.cause;
+    let mut at = first.at;
     for _ in 0..MOST_REPORTS {
         if !mended.mend(alloc, cause, at)? {
             break;
@@ -161,7 +188,8 @@ fn later_of(
             None => true,
         };
         if !is_known {
-            later.push(report_of(alloc, sources, mended, cause, at)?)?;
+            let report = report_of(alloc, sources, mended, cause, at)?;
+            push_report(&mut later, first, report)?;
         }
     }
     Ok(later)
@@ -181,6 +209,6 @@ pub fn check_deck(
     };
     let mut mended = Mended::of(alloc, lines)?;
     let first = report_of(alloc, sources, &mended, cause, at)?;
-    let later = later_of(alloc, sources, &mut mended, cause, at)?;
+    let later = later_of(alloc, sources, &mut mended, &first)?;
     Ok(Checked::Refused { first, later })
 }

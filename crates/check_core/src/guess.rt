@@ -1,12 +1,13 @@
 //! A word that may have been meant.
 use crate::deck::Sources;
+use crate::hint::{hint_of, value_of};
 use crate::mended::{Mended, card_at};
 use crate::report::Spot;
-use card_core::card::{Kind, kind_of};
+use card_core::card::{Kind, card_of, kind_of};
 use card_core::field::fields_of;
 use card_core::statement::DataCard;
 use jcl_plan::fault::{Cause, StatementFault};
-use jname_core::name8::is_name_character;
+use jname_core::name8::{Name8, is_name_character};
 use plain::text::Text;
 use std::alloc::{AllocError, Global};
 use strsim::generic_levenshtein;
@@ -40,6 +41,13 @@ struct Nearest {
     distance: usize,
 }
 
+/// Whether two words have the same letters, as where two of them are exchanged.
+fn has_same_letters(word: &[u8], other: &[u8]) -> bool {
+    word.len() == other.len()
+        && word.iter().all(|c| other.contains(c))
+        && other.iter().all(|c| word.contains(c))
+}
+
 impl Nearest {
     fn none(word: &[u8]) -> Nearest {
         let distance = if word.len() < 3 { word.len() } else { 3 };
@@ -50,7 +58,11 @@ impl Nearest {
     }
 
     fn look_at(&mut self, alloc: Global, word: &[u8], other: &[u8]) -> Result<(), AllocError> {
-        let distance = generic_levenshtein(alloc, word, other)?;
+        let distance = if has_same_letters(word, other) {
+            usize::from(word != other)
+        } else {
+            generic_levenshtein(alloc, word, other)?
+        };
         if 0 < distance && distance < self.distance {
             self.word = Some(Text::copy_of(alloc, other)?);
             self.distance = distance;
@@ -130,14 +142,14 @@ fn nearest_procedure(
     Ok(nearest.word)
 }
 
-/// The nearest unit of the session.
-fn nearest_unit(
+/// The nearest of these names.
+pub fn nearest_among(
     alloc: Global,
-    sources: &Sources<'_>,
     word: &[u8],
+    names: &[Text],
 ) -> Result<Option<Text>, AllocError> {
     let mut nearest = Nearest::none(word);
-    nearest.look_at_all(alloc, word, sources.unit_names)?;
+    nearest.look_at_all(alloc, word, names)?;
     Ok(nearest.word)
 }
 
@@ -284,6 +296,90 @@ fn nearest_keyword(
     )
 }
 
+/// Of the words of a value the first that is nearly one that it may have.
+fn nearest_in_value(alloc: Global, words: &str, text: &[u8]) -> Result<Option<Text>, AllocError> {
+    for piece in operand_of(text).split(|c| !is_name_character(*c)) {
+        let mut nearest = Nearest::none(piece);
+        for word in words.as_bytes().split(|c| *c == b' ') {
+            if word == piece {
+                nearest = Nearest::none(b"");
+            }
+            nearest.look_at(alloc, piece, word)?;
+        }
+        if piece.len() > 1 && nearest.word.is_some() {
+            return Ok(nearest.word);
+        }
+    }
+    Ok(None)
+}
+
+/// The nearest word that the value of the operand at a column may have, or the nearest keyword.
+fn nearest_value(
+    alloc: Global,
+    mended: &Mended,
+    n: usize,
+    card: &DataCard,
+    column: usize,
+) -> Result<Option<Text>, AllocError> {
+    let word = word_at(card, column);
+    if !is_keyword(card, column, word) {
+        return nearest_keyword(alloc, mended, n, card, column);
+    }
+    match value_of(word) {
+        Some(value) if !value.words.is_empty() => {
+            let text = behind(card, column, word.len().saturating_add(1));
+            nearest_in_value(alloc, value.words, text)
+        }
+        _ => Ok(None),
+    }
+}
+
+/// Looks at the names of the steps on these lines.
+fn look_at_steps(
+    alloc: Global,
+    nearest: &mut Nearest,
+    word: &[u8],
+    lines: &[Text],
+) -> Result<(), AllocError> {
+    for line in lines {
+        if let Ok(card) = card_of(line.as_slice()) {
+            if is_named(&card, b"EXEC") {
+                nearest.look_at(alloc, word, fields_of(&card).name)?;
+            }
+        }
+    }
+    Ok(())
+}
+
+/// The nearest step of the procedures of the deck and of the session.
+fn nearest_procedure_step(
+    alloc: Global,
+    sources: &Sources<'_>,
+    mended: &Mended,
+    word: &[u8],
+) -> Result<Option<Text>, AllocError> {
+    let mut nearest = Nearest::none(word);
+    look_at_steps(alloc, &mut nearest, word, mended.lines.as_slice())?;
+    for name in sources.procedure_names {
+        if let Ok(name) = Name8::read(name.as_slice()) {
+            if let Some(procedure) = sources.library.find(&name) {
+                look_at_steps(alloc, &mut nearest, word, procedure.lines.as_slice())?;
+            }
+        }
+    }
+    Ok(nearest.word)
+}
+
+/// What else is said of a refusal there.
+pub(crate) fn hint_at(mended: &Mended, cause: Cause, spot: Spot) -> &'static str {
+    let Some(n) = spot.card else { return "" };
+    match (card_at(mended.lines.as_slice(), n), spot.column) {
+        (Some(card), Some(column)) => hint_of(cause, &card, column),
+        (Some(card), None) => hint_of(cause, &card, 80),
+        (None, _) => "",
+    }
+}
+
 /// A word that may have been meant in place of the one that is refused.
 pub(crate) fn guess_of(
     alloc: Global,
@@ -307,18 +403,18 @@ pub(crate) fn guess_of(
         Cause::P(StatementFault::UnknownKeyword) => nearest_keyword(
             alloc, mended, n, &card, column,
         ),
-        Cause::P(StatementFault::BadValue) => {
-            if is_keyword(&card, column, word_at(&card, column)) {
-                Ok(None)
-            } else {
-                nearest_keyword(alloc, mended, n, &card, column)
-            }
+        Cause::P(StatementFault::BadValue) => nearest_value(alloc, mended, n, &card, column),
+        Cause::P(StatementFault::NoSuchProcedureStep)
+            if fields_of(&card).operation == b"DD".as_slice() => {
+            let step = name_in(fields_of(&card).name, false);
+            nearest_procedure_step(alloc, sources, mended, step)
         }
         Cause::P(StatementFault::NoSuchProcedure) => {
             nearest_procedure(alloc, sources, mended, procedure_at(&card, column))
         }
         Cause::P(StatementFault::UnknownUnit) => {
-            nearest_unit(alloc, sources, name_in(behind(&card, column, 5), false))
+            let name = name_in(behind(&card, column, 5), false);
+            nearest_among(alloc, name, sources.unit_names)
         }
         Cause::P(StatementFault::ReferenceToNothing) => {
             nearest_in_reference(alloc, mended, name_in(behind(&card, column, 2), true))

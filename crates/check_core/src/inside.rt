@@ -4,6 +4,7 @@ ghost use Rattle.proc_library.specs.Libraries.{in_library};
 ghost use Rattle.deck_places.specs.Called.{lines_in, lines_of};
 ghost use Rattle.check_core.specs.Insides.{IsInsideAt, IsInsideOf, line_in};
 
+use crate::deck::Sources;
 use crate::mended::Mended;
 use crate::report::Inside;
 use deck_places::called::{CalledPlace, called_statement};
@@ -49,16 +50,30 @@ fn lines_of<'a>(library: &'a ProcLibrary, mended: &'a Mended, place: &CalledPlac
     }
 }
 
+/// The line of the session that a line of a procedure is, if the procedure is the session's.
+fn line_of_session(sources: &Sources<'_>, place: &CalledPlace) -> Option<usize> {
+    if place.head.is_some() {
+        return None;
+    }
+    for (name, line) in sources.procedure_names.iter().zip(sources.procedure_lines) {
+        if name.as_slice() == place.procedure.as_slice() {
+            return Some(line.saturating_add(place.card).saturating_add(1));
+        }
+    }
+    None
+}
+
 /// The statement of the procedure that the k-th statement calls, for which the call is refused.
 fn inside_of(
     alloc: Global,
-    library: &ProcLibrary,
+    sources: &Sources<'_>,
     mended: &Mended,
     cause: Cause,
     k: usize,
 ) -> Result<Option<Inside>, AllocError>
-    ensures { IfOk result (IsInsideOf library.now mended.now.lines.items cause k) }
+    ensures { IfOk result (IsInsideOf sources.now.library.now mended.now.lines.items cause k) }
 {
+    let library = sources.library;
     let lent = mended.lent(alloc)?;
     let Some(place) = called_statement(alloc, library, lent.as_slice(), k, cause)? else {
         return Ok(None);
@@ -71,21 +86,22 @@ fn inside_of(
         procedure: Text::copy_of(alloc, place.procedure.as_slice())?,
         line: line_in(&place)?,
         card: Text::copy_of(alloc, card.as_slice())?,
+        of_session: line_of_session(sources, &place),
     }))
 }
 
 /// The statement of a called procedure for which a deck is refused at a call.
 pub(crate) fn inside_at(
     alloc: Global,
-    library: &ProcLibrary,
+    sources: &Sources<'_>,
     mended: &Mended,
     cause: Cause,
     at: At,
 ) -> Result<Option<Inside>, AllocError>
-    ensures { IfOk result (IsInsideAt library.now mended.now.lines.items cause at) }
+    ensures { IfOk result (IsInsideAt sources.now.library.now mended.now.lines.items cause at) }
 {
     match at {
-        At::Call(k) => inside_of(alloc, library, mended, cause, k),
+        At::Call(k) => inside_of(alloc, sources, mended, cause, k),
         _ => Ok(None),
     }
 }

@@ -13,12 +13,10 @@ fn name_in(text: &[u8]) -> &[u8] {
     text.split_at(len.min(text.len())).0
 }
 
-/// Whether a text has a word, of which none is empty.
-fn has_word(text: &[u8], word: &[u8]) -> bool {
-    !word.is_empty()
-        && text
-            .split(|c| !is_name_character(*c))
-            .any(|piece| piece == word)
+/// Whether a text has this name with a period and another name behind it, as a step of a call is named.
+fn has_step_of(text: &[u8], name: &[u8]) -> bool {
+    text.split(|c| *c != b'.' && !is_name_character(*c))
+        .any(|piece| piece.contains(&b'.') && name_in(piece) == name)
 }
 
 /// The names of a reference behind its asterisk and period: the step's, if it has one, and the DD's, which is the last.
@@ -80,13 +78,13 @@ fn refers_to_replaced(alloc: Global, mended: &Mended, span: Span) -> Result<bool
     Ok(false)
 }
 
-/// Whether a card of these tests a step that was replaced: behind the word COND, or on a card behind the first, its name stands.
+/// Whether a card of these tests a step of a call that was replaced.
 fn tests_replaced(mended: &Mended, span: Span) -> bool {
     for n in span.from..span.to {
         if let Some(card) = card_at(mended.lines.as_slice(), n) {
             let fields = fields_of(&card);
             for replaced in &mended.replaced {
-                if replaced.dd.is_none() && has_word(fields.behind, replaced.step.as_slice()) {
+                if replaced.dd.is_none() && has_step_of(fields.behind, replaced.step.as_slice()) {
                     return true;
                 }
             }

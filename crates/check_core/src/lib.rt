@@ -3,7 +3,8 @@
 
 mod called;
 pub mod deck;
-mod guess;
+pub mod guess;
+mod hint;
 mod inside;
 mod known;
 mod mark;

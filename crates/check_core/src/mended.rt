@@ -33,7 +33,7 @@ pub(crate) struct Span {
     pub(crate) to: usize,
 }
 
-/// A step that was replaced, or a DD of it: their names.
+/// What a replaced statement no longer gives the deck: the steps of a call, or a DD that was for a step of one, by their names.
 #[derive(Drop)]
 pub(crate) struct Replaced {
     pub(crate) step: Text,
@@ -45,7 +45,7 @@ pub(crate) struct Replaced {
 pub(crate) struct Mended {
     pub(crate) lines: Vec<Text>,
     pub(crate) touched: Vec<Touched>,
-    /// The steps and DDs that were replaced, by their names.
+    /// What is no longer there, for a reference to it is refused then.
     pub(crate) replaced: Vec<Replaced>,
     /// A JOB statement was put in front.
     pub(crate) has_job_in_front: bool,
@@ -77,20 +77,24 @@ fn good_statement(
     } else {
         return Ok(None);
     };
-    let name = if is_good(name) { name } else { other };
+    let name = if is_good(name) || is_qualified(name) {
+        name
+    } else {
+        other
+    };
     let mut text = Vec::from_slice(alloc, b"//")?;
     text.extend_from_slice(name)?;
     text.extend_from_slice(rest)?;
     Ok(Some(text))
 }
 
-/// The same for the statements of a procedure: its head, its steps, its end.
+/// The same for the statements of a procedure: its head, its steps, their DDs, its end.
 fn good_of_procedure(
     alloc: Global,
     name: &[u8],
     operation: &[u8],
 ) -> Result<Option<Vec<u8>>, AllocError> {
-    if operation == b"EXEC".as_slice() {
+    if operation == b"EXEC".as_slice() || (operation == b"DD".as_slice() && is_good(name)) {
         return good_statement(alloc, name, operation);
     }
     if operation != b"PROC".as_slice() && operation != b"PEND".as_slice() {
@@ -116,6 +120,32 @@ fn is_good(name: &[u8]) -> bool {
         && name
             .iter()
             .all(|c| jname_core::name8::is_name_character(*c))
+}
+
+/// Whether a name is that of a DD for a step of a call, and can stay.
+fn is_qualified(name: &[u8]) -> bool {
+    name.contains(&b'.') && name.split(|c| *c == b'.').all(is_good)
+}
+
+/// The last of the parts of a name.
+fn last_part(name: &[u8]) -> &[u8] {
+    match name.split(|c| *c == b'.').last() {
+        Some(part) => part,
+        None => name,
+    }
+}
+
+/// Whether an EXEC statement calls a procedure, by what stands behind its operation.
+fn is_call(behind: &[u8]) -> bool {
+    !behind.windows(4).any(|piece| piece == b"PGM=".as_slice())
+}
+
+/// Whether a refusal is for the step that a DD's name has.
+fn is_of_step(cause: Cause) -> bool {
+    match cause {
+        Cause::P(StatementFault::NoSuchProcedureStep | StatementFault::OverrideOutOfOrder) => true,
+        _ => false,
+    }
 }
 
 /// A line as far as it can be a card.
@@ -267,25 +297,33 @@ impl Mended {
         Text::copy_of(alloc, b"")
     }
 
-    /// Notes a step or a DD that is replaced, whose statement begins on this card.
-    fn note(&mut self, alloc: Global, from: usize, card: &DataCard) -> Result<(), AllocError> {
+    /// Notes what the statement that begins on this card no longer gives: the steps of a call, or the DD of a step that is not found.
+    fn note(
+        &mut self,
+        alloc: Global,
+        from: usize,
+        card: &DataCard,
+        of_step: bool,
+    ) -> Result<(), AllocError> {
         let fields = fields_of(card);
-        let replaced = if fields.operation == b"EXEC".as_slice() {
+        let replaced = if fields.operation == b"EXEC".as_slice() && is_call(fields.behind) {
             Replaced {
                 step: Text::copy_of(alloc, fields.name)?,
                 dd: None,
             }
-        } else {
+        } else if of_step {
             Replaced {
                 step: self.step_before(alloc, from)?,
-                dd: Some(Text::copy_of(alloc, fields.name)?),
+                dd: Some(Text::copy_of(alloc, last_part(fields.name))?),
             }
+        } else {
+            return Ok(());
         };
         self.replaced.push(replaced)?;
         Ok(())
     }
 
-    /// Puts a good procedure in the place of one of the deck, so that its calls are not refused: its steps keep their names, and have no DDs.
+    /// Puts a good procedure in the place of one of the deck, so that its calls are not refused: its steps and their DDs keep their names.
     fn replace_procedure(&mut self, alloc: Global, span: Span) -> Result<(), AllocError> {
         for n in span.from..span.to {
             let good = match card_at(self.lines.as_slice(), n) {
@@ -324,8 +362,8 @@ impl Mended {
         }
     }
 
-    /// Puts a good statement in the place of a statement.
-    fn replace(&mut self, alloc: Global, span: Span) -> Result<(), AllocError> {
+    /// Puts a good statement in the place of a statement; a DD whose step is not found gets another name.
+    fn replace(&mut self, alloc: Global, span: Span, of_step: bool) -> Result<(), AllocError> {
         if self.is_touched(span) {
             return self.comment(alloc, span, Touched::Twice);
         }
@@ -339,8 +377,9 @@ impl Mended {
             return Ok(());
         }
         let fields = fields_of(&card);
-        self.note(alloc, span.from, &card)?;
-        if let Some(text) = good_statement(alloc, fields.name, fields.operation)? {
+        self.note(alloc, span.from, &card, of_step)?;
+        let name = if of_step { b"".as_slice() } else { fields.name };
+        if let Some(text) = good_statement(alloc, name, fields.operation)? {
             self.put(span.from, Text::new(text), Touched::Once);
         }
         Ok(())
@@ -385,7 +424,7 @@ impl Mended {
         }
         match self.span_at(alloc, at)? {
             Some(span) => {
-                self.replace(alloc, self.whole_span(span))?;
+                self.replace(alloc, self.whole_span(span), is_of_step(cause))?;
                 Ok(true)
             }
             None => Ok(false),

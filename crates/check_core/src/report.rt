@@ -11,15 +11,18 @@ pub struct Spot {
     pub column: Option<usize>,
 }
 
-/// A statement of a called procedure: the procedure's name, on which of its lines it begins, which count from 1, and that line.
+/// A statement of a called procedure: the procedure's name, on which of its lines it begins, which count from 1, that line, and the line of the session
+/// that it is, where the procedure is the session's.
 #[derive(Drop)]
 pub struct Inside {
     pub procedure: Text,
     pub line: usize,
     pub card: Text,
+    pub of_session: Option<usize>,
 }
 
-/// A refusal, where it is, the place that is marked, the statement of a called procedure for which it is, and a word that may have been meant.
+/// A refusal, where it is, the place that is marked, the statement of a called procedure for which it is, a word that may have been meant, and what else is
+/// said of it.
 #[derive(Drop)]
 pub struct Report {
     pub cause: Cause,
@@ -27,6 +30,7 @@ pub struct Report {
     pub spot: Spot,
     pub inside: Option<Inside>,
     pub guess: Option<Text>,
+    pub hint: &'static str,
 }
 
 /// What is told of a deck.

@@ -1,7 +1,7 @@
 //! Refusals as text.
 ghost use Rattle.std.specs.Prelude.{◌≡◌, ℕ, ◌++◌, ◌∷◌, List, IfOk, OnOk, Some, decimal, map, replicate, take};
 ghost use Rattle.jcl_plan.specs.Texts.{cause_text};
-ghost use Rattle.check_core.specs.Texts.{AddsToldText, TellsPlace, card_text, head, inside_text, line_of, mark_text, marked_text, shown, spot_text};
+ghost use Rattle.check_core.specs.Texts.{AddsToldText, TellsPlace, card_text, head, inside_text, line_of, mark_text, marked_text, of_session_text, shown, spot_text};
 
 use crate::report::{Checked, Inside, Report, Spot};
 use card_core::statement::Card;
@@ -164,6 +164,20 @@ fn push_spot(text: &mut Vec<u8>, lines: &[Card<'_>], spot: Spot) -> Result<(), A
     }
 }
 
+/// The line of the session that a line of a procedure is, if it is one.
+fn push_line_of_session(text: &mut Vec<u8>, line: Option<usize>) -> Result<(), AllocError>
+    ensures { OnOk result (text.new.items ≡ text.old.items ++ of_session_text line) }
+{
+    match line {
+        Some(line) => {
+            text.extend_from_slice(b", line ")?;
+            push_number(text, line)?;
+            text.extend_from_slice(b" of the session")
+        }
+        None => Ok(()),
+    }
+}
+
 /// The statement of a called procedure.
 fn push_inside(text: &mut Vec<u8>, inside: &Inside) -> Result<(), AllocError>
     ensures { OnOk result (text.new.items ≡ text.old.items ++ inside_text (Some inside.now)) }
@@ -172,6 +186,7 @@ fn push_inside(text: &mut Vec<u8>, inside: &Inside) -> Result<(), AllocError>
     push_number(text, inside.line)?;
     text.extend_from_slice(b" of the procedure ")?;
     text.extend_from_slice(inside.procedure.as_slice())?;
+    push_line_of_session(text, inside.of_session)?;
     text.extend_from_slice(b":\n")?;
     push_card(text, inside.card.as_slice())
 }
@@ -215,6 +230,10 @@ fn advice_of(alloc: Global, report: &Report) -> Result<Vec<u8>, AllocError> {
         text.extend_from_slice(b"; did you mean ")?;
         text.extend_from_slice(guess.as_slice())?;
         text.push(b'?')?;
+    }
+    if !report.hint.is_empty() {
+        text.extend_from_slice(b"\n    ")?;
+        text.extend_from_slice(report.hint.as_bytes())?;
     }
     text.push(b'\n')?;
     Ok(text)

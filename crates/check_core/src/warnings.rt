@@ -1,10 +1,11 @@
 //! What is accepted of a deck and rarely meant.
 use crate::guess::is_keyword_of;
+use crate::report::{Checked, Report};
 use card_core::card::{Kind, card_of, kind_of};
 use card_core::field::{fields_of, operand_text};
 use card_core::statement::{Card, DataCard};
 use itoa::Buffer;
-use jname_core::name8::is_name_character;
+use jname_core::name8::{is_first, is_name_character};
 use std::alloc::AllocError;
 
 /// The first column, from 0, that is not read, and the last before it.
@@ -21,21 +22,24 @@ enum Warning {
     Comment,
     /// A JOBLIB.
     JobLibrary,
+    /// One slash, and a name behind it.
+    OneSlash,
 }
 
 /// What is said of it.
 fn words_of(warning: Warning) -> &'static [u8] {
     match warning {
-        Warning::Swallowed => b"a ./ line is a card of this deck: a ./ END is wanting before it",
+        Warning::Swallowed => b"a ./ line is a card of this deck: a ./ END is missing before it",
         Warning::Cut => b"the text is cut behind column 71",
         Warning::Comment =>
             b"a blank ends the operand: what looks like a keyword behind it is a comment",
         Warning::JobLibrary => b"JOBLIB is dropped: programs are those of ./ PROGRAM",
+        Warning::OneSlash => b"with one slash it is a card of data; a statement begins with two",
     }
 }
 
 /// Whether text stands on both sides of the end of column 71.
-fn is_cut(card: &DataCard) -> bool {
+pub(crate) fn is_cut(card: &DataCard) -> bool {
     card[LAST_READ] != b' ' && card[LAST_READ + 1] != b' '
 }
 
@@ -65,7 +69,11 @@ fn warning_of(line: &[u8]) -> Option<Warning> {
         return None;
     };
     if kind_of(&card) != Kind::Jcl {
-        return None;
+        return if card[0] == b'/' && is_first(card[1]) {
+            Some(Warning::OneSlash)
+        } else {
+            None
+        };
     }
     if is_cut(&card) {
         return Some(Warning::Cut);
@@ -92,14 +100,32 @@ pub fn push_warning(text: &mut Vec<u8>, line: usize, words: &[u8]) -> Result<(),
     Ok(())
 }
 
-/// Writes what the cards of a deck warn of. Its first card stands on this line of the session.
+/// Whether a refusal at this card tells already of what the card warns of.
+fn is_told(checked: &Checked, n: usize) -> bool {
+    match checked {
+        Checked::Taken(_) => false,
+        Checked::Refused { first, later } => {
+            tells_hint(first, n) || later.iter().any(|report| tells_hint(report, n))
+        }
+    }
+}
+
+fn tells_hint(report: &Report, n: usize) -> bool {
+    report.spot.card == Some(n) && !report.hint.is_empty()
+}
+
+/// Writes what the cards of a deck warn of, of which this is told. Its first card stands on this line of the session.
 pub fn push_warnings(
     text: &mut Vec<u8>,
     first_line: usize,
     lines: &[Card<'_>],
+    checked: &Checked,
 ) -> Result<(), AllocError> {
     for (n, line) in lines.iter().enumerate() {
         if let Some(warning) = warning_of(line.as_slice()) {
+            if is_told(checked, n) {
+                continue;
+            }
             push_warning(text, first_line.saturating_add(n), words_of(warning))?;
         }
     }

@@ -201,7 +201,7 @@ fn asides_of(
     deck: Option<DeckRead>,
 ) -> Result<Vec<u8>, AllocError> {
     let mut text = Vec::new(alloc);
-    push_warnings(&mut text, first, lines)?;
+    push_warnings(&mut text, first, lines, checked)?;
     match checked {
         Checked::Taken(plan) => push_job(known, &mut text, first, plan, deck)?,
         Checked::Refused { .. } => {}
@@ -357,26 +357,38 @@ fn some_risk(answers: &[Option<Answer>]) -> bool
 struct Names {
     units: Vec<Text>,
     procedures: Vec<Text>,
+    /// The lines of the session on which the procedures begin.
+    lines: Vec<usize>,
 }
 
 fn names_in(alloc: Global, statements: &[Statement<'_>]) -> Result<Names, AllocError> {
     let mut units = Vec::new(alloc);
     let mut procedures = Vec::new(alloc);
+    let mut lines = Vec::new(alloc);
     for statement in statements {
-        let Says::Config { statement, .. } = &statement.says else {
+        let Says::Config {
+            statement: configured,
+            ..
+        } = &statement.says
+        else {
             continue;
         };
-        match statement.get() {
+        match configured.get() {
             ConfigStatement::Unit { name, .. } => {
                 units.push(Text::copy_of(alloc, name.as_slice())?)?;
             }
             ConfigStatement::Procedure { name, .. } => {
                 procedures.push(Text::copy_of(alloc, name.as_slice())?)?;
+                lines.push(statement.line)?;
             }
             _ => {}
         }
     }
-    Ok(Names { units, procedures })
+    Ok(Names {
+        units,
+        procedures,
+        lines,
+    })
 }
 
 /// Looks at the decks of a session whose configuration has no fault, behind what is found of it already.
@@ -397,6 +409,7 @@ fn check_opened(
         library: &known.fixed.library,
         unit_names: names.units.as_slice(),
         procedure_names: names.procedures.as_slice(),
+        procedure_lines: names.lines.as_slice(),
     };
     let own = check_statements(alloc, &sources, *known, statements, &mut found.text)?;
     found.refused = found.refused || own;
