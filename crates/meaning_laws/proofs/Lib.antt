@@ -1,4 +1,3 @@
 pub mod Compatible
 pub mod Parts
-pub mod Setless
 pub mod Splitting

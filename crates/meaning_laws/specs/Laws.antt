@@ -1,20 +1,14 @@
 -- Laws of runs, of names and of parts.
-use Rattle.std.specs.Prelude.{◌≡◌, ℕ, ◌+◌, false, List, [], ◌++◌, map, length}
+use Rattle.std.specs.Prelude.{◌≡◌, ℕ, ◌+◌, false, List, ◌++◌, map, length}
 use Rattle.std.specs.List.{Contains}
 use Rattle.jcl_plan.specs.declared.plan.JobPlan.{JobPlan}
 use Rattle.jcl_meaning.specs.declared.names.HeldName.{HeldName}
-use Rattle.jcl_meaning.specs.declared.program.SoloProgram.{SoloProgram}
-use Rattle.jcl_meaning.specs.Agendas.{Action, agenda}
+use Rattle.jcl_meaning.specs.Agendas.{Action}
 use Rattle.jcl_meaning.specs.Names.{IsCompatible, names_of}
-use Rattle.jcl_meaning.specs.NoSets.{HasNoSets}
 use Rattle.jcl_meaning.specs.Parts.{SamePart}
 use Rattle.jcl_meaning.specs.Solo.{Met, Ran, run}
 use Rattle.jcl_meaning.specs.States.{Fixed, State}
 use Rattle.jcl_meaning.specs.Stores.{Store}
-
-abbrev pub CleanWithoutSets : Type 0
-CleanWithoutSets = (plan : JobPlan) (programs : List SoloProgram) (fixed : Fixed) (s : State) → HasNoSets plan →
-    ((run fixed (agenda plan programs) s).faults ≡ []) × ((run fixed (agenda plan programs) s).made ≡ [])
 
 -- a fault that is met behind so many actions more
 abbrev pub behind : ℕ → Met → Met

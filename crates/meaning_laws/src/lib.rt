@@ -1,12 +1,7 @@
 //! Laws of what jobs mean alone. They have no code: a law is a function that does nothing, and its contract is the law.
 #![tactic(auto)]
 
-ghost use Rattle.meaning_laws.specs.Laws.{CleanWithoutSets, CompatibleBothWays, EqualPartsChain, SharedByBoth, Splits};
-
-/// A job that names no set meets no fault and makes nothing, in every store, whatever its programs do and its answers are.
-pub fn clean_without_sets()
-    ensures { CleanWithoutSets }
-{}
+ghost use Rattle.meaning_laws.specs.Laws.{CompatibleBothWays, EqualPartsChain, SharedByBoth, Splits};
 
 /// Two lists of actions one after another are one run after another.
 pub fn splits()
