@@ -1,8 +1,6 @@
 -- A step of a job that is answered anew for each action, beside one along the outcome that it then has.
-use Rattle.std.proofs.Common.{◌≡◌, ◌≤◌, ◌+◌, ◌++◌, inl, inr, arith, ℕ, Bool, true, false, cond, List, [], ◌∷◌, refl, sym, subst, leb-true, le-leb}
-use Rattle.std.specs.Prelude.{nat_le}
+use Rattle.std.proofs.Common.{◌≡◌, ◌+◌, ◌++◌, inl, inr, ℕ, List, [], ◌∷◌, sym, subst}
 use Rattle.std.specs.List.{Contains}
-use Rattle.std.proofs.lemmas.Bool.{cond-true}
 use Rattle.jcl_plan.specs.declared.outcome.Outcome.{Outcome}
 use Rattle.jcl_plan.specs.declared.outcome.Outcome.TheVariants as outcome
 use Rattle.jcl_plan.specs.declared.plan.DdPlan.{DdPlan}
@@ -17,32 +15,12 @@ use Rattle.path_laws.proofs.Alike.{Closed, Open, Same}
 use Rattle.path_laws.proofs.Asking.{ask_quiet, receive_quiet, stays_open}
 use Rattle.path_laws.proofs.Cleanly.{Clean, after, after_append, clean_split}
 use Rattle.path_laws.proofs.Ending.{disposes_alike, finishes_alike, outcome_good, outcome_of}
+use Rattle.path_laws.proofs.Ranges.{in_range, range_good, range_same}
 use Rattle.path_laws.proofs.Taking.{starts_alike, takes_alike}
 use Rattle.case_laws.specs.Cases.{AreFair, MayMake, with_answers}
 use Rattle.case_laws.proofs.Making.{IsTakeOf, made_by_take}
 use Rattle.case_laws.proofs.Ordered.{in_a_row}
 use Rattle.case_laws.proofs.TakesMade.{MakesIn, makes_first, same_made}
-
--- an outcome that a step may have
-abbrev in_range : Outcome → Outcome
-in_range (outcome.Code code) = cond (nat_le code 4095) (outcome.Code code) (outcome.Code 0)
-in_range other = other
-
-range_good : (o : Outcome) → IsStepOutcome (in_range o)
-range_good (outcome.Code code) = by_code (nat_le code 4095) refl
-  where
-    by_code : (b : Bool) → nat_le code 4095 ≡ b → IsStepOutcome (cond b (outcome.Code code) (outcome.Code 0))
-    by_code true e = leb-true code 4095 e
-    by_code false e = let le : 0 ≤ 4095 = omega arith in le
-range_good (outcome.Abend a) = tt
-range_good outcome.Bypassed = tt
-range_good outcome.Flushed = tt
-
-range_same : (o : Outcome) → IsStepOutcome o → in_range o ≡ o
-range_same (outcome.Code code) h = cond-true (nat_le code 4095) (outcome.Code code) (outcome.Code 0) (le-leb code 4095 h)
-range_same (outcome.Abend a) h = refl
-range_same outcome.Bypassed h = refl
-range_same outcome.Flushed h = refl
 
 -- with other fair answers
 abbrev again : State → Answers → State

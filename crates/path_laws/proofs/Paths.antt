@@ -1,8 +1,7 @@
 -- A job by its programs, beside one along the outcomes that its steps then have.
-use Rattle.std.proofs.Common.{◌≡◌, ◌++◌, ◌+◌, ◌≤◌, arith, ℕ, Bool, true, false, cond, List, [], ◌∷◌, map, Some, refl, sym, ap, ◌∙◌, subst, leb-true, le-leb}
-use Rattle.std.specs.Prelude.{All, nat_le}
+use Rattle.std.proofs.Common.{◌≡◌, ◌++◌, ◌+◌, ◌≤◌, arith, ℕ, Bool, true, false, cond, List, [], ◌∷◌, map, Some, refl, sym, ap, ◌∙◌, subst}
+use Rattle.std.specs.Prelude.{All}
 use Rattle.std.specs.Str.{bytes_eq}
-use Rattle.std.proofs.lemmas.Bool.{cond-true}
 use Rattle.std.proofs.lemmas.List.Elements.{All-cons, All-head, All-nil, All-tail}
 use Rattle.jcl_plan.specs.declared.outcome.Outcome.{Outcome}
 use Rattle.jcl_plan.specs.declared.outcome.Outcome.TheVariants as outcome
@@ -27,30 +26,10 @@ use Rattle.path_laws.proofs.Alike.{Closed, Open, Same}
 use Rattle.path_laws.proofs.Asking.{ask_quiet, receive_quiet, stays_open}
 use Rattle.path_laws.proofs.Cleanly.{Clean, after, after_append, clean_is_run, clean_join, clean_split, run_is_clean}
 use Rattle.path_laws.proofs.Ending.{disposes_alike, finishes_alike, lefts_alike, outcome_good, outcome_of}
+use Rattle.path_laws.proofs.Ranges.{in_range, range_good, range_same}
 use Rattle.path_laws.proofs.Shapes.{shaped_same}
 use Rattle.path_laws.proofs.Taking.{starts_alike, takes_alike}
 use Rattle.path_meaning.specs.Paths.{IsSafe}
-
--- an outcome that a step may have
-abbrev in_range : Outcome → Outcome
-in_range (outcome.Code code) = cond (nat_le code 4095) (outcome.Code code) (outcome.Code 0)
-in_range other = other
-
-range_good : (o : Outcome) → IsStepOutcome (in_range o)
-range_good (outcome.Code code) = by_code (nat_le code 4095) refl
-  where
-    by_code : (b : Bool) → nat_le code 4095 ≡ b → IsStepOutcome (cond b (outcome.Code code) (outcome.Code 0))
-    by_code true e = leb-true code 4095 e
-    by_code false e = let le : 0 ≤ 4095 = omega arith in le
-range_good (outcome.Abend a) = tt
-range_good outcome.Bypassed = tt
-range_good outcome.Flushed = tt
-
-range_same : (o : Outcome) → IsStepOutcome o → in_range o ≡ o
-range_same (outcome.Code code) h = cond-true (nat_le code 4095) (outcome.Code code) (outcome.Code 0) (le-leb code 4095 h)
-range_same (outcome.Abend a) h = refl
-range_same outcome.Bypassed h = refl
-range_same outcome.Flushed h = refl
 
 module _ (fixed : Fixed) where
   takes_clean : (outs : List Outcome) (n dd : ℕ) (ds : List DdPlan) (s t : State) → Open outs s t → Clean fixed (takes_from n dd ds) t →
