@@ -4,3 +4,4 @@ mod Silent
 mod Backs
 mod Granted
 mod Taking
+mod TakenSets

@@ -8,8 +8,9 @@ use Rattle.jcl_plan.specs.declared.plan.DdKind.{DdKind}
 use Rattle.jcl_plan.specs.declared.plan.SetPlan.{SetPlan}
 use Rattle.jcl_plan.specs.declared.plan.Word.{Word}
 use Rattle.jcl_plan.specs.declared.words.DispWord.TheVariants as disp
-use Rattle.job_text.specs.Texts.{kind_text}
-use Rattle.job_text.specs.declared.texts.KindText.{KindText}
+use Rattle.job_text.specs.Texts.{disp_text, take_text}
+use Rattle.job_text.specs.declared.texts.DispText.{DispText}
+use Rattle.job_text.specs.declared.texts.TakeText.{TakeText}
 use Rattle.jcl_meaning.specs.declared.state.TakenSet.{TakenSet}
 use Rattle.jcl_meaning.specs.declared.state.Disposed.{Disposed}
 use Rattle.jcl_meaning.specs.declared.state.Place.{Place}
@@ -80,19 +81,20 @@ pub record Makes {S E : Type 0} (store : Ghosts S) (job : ℕ) (does : Store →
   pub err : OnErr result ((new ≡ old) × (after ≡ before))
   pub rest : IfOk result (λ told. store.takes job (made_of told.made) (store.rest job old) (store.rest job new))
 
--- An action of each DD that reads as this.
-abbrev pub ActsAs : {S T E : Type 0} → Ghosts S → ℕ → KindText → (DdKind → Store → Course → Store → Course → T → Type 0) →
+-- An action of each DD whose disposition reads this.
+abbrev pub ActsAs : {S T E : Type 0} → Ghosts S → ℕ → DispText → (DdKind → Store → Course → Store → Course → T → Type 0) →
     Result T E → S → Course → S → Course → Type 0
-ActsAs store job kind does result old before new after = (dd : DdKind) → kind_text dd ≡ kind → Acts store job (does dd) result old before new after
+ActsAs store job text does result old before new after = (dd : DdKind) → disp_text dd ≡ text → Acts store job (does dd) result old before new after
 
 -- The same, where what it does goes by the store's own answer to its primary.
 abbrev pub MakesWith : {S E : Type 0} → Ghosts S → ℕ → ((Key → Place → ℕ → Bool) → Store → Course → Store → Course → Taken → Type 0) →
     Result Taken E → S → Course → S → Course → Type 0
 MakesWith store job does result old before new after = Makes store job (does (store.grants_new job old)) result old before new after
 
-abbrev pub MakesAs : {S E : Type 0} → Ghosts S → ℕ → KindText → (DdKind → (Key → Place → ℕ → Bool) → Store → Course → Store → Course → Taken → Type 0) →
+-- and of each DD whose taking reads this
+abbrev pub MakesAs : {S E : Type 0} → Ghosts S → ℕ → TakeText → (DdKind → (Key → Place → ℕ → Bool) → Store → Course → Store → Course → Taken → Type 0) →
     Result Taken E → S → Course → S → Course → Type 0
-MakesAs store job kind does result old before new after = (dd : DdKind) → kind_text dd ≡ kind → MakesWith store job (does dd) result old before new after
+MakesAs store job text does result old before new after = (dd : DdKind) → take_text dd ≡ text → MakesWith store job (does dd) result old before new after
 
 -- An action that touches no store.
 pub record ActsAside {E : Type 0} (does : Course → Course → Type 0) (result : Result Unit E) (before after : Course) : Type 0 where

@@ -6,7 +6,7 @@ ghost use Rattle.jcl_plan.specs.declared.words.DispWord.TheVariants as disp;
 ghost use Rattle.jcl_meaning.specs.Dispositions.{disposed_by};
 ghost use Rattle.jcl_meaning.specs.EndActs.{after_abend, disposes_at, leaves, left_at, left_disposed, passed_by, passed_with};
 ghost use Rattle.jcl_meaning.specs.EndActs.{tracks_released, without_pass};
-ghost use Rattle.jcl_meaning.specs.Takes.{releases};
+ghost use Rattle.job_text.specs.Texts.{disp_as};
 ghost use Rattle.disp_core.specs.Acting.{Acts, ActsAs, Meets, at_site, course_put_out, disposed_as, disposition, word_in};
 
 use crate::change::{change, disposed_by};
@@ -20,9 +20,9 @@ use jcl_plan::day::Day;
 use jcl_plan::entry::JobLine;
 use jcl_plan::fault::Fault;
 use jcl_plan::outcome::Outcome;
-use jcl_plan::plan::{Record, SetPlan, Space, Word};
+use jcl_plan::plan::{Record, Word};
 use jcl_plan::words::DispWord;
-use job_text::texts::KindText;
+use job_text::texts::{DispSet, DispText};
 use plain::listed::Listed;
 use std::alloc::AllocError;
 use store_core::disposition::{as_taken, fault_in, left_word};
@@ -37,21 +37,12 @@ fn after_abend(over: &Option<Outcome>) -> bool
     }
 }
 
-fn releases(space: &Option<Space>) -> bool
-    ensures { result ≡ releases space.now }
-{
-    match space {
-        None => false,
-        Some(space) => space.release,
-    }
-}
-
 /// Cuts a set whose SPACE has RLSE.
-fn release<S: JobStore>(store: &mut S, job: u16, space: &Option<Space>, t: &TakenSet)
-    ensures seen { S.seen job store.new ≡ tracks_released (releases space.now) t.now.key t.now.serial (S.seen job store.old) }
+fn release<S: JobStore>(store: &mut S, job: u16, releases: bool, t: &TakenSet)
+    ensures seen { S.seen job store.new ≡ tracks_released releases t.now.key t.now.serial (S.seen job store.old) }
     ensures rest { S.gives_up (S.rest job store.old) (S.rest job store.new) }
 {
-    if releases(space) {
+    if releases {
         store.trim(job, &t.key, t.serial);
     }
 }
@@ -86,11 +77,11 @@ fn set_disposed<S: JobStore>(
     given: &Given,
     course: &mut Course,
     at: &Site,
-    p: &SetPlan,
+    p: &DispSet,
     t: &TakenSet,
     disposed: Disposed,
 ) -> Result<Option<Fault>, AllocError>
-    ensures { Acts S.JobStore at.now.job (Meets (disposed_as given.now at.now p.now t.now disposed))
+    ensures { Acts S.JobStore at.now.job (Meets (disposed_as given.now at.now (disp_as p.now) t.now disposed))
         result store.old course.old store.new course.new }
 {
     pass(&mut course.own.passed, disposed.passes, at, t)?;
@@ -101,7 +92,7 @@ fn set_disposed<S: JobStore>(
     };
     match change(store, at.job, given.date, course, line, disposed.change, t) {
         Ok(()) => {
-            release(store, at.job, &p.space, t);
+            release(store, at.job, p.release, t);
             Ok(fault_in(disposed.word))
         }
         Err(error) => {
@@ -114,8 +105,8 @@ fn set_disposed<S: JobStore>(
 }
 
 /// The word done on a set at the end of its step.
-fn word_at(over: &Option<Outcome>, p: &SetPlan, t: &TakenSet) -> Word
-    ensures { result ≡ word_in over.now p.now t.now }
+fn word_at(over: &Option<Outcome>, p: &DispSet, t: &TakenSet) -> Word
+    ensures { result ≡ word_in over.now (disp_as p.now) t.now }
 {
     let temporary = is_temporary(&t.key);
     word_done(
@@ -132,10 +123,10 @@ fn disposal<S: JobStore>(
     job: u16,
     date: Day,
     over: &Option<Outcome>,
-    p: &SetPlan,
+    p: &DispSet,
     t: &TakenSet,
 ) -> Disposed
-    ensures { result ≡ disposed_by (word_in over.now p.now t.now) (S.seen job store.now) t.now date }
+    ensures { result ≡ disposed_by (word_in over.now (disp_as p.now) t.now) (S.seen job store.now) t.now date }
 {
     disposed_by(store, job, word_at(over, p, t), t, date)
 }
@@ -202,16 +193,15 @@ fn dispose_at<S: JobStore>(
     given: &Given,
     course: &mut Course,
     at: &Site,
-    kind: &KindText,
+    text: &DispText,
     x: DdState,
 ) -> Result<Option<Fault>, AllocError>
-    ensures { ActsAs S.JobStore at.now.job kind.now (λ dd. Meets (at_site disposes_at given.now at.now dd x)) result store.old course.old store.new course.new }
+    ensures { ActsAs S.JobStore at.now.job text.now (λ dd. Meets (at_site disposes_at given.now at.now dd x)) result store.old course.old store.new course.new }
 {
-    match kind {
-        KindText::Sysout(class) => put_out(course, at, *class, x.spooled),
-        KindText::Dummy => say_nothing(course, at),
-        KindText::Cards(_) => say_nothing(course, at),
-        KindText::Set(p) => match &x.taken {
+    match text {
+        DispText::Sysout(class) => put_out(course, at, *class, x.spooled),
+        DispText::Nothing => say_nothing(course, at),
+        DispText::Set(p) => match &x.taken {
             None => say_nothing(course, at),
             Some(t) => {
                 let disposed = disposal(store, at.job, given.date, &course.own.over, p, t);
@@ -227,10 +217,10 @@ pub fn dispose<S: JobStore>(
     given: &Given,
     course: &mut Course,
     at: &Site,
-    kind: &KindText,
+    text: &DispText,
 ) -> Result<Option<Fault>, AllocError>
     requires { 0 < at.now.dd }
-    ensures { ActsAs S.JobStore at.now.job kind.now (λ dd. Meets (disposition given.now at.now dd)) result store.old course.old store.new course.new }
+    ensures { ActsAs S.JobStore at.now.job text.now (λ dd. Meets (disposition given.now at.now dd)) result store.old course.old store.new course.new }
 {
     if !course.own.runs {
         return Ok(None);
@@ -238,7 +228,7 @@ pub fn dispose<S: JobStore>(
     let Some(x) = dd_state(course.own.dds.as_slice(), at.dd - 1)? else {
         return Ok(None);
     };
-    dispose_at(store, given, course, at, kind, x)
+    dispose_at(store, given, course, at, text, x)
 }
 
 /// What a DD passed and no DD received.
@@ -310,10 +300,10 @@ fn leave_set<S: JobStore>(
     given: &Given,
     course: &mut Course,
     at: &Site,
-    p: &SetPlan,
+    p: &DispSet,
     q: &Passed,
 ) -> Result<Option<Fault>, AllocError>
-    ensures { Acts S.JobStore at.now.job (Meets (at_site leaves given.now at.now p.now (Some q.now)))
+    ensures { Acts S.JobStore at.now.job (Meets (at_site leaves given.now at.now (disp_as p.now) (Some q.now)))
         result store.old course.old store.new course.new }
 {
     let temporary = is_temporary(&q.key);
@@ -329,11 +319,11 @@ pub fn leave<S: JobStore>(
     given: &Given,
     course: &mut Course,
     at: &Site,
-    kind: &KindText,
+    text: &DispText,
 ) -> Result<Option<Fault>, AllocError>
-    ensures { ActsAs S.JobStore at.now.job kind.now (λ dd. Meets (at_site left_at given.now at.now dd)) result store.old course.old store.new course.new }
+    ensures { ActsAs S.JobStore at.now.job text.now (λ dd. Meets (at_site left_at given.now at.now dd)) result store.old course.old store.new course.new }
 {
-    let KindText::Set(p) = kind else {
+    let DispText::Set(p) = text else {
         return Ok(None);
     };
     let passed = passed_by(course.own.passed.as_slice(), at.step, at.dd);

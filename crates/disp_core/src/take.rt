@@ -1,9 +1,10 @@
 //! The taking of a DD. (GC28-6704, DISP parameter)
-ghost use Rattle.std.specs.Prelude.{◌≡◌, ◌<◌, Err, IfNone, IfOk, IfSome, None, OnErr, OnOk, Some, length, remove, true};
+ghost use Rattle.std.specs.Prelude.{◌≡◌, ◌<◌, Err, IfNone, IfOk, IfSome, None, OnErr, OnOk, Some, is_some, length, remove, true};
 ghost use Rattle.jcl_plan.specs.declared.entry.JobLine.{JobLine};
 ghost use Rattle.jcl_meaning.specs.Resolutions.{place_of};
 ghost use Rattle.jcl_meaning.specs.TakeActs.{new_dd, passed_left, take_word};
-ghost use Rattle.jcl_meaning.specs.Takes.{is_there, where_of, without_passed};
+ghost use Rattle.jcl_meaning.specs.Takes.{is_there, primary_of, where_of, without_passed};
+ghost use Rattle.job_text.specs.Texts.{take_as};
 ghost use Rattle.disp_core.specs.Acting.{MakesAs, MakesWith};
 ghost use Rattle.disp_core.specs.Choices.{IsNotGranted, Took, TookChosen, TookKey, TookSet, course_kept, course_taken, course_taken_without};
 ghost use Rattle.disp_core.specs.Choices.{granted_at, made_at, store_taken};
@@ -23,18 +24,17 @@ use jcl_meaning::state::{DdState, DdVolume, Own, Passed, Place, Resolution, Take
 use jcl_meaning::take::{Decision, How, Target, Where};
 use jcl_plan::entry::JobLine;
 use jcl_plan::fault::Fault;
-use jcl_plan::plan::{SetPlan, VolumePlan};
+use jcl_plan::plan::VolumePlan;
 use jcl_plan::words::TakeWord;
 use jname_core::key::Key;
 use jname_core::name8::Name8;
 use jname_core::serial::Serial;
-use job_text::texts::KindText;
+use job_text::texts::{TakeSet, TakeText};
 use plain::listed::Listed;
 use std::alloc::{AllocError, Global};
 use store_core::job_store::{JobStore, RoomFault};
 use store_core::take::{
-    at_or_lost, day_of, dd_volume, decide, first_passed, is_known, looked_at, primary_of, taken,
-    target_of,
+    at_or_lost, day_of, dd_volume, decide, first_passed, is_known, looked_at, taken, target_of,
 };
 
 /// What taking a DD met and made.
@@ -233,19 +233,39 @@ fn where_of<S: JobStore>(
     }
 }
 
+/// The tracks that a set asks for when it is made: 0 without SPACE.
+fn primary_of(p: &TakeSet) -> u16
+    ensures { result ≡ primary_of (take_as p.now).space }
+{
+    match p.primary {
+        None => 0,
+        Some(primary) => primary,
+    }
+}
+
+/// Whether SPACE is coded.
+fn has_space(p: &TakeSet) -> bool
+    ensures { result ≡ is_some (take_as p.now).space }
+{
+    match p.primary {
+        None => false,
+        Some(_) => true,
+    }
+}
+
 /// Makes the set of a DD where its take makes one. An `Err` changes nothing.
 fn make_for<S: JobStore>(
     store: &mut S,
     given: &Given,
     at: &Site,
-    p: &SetPlan,
+    p: &TakeSet,
     chosen: &Chosen,
 ) -> Result<(), RoomFault>
     requires { chosen.now.how ≡ How.Made → (S.seen at.now.job store.old).set chosen.now.key chosen.now.serial ≡ None }
-    ensures seen { OnOk result (S.seen at.now.job store.new ≡ store_taken (fixed_by given.now) p.now chosen.now (S.seen at.now.job store.old)) }
+    ensures seen { OnOk result (S.seen at.now.job store.new ≡ store_taken (fixed_by given.now) (take_as p.now) chosen.now (S.seen at.now.job store.old)) }
     ensures rest { OnOk result (S.takes at.now.job (made_at at.now chosen.now) (S.rest at.now.job store.old) (S.rest at.now.job store.new)) }
-    ensures granted { OnOk result (chosen.now.how ≡ How.Made → granted_at (S.grants_new at.now.job store.old) at.now p.now chosen.now ≡ true) }
-    ensures refused { result ≡ Err RoomFault.NotGranted → IsNotGranted S.JobStore at.now p.now chosen.now store.old }
+    ensures granted { OnOk result (chosen.now.how ≡ How.Made → granted_at (S.grants_new at.now.job store.old) at.now (take_as p.now) chosen.now ≡ true) }
+    ensures refused { result ≡ Err RoomFault.NotGranted → IsNotGranted S.JobStore at.now (take_as p.now) chosen.now store.old }
     ensures err { OnErr result (store.new ≡ store.old) }
 {
     match chosen.how {
@@ -256,7 +276,7 @@ fn make_for<S: JobStore>(
                 serial: chosen.serial,
             };
             let day = day_of(p.expiry, is_temporary(&chosen.key), given.date);
-            store.make(at.job, &chosen.key, &place, primary_of(&p.space), day)
+            store.make(at.job, &chosen.key, &place, primary_of(p), day)
         }
         How::Found => Ok(()),
         How::FoundByCatalog => Ok(()),
@@ -271,15 +291,15 @@ fn accept<S: JobStore>(
     given: &Given,
     course: &mut Course,
     at: &Site,
-    p: &SetPlan,
+    p: &TakeSet,
     chosen: &Chosen,
 ) -> Result<(), RoomFault>
     requires { chosen.now.how ≡ How.Made → (S.seen at.now.job store.old).set chosen.now.key chosen.now.serial ≡ None }
-    ensures seen { OnOk result (S.seen at.now.job store.new ≡ store_taken (fixed_by given.now) p.now chosen.now (S.seen at.now.job store.old)) }
+    ensures seen { OnOk result (S.seen at.now.job store.new ≡ store_taken (fixed_by given.now) (take_as p.now) chosen.now (S.seen at.now.job store.old)) }
     ensures course { OnOk result (course.new ≡ course_taken at.now chosen.now course.old) }
     ensures rest { OnOk result (S.takes at.now.job (made_at at.now chosen.now) (S.rest at.now.job store.old) (S.rest at.now.job store.new)) }
-    ensures granted { OnOk result (chosen.now.how ≡ How.Made → granted_at (S.grants_new at.now.job store.old) at.now p.now chosen.now ≡ true) }
-    ensures refused { result ≡ Err RoomFault.NotGranted → IsNotGranted S.JobStore at.now p.now chosen.now store.old }
+    ensures granted { OnOk result (chosen.now.how ≡ How.Made → granted_at (S.grants_new at.now.job store.old) at.now (take_as p.now) chosen.now ≡ true) }
+    ensures refused { result ≡ Err RoomFault.NotGranted → IsNotGranted S.JobStore at.now (take_as p.now) chosen.now store.old }
     ensures err { OnErr result ((store.new ≡ store.old) × (course.new ≡ course.old)) }
 {
     let volume = DdVolume {
@@ -315,10 +335,10 @@ fn target<S: JobStore>(
     given: &Given,
     own: &Own,
     at: &Site,
-    p: &SetPlan,
+    p: &TakeSet,
     key: &Key,
 ) -> Target
-    ensures { result ≡ target_in (fixed_by given.now) at.now.step at.now.dd p.now key.now (S.seen at.now.job store.now) own.now }
+    ensures { result ≡ target_in (fixed_by given.now) at.now.step at.now.dd (take_as p.now) key.now (S.seen at.now.job store.now) own.now }
 {
     let passed = own.passed.as_slice();
     target_of(
@@ -345,16 +365,16 @@ fn decision<S: JobStore>(
     store: &S,
     job: u16,
     given: &Given,
-    p: &SetPlan,
+    p: &TakeSet,
     key: &Key,
     target: &Target,
 ) -> Decision
-    ensures { result ≡ decision_in (fixed_by given.now) p.now key.now (S.seen job store.now) target.now true }
+    ensures { result ≡ decision_in (fixed_by given.now) (take_as p.now) key.now (S.seen job store.now) target.now true }
 {
     let serial = looked_at(target);
     let known = is_known(given.volumes, &serial);
     let there = is_there(store, job, key, &serial);
-    let space = p.space.is_some();
+    let space = has_space(p);
     decide(target, known, there, space, true)
 }
 
@@ -365,11 +385,11 @@ fn accept_or_refuse<S: JobStore>(
     given: &Given,
     course: &mut Course,
     at: &Site,
-    p: &SetPlan,
+    p: &TakeSet,
     chosen: &Chosen,
 ) -> Result<Taken, AllocError>
     requires { chosen.now.how ≡ How.Made → (S.seen at.now.job store.old).set chosen.now.key chosen.now.serial ≡ None }
-    ensures { MakesWith S.JobStore at.now.job (λ grants. TookChosen grants given.now at.now p.now chosen.now)
+    ensures { MakesWith S.JobStore at.now.job (λ g. TookChosen g given.now at.now (take_as p.now) chosen.now)
         result store.old course.old store.new course.new }
 {
     match accept(alloc, store, given, course, at, p, chosen) {
@@ -389,10 +409,10 @@ fn take_key<S: JobStore>(
     given: &Given,
     course: &mut Course,
     at: &Site,
-    p: &SetPlan,
+    p: &TakeSet,
     key: &Key,
 ) -> Result<Taken, AllocError>
-    ensures { MakesWith S.JobStore at.now.job (λ grants. TookKey grants given.now at.now p.now key.now)
+    ensures { MakesWith S.JobStore at.now.job (λ grants. TookKey grants given.now at.now (take_as p.now) key.now)
         result store.old course.old store.new course.new }
 {
     let target = target(store, given, &course.own, at, p, key);
@@ -416,9 +436,9 @@ fn take_set<S: JobStore>(
     given: &Given,
     course: &mut Course,
     at: &Site,
-    p: &SetPlan,
+    p: &TakeSet,
 ) -> Result<Taken, AllocError>
-    ensures { MakesWith S.JobStore at.now.job (λ grants. TookSet grants given.now at.now p.now) result store.old course.old store.new course.new }
+    ensures { MakesWith S.JobStore at.now.job (λ grants. TookSet grants given.now at.now (take_as p.now)) result store.old course.old store.new course.new }
 {
     match given.meanings.at(at.step, at.dd) {
         Resolution::Fails(fault) => refuse(alloc, store, course, at, fault),
@@ -434,9 +454,9 @@ pub fn take<S: JobStore>(
     given: &Given,
     course: &mut Course,
     at: &Site,
-    kind: &KindText,
+    text: &TakeText,
 ) -> Result<Taken, AllocError>
-    ensures { MakesAs S.JobStore at.now.job kind.now (λ dd grants. Took grants given.now at.now dd) result store.old course.old store.new course.new }
+    ensures { MakesAs S.JobStore at.now.job text.now (λ dd grants. Took grants given.now at.now dd) result store.old course.old store.new course.new }
 {
     if !course.own.runs {
         return Ok(Taken {
@@ -444,10 +464,10 @@ pub fn take<S: JobStore>(
             made: None,
         });
     }
-    match kind {
-        KindText::Sysout(class) => take_no_set(alloc, course, at, TakeWord::Sysout(*class)),
-        KindText::Dummy => take_no_set(alloc, course, at, TakeWord::Dummy),
-        KindText::Cards(count) => take_no_set(alloc, course, at, TakeWord::Cards(*count)),
-        KindText::Set(p) => take_set(alloc, store, given, course, at, p),
+    match text {
+        TakeText::Sysout(class) => take_no_set(alloc, course, at, TakeWord::Sysout(*class)),
+        TakeText::Dummy => take_no_set(alloc, course, at, TakeWord::Dummy),
+        TakeText::Cards(count) => take_no_set(alloc, course, at, TakeWord::Cards(*count)),
+        TakeText::Set(p) => take_set(alloc, store, given, course, at, p),
     }
 }

@@ -1,1 +1,2 @@
 pub mod KindsRead
+pub mod Members

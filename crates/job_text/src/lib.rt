@@ -1,6 +1,7 @@
 //! A job as its actions read it: by numbers and by value, wherever it stands. (This profile)
 #![tactic(auto)]
 
+mod dds;
 pub mod planned;
 pub mod text;
 pub mod texts;

@@ -3,8 +3,12 @@ ghost use Rattle.std.specs.Prelude.{◌≡◌, ◌<◌, length};
 ghost use Rattle.job_text.specs.Places.{card_at};
 ghost use Rattle.job_text.specs.Texts.{cards_in};
 
+use crate::dds::{dd_of, is_continued, members_end};
 use crate::text::JobText;
-use crate::texts::{KindText, SourceText, StepText, kind_text, source_text, step_text};
+use crate::texts::{
+    DispText, PutText, SourceText, StepText, TakeText, disp_text, put_text, source_text, step_text,
+    take_text,
+};
 use jcl_meaning::words::passes;
 use jcl_plan::plan::{DdKind, JobPlan, Record, Test};
 use jname_core::name8::Name8;
@@ -55,8 +59,28 @@ impl JobText for JobPlan {
         self.steps.as_slice()[step].dds.as_slice()[dd].name
     }
 
-    fn kind(&self, step: usize, dd: usize) -> KindText {
-        kind_text(&self.steps.as_slice()[step].dds.as_slice()[dd].kind)
+    fn dd_named(&self, step: usize, name: &Name8) -> Option<usize> {
+        dd_of(self.steps.as_slice()[step].dds.as_slice(), name)
+    }
+
+    fn continues(&self, step: usize, dd: usize) -> bool {
+        is_continued(&self.steps.as_slice()[step].dds.as_slice()[dd])
+    }
+
+    fn members_end(&self, step: usize, dd: usize) -> usize {
+        members_end(self.steps.as_slice()[step].dds.as_slice(), dd)
+    }
+
+    fn take_text(&self, step: usize, dd: usize) -> TakeText {
+        take_text(&self.steps.as_slice()[step].dds.as_slice()[dd].kind)
+    }
+
+    fn put_text(&self, step: usize, dd: usize) -> PutText {
+        put_text(&self.steps.as_slice()[step].dds.as_slice()[dd].kind)
+    }
+
+    fn disp_text(&self, step: usize, dd: usize) -> DispText {
+        disp_text(&self.steps.as_slice()[step].dds.as_slice()[dd].kind)
     }
 
     fn source(&self, step: usize, dd: usize) -> SourceText {

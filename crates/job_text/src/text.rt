@@ -1,11 +1,12 @@
 //! A job as its actions read it.
-ghost use Rattle.std.specs.Prelude.{◌≡◌, ◌<◌, length};
+ghost use Rattle.std.specs.Prelude.{◌≡◌, ◌≤◌, ◌-◌, ◌<◌, drop, length, take};
 ghost use Rattle.jcl_plan.specs.declared.plan.JobPlan.{JobPlan};
 ghost use Rattle.jcl_meaning.specs.Plans.{passes};
+ghost use Rattle.jcl_meaning.specs.Programs.{dd_of, is_continued, members_at};
 ghost use Rattle.job_text.specs.Places.{card_at, dd_at, step_at, test_at};
-ghost use Rattle.job_text.specs.Texts.{cards_in, kind_text, source_text, step_text};
+ghost use Rattle.job_text.specs.Texts.{cards_in, disp_text, put_text, source_text, step_text, take_text};
 
-use crate::texts::{KindText, SourceText, StepText};
+use crate::texts::{DispText, PutText, SourceText, StepText, TakeText};
 use jcl_plan::plan::{Record, Test};
 use jname_core::name8::Name8;
 
@@ -60,14 +61,49 @@ pub trait JobText {
         requires dd { dd < length (step_at (plan self.now).steps step).dds }
         ensures { result ≡ (dd_at (step_at (plan self.now).steps step).dds dd).name };
 
-    /// What a DD is.
-    fn kind(&self, step: usize, dd: usize) -> KindText
+    /// The first DD of a name in a step. DDs without a name have none.
+    fn dd_named(&self, step: usize, name: &Name8) -> Option<usize>
+        requires reads { reads self.now }
+        requires step { step < length (plan self.now).steps }
+        ensures { result ≡ dd_of (step_at (plan self.now).steps step).dds name.now };
+
+    /// Whether a DD continues the concatenation of the one before.
+    fn continues(&self, step: usize, dd: usize) -> bool
         requires reads { reads self.now }
         requires step { step < length (plan self.now).steps }
         requires dd { dd < length (step_at (plan self.now).steps step).dds }
-        ensures { result ≡ kind_text (dd_at (step_at (plan self.now).steps step).dds dd).kind };
+        ensures { result ≡ is_continued (dd_at (step_at (plan self.now).steps step).dds dd).name };
 
-    /// What a GET may read of a DD. It is less than what the DD is, and costs less.
+    /// The first DD after this one that does not continue its concatenation, or the number of the step's DDs.
+    fn members_end(&self, step: usize, dd: usize) -> usize
+        requires reads { reads self.now }
+        requires step { step < length (plan self.now).steps }
+        requires dd { dd < length (step_at (plan self.now).steps step).dds }
+        ensures members { take (result - dd) (drop dd (step_at (plan self.now).steps step).dds) ≡ members_at (drop dd (step_at (plan self.now).steps step).dds) }
+        ensures within { (dd < result) × (result ≤ length (step_at (plan self.now).steps step).dds) };
+
+    /// What the taking of a DD reads.
+    fn take_text(&self, step: usize, dd: usize) -> TakeText
+        requires reads { reads self.now }
+        requires step { step < length (plan self.now).steps }
+        requires dd { dd < length (step_at (plan self.now).steps step).dds }
+        ensures { result ≡ take_text (dd_at (step_at (plan self.now).steps step).dds dd).kind };
+
+    /// What a PUT to a DD reads.
+    fn put_text(&self, step: usize, dd: usize) -> PutText
+        requires reads { reads self.now }
+        requires step { step < length (plan self.now).steps }
+        requires dd { dd < length (step_at (plan self.now).steps step).dds }
+        ensures { result ≡ put_text (dd_at (step_at (plan self.now).steps step).dds dd).kind };
+
+    /// What the disposition of a DD reads, and the job's end.
+    fn disp_text(&self, step: usize, dd: usize) -> DispText
+        requires reads { reads self.now }
+        requires step { step < length (plan self.now).steps }
+        requires dd { dd < length (step_at (plan self.now).steps step).dds }
+        ensures { result ≡ disp_text (dd_at (step_at (plan self.now).steps step).dds dd).kind };
+
+    /// What a GET may read of a DD.
     fn source(&self, step: usize, dd: usize) -> SourceText
         requires reads { reads self.now }
         requires step { step < length (plan self.now).steps }

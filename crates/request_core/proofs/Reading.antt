@@ -8,7 +8,7 @@ use Rattle.jcl_meaning.specs.declared.state.DdState.{DdState}
 use Rattle.jcl_meaning.specs.Programs.{at_source, located, members_at, source_of, sources_from, taken_at}
 use Rattle.jcl_meaning.specs.Stores.{Store}
 use Rattle.job_text.specs.Places.{dd_at}
-use Rattle.store_core.proofs.Members.{drop_dd}
+use Rattle.job_text.proofs.Members.{drop_dd}
 use Rattle.request_core.specs.Requests.{is_read_on}
 
 -- by whether the next is read

@@ -31,8 +31,8 @@ use Rattle.disp_core.specs.Acting.{Acts}
 use Rattle.disp_core.specs.Courses.{Carried, Does}
 use Rattle.disp_core.specs.declared.course.Course.{Course}
 use Rattle.job_text.specs.Places.{dd_at, step_at}
-use Rattle.job_text.specs.Texts.{kind_text}
-use Rattle.job_text.specs.declared.texts.KindText.{KindText}
+use Rattle.job_text.specs.Texts.{put_text}
+use Rattle.job_text.specs.declared.texts.PutText.{PutText}
 use Rattle.store_core.specs.declared.job_store.JobStore.{Ghosts}
 use Rattle.request_core.specs.declared.here.Asking.{Asking}
 use Rattle.request_core.specs.declared.here.Here.{Here}
@@ -249,12 +249,12 @@ abbrev pub GetsOver : List StepPlan → Asking → List ℕ → Here → Store �
 GetsOver steps asking name here seen before after = Gets (step_asked steps asking) name here seen before after
 
 -- a PUT: whether it asks for tracks, and that it was carried out over a store
-abbrev pub AsksGrowthAs : KindText → Here → Store → Bool → Type 0
-AsksGrowthAs kind here seen told = (dd : DdKind) → kind_text dd ≡ kind → told ≡ is_some (growth_of_kind here dd seen)
+abbrev pub AsksGrowthAs : PutText → Here → Store → Bool → Type 0
+AsksGrowthAs text here seen told = (dd : DdKind) → put_text dd ≡ text → told ≡ is_some (growth_of_kind here dd seen)
 
-abbrev pub PutsAs : {S : Type 0} → Ghosts S → KindText → Putting → Here → S → Course → S → Course → Type 0
-PutsAs store kind putting here old before new after =
-    (dd : DdKind) → kind_text dd ≡ kind → Puts (store.grants_growth putting.job old) putting.name.now putting.text.now here dd
+abbrev pub PutsAs : {S : Type 0} → Ghosts S → PutText → Putting → Here → S → Course → S → Course → Type 0
+PutsAs store text putting here old before new after =
+    (dd : DdKind) → put_text dd ≡ text → Puts (store.grants_growth putting.job old) putting.name.now putting.text.now here dd
     (store.seen putting.job old) before (store.seen putting.job new) after
 
 abbrev pub PutsInOver : {S : Type 0} → Ghosts S → Putting → Here → SetPlan → TakenSet → S → Course → S → Course → Type 0

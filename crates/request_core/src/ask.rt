@@ -4,7 +4,7 @@ ghost use Rattle.jcl_plan.specs.declared.plan.DdKind.{DdKind};
 ghost use Rattle.jcl_meaning.specs.Programs.{is_read_only};
 ghost use Rattle.jcl_meaning.specs.RequestActs.{dd_name};
 ghost use Rattle.job_text.specs.Places.{step_at};
-ghost use Rattle.job_text.specs.Texts.{kind_text};
+ghost use Rattle.job_text.specs.Texts.{put_text};
 ghost use Rattle.request_core.specs.Requests.{AsksAtOver, AsksOfOver, AsksOver, asks_growth_at, asks_growth_of};
 
 use crate::here::{Asking, Here, here_at};
@@ -16,20 +16,20 @@ use jcl_meaning::program::Move;
 use jcl_plan::outcome::Abend;
 use jname_core::name8::Name8;
 use job_text::text::JobText;
-use job_text::texts::KindText;
+use job_text::texts::PutText;
 use std::alloc::{AllocError, Global};
 use store_core::job_store::JobStore;
-use store_core::source::{dd_of, is_concatenated};
+use store_core::source::is_concatenated;
 
 /// Whether no record may be put to a DD.
-pub fn is_read_only(kind: &KindText) -> bool
-    ensures { (dd : DdKind) → kind_text dd ≡ kind.now → result ≡ is_read_only dd }
+pub fn is_read_only(text: &PutText) -> bool
+    ensures { (dd : DdKind) → put_text dd ≡ text.now → result ≡ is_read_only dd }
 {
-    match kind {
-        KindText::Sysout(_) => false,
-        KindText::Dummy => false,
-        KindText::Cards(_) => true,
-        KindText::Set(p) => is_shr(p.status),
+    match text {
+        PutText::Sysout => false,
+        PutText::Dummy => false,
+        PutText::Cards => true,
+        PutText::Set(p) => is_shr(p.status),
     }
 }
 
@@ -66,8 +66,8 @@ fn ask_of<T: JobText, S: JobStore>(
             Ok(false)
         }
         Move::To { dd, text: record } => {
-            let kind = text.kind(asking.step, here.d);
-            if is_read_only(&kind) || is_concatenated(text, asking.step, here.d) {
+            let put_text = text.put_text(asking.step, here.d);
+            if is_read_only(&put_text) || is_concatenated(text, asking.step, here.d) {
                 abend(course, &Abend::SFF1)?;
                 Ok(false)
             } else {
@@ -77,7 +77,7 @@ fn ask_of<T: JobText, S: JobStore>(
                     text: record,
                     d: here.d,
                 };
-                put(alloc, store, course, &putting, here, &kind)
+                put(alloc, store, course, &putting, here, &put_text)
             }
         }
     }
@@ -127,7 +127,7 @@ pub fn ask<T: JobText, S: JobStore>(
         abend(course, &Abend::S222)?;
         return Ok(false);
     }
-    match dd_of(text, asking.step, dd_name(asking.wants)) {
+    match text.dd_named(asking.step, dd_name(asking.wants)) {
         None => {
             abend(course, &Abend::SFF0)?;
             Ok(false)

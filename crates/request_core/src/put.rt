@@ -2,8 +2,8 @@
 ghost use Rattle.std.specs.Prelude.{◌≡◌, [], IfOk, None, OnErr, OnOk, Some, is_some};
 ghost use Rattle.jcl_plan.specs.declared.entry.JobLine.TheVariants as line;
 ghost use Rattle.jcl_meaning.specs.Programs.{emptied, empties, is_full, or_nothing};
-ghost use Rattle.jcl_meaning.specs.Takes.{secondary_of};
 ghost use Rattle.jcl_meaning.specs.declared.state.Due.TheVariants as due;
+ghost use Rattle.job_text.specs.Texts.{put_as};
 ghost use Rattle.store_core.specs.Actions.{changed_at};
 ghost use Rattle.request_core.specs.Requests.{AsksGrowthAs, GrowsCourse, GrowsStore, PutsAs, PutsInOver, course_due, course_put};
 ghost use Rattle.request_core.specs.Requests.{course_with, growth_in, with_dd, with_mark, with_spooled};
@@ -14,9 +14,9 @@ use disp_core::course::Course;
 use jcl_meaning::state::{DdState, Due, TakenSet};
 use jcl_plan::entry::JobLine;
 use jcl_plan::outcome::Abend;
-use jcl_plan::plan::{RECORDS_A_TRACK, Record, SetPlan, Space, Status};
+use jcl_plan::plan::{RECORDS_A_TRACK, Record, Status};
 use jname_core::name8::Name8;
-use job_text::texts::KindText;
+use job_text::texts::{PutSet, PutText};
 use plain::listed::Listed;
 use std::alloc::{AllocError, Global};
 use std::mem;
@@ -71,15 +71,6 @@ fn empties(status: Status, written: bool) -> bool
         Status::Old => !written,
         Status::Shr => false,
         Status::Mod => false,
-    }
-}
-
-fn secondary_of(space: &Option<Space>) -> u16
-    ensures { result ≡ secondary_of space.now }
-{
-    match space {
-        None => 0,
-        Some(space) => space.secondary,
     }
 }
 
@@ -195,28 +186,27 @@ fn put_in<S: JobStore>(
     course: &mut Course,
     putting: &Putting<'_>,
     here: &Here,
-    p: &SetPlan,
+    p: &PutSet,
     t: &TakenSet,
 ) -> Result<bool, AllocError>
     requires { here.now.d ≡ putting.now.d }
-    ensures asked { IfOk result (λ asked. asked ≡ is_some (growth_in p.now here.now.written (Some t.now) (S.seen putting.now.job store.old))) }
-    ensures ok { OnOk result (PutsInOver S.JobStore putting.now here.now p.now t.now store.old course.old store.new course.new) }
+    ensures asked { IfOk result (λ asked. asked ≡ is_some (growth_in (put_as p.now) here.now.written (Some t.now) (S.seen putting.now.job store.old))) }
+    ensures ok { OnOk result (PutsInOver S.JobStore putting.now here.now (put_as p.now) t.now store.old course.old store.new course.new) }
     ensures err { OnErr result ((store.new ≡ store.old) × (course.new ≡ course.old)) }
     ensures rest { OnOk result (S.takes putting.now.job [] (S.rest putting.now.job store.old) (S.rest putting.now.job store.new)) }
 {
     let wipes = empties(p.status, here.written);
-    let secondary = secondary_of(&p.space);
     if !is_full(store, putting.job, t, wipes) {
         put_starts(alloc, course, putting, t)?;
         wipe(store, putting.job, t, wipes);
         return Ok(false);
     }
-    if secondary == 0 {
+    if p.secondary == 0 {
         abend(course, &Abend::SD37)?;
         wipe(store, putting.job, t, wipes);
         return Ok(false);
     }
-    put_grows(alloc, store, course, putting, t, secondary, wipes)?;
+    put_grows(alloc, store, course, putting, t, p.secondary, wipes)?;
     Ok(true)
 }
 
@@ -248,29 +238,29 @@ pub(crate) fn put<S: JobStore>(
     course: &mut Course,
     putting: &Putting<'_>,
     here: &Here,
-    kind: &KindText,
+    text: &PutText,
 ) -> Result<bool, AllocError>
     requires { here.now.d ≡ putting.now.d }
-    ensures asked { IfOk result (AsksGrowthAs kind.now here.now (S.seen putting.now.job store.old)) }
-    ensures ok { OnOk result (PutsAs S.JobStore kind.now putting.now here.now store.old course.old store.new course.new) }
+    ensures asked { IfOk result (AsksGrowthAs text.now here.now (S.seen putting.now.job store.old)) }
+    ensures ok { OnOk result (PutsAs S.JobStore text.now putting.now here.now store.old course.old store.new course.new) }
     ensures err { OnErr result ((store.new ≡ store.old) × (course.new ≡ course.old)) }
     ensures rest { OnOk result (S.takes putting.now.job [] (S.rest putting.now.job store.old) (S.rest putting.now.job store.new)) }
 {
-    match kind {
-        KindText::Sysout(_) => {
+    match text {
+        PutText::Sysout => {
             put_out(alloc, course, putting)?;
             Ok(false)
         }
-        KindText::Dummy => {
+        PutText::Dummy => {
             let name = *putting.name;
             say_done(course, JobLine::PutDone { name })?;
             Ok(false)
         }
-        KindText::Cards(_) => {
+        PutText::Cards => {
             abend(course, &Abend::SFF1)?;
             Ok(false)
         }
-        KindText::Set(p) => match &here.taken {
+        PutText::Set(p) => match &here.taken {
             None => {
                 abend(course, &Abend::SFF1)?;
                 Ok(false)

@@ -14,7 +14,6 @@ use jname_core::serial::Serial;
 use job_text::text::JobText;
 use job_text::texts::SourceText;
 use store_core::job_store::JobStore;
-use store_core::source::members_end;
 
 /// The members of a concatenation: the step's DDs from the first on, up to an end, from 0, with the states of those that were taken.
 #[derive(Clone, Copy)]
@@ -168,7 +167,7 @@ pub fn reads<T: JobText, S: JobStore>(
     requires dd { here.now.d < length (step_at (T.plan text.now).steps step).dds }
     ensures { result ≡ located_at (S.seen job store.now) (step_at (T.plan text.now).steps step).dds states.now here.now }
 {
-    let end = members_end(text, step, here.d);
+    let end = text.members_end(step, here.d);
     if here.member < end - here.d {
         let of = Members {
             step,

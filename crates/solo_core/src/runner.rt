@@ -110,14 +110,14 @@ impl<'a> Runner<'a> {
         ensures { OnOk result (Does (Take n dd (dd_at (step_at (T.plan text.now).steps (n - 1)).dds (dd - 1))) self.old self.new) }
     {
         let at = site_of(text, JOB, n, dd);
-        let kind = text.kind(n - 1, dd - 1);
+        let reads = text.take_text(n - 1, dd - 1);
         let taken = take::take(
             self.alloc,
             &mut self.store,
             &self.given,
             &mut self.course,
             &at,
-            &kind,
+            &reads,
         )?;
         self.met(taken.meets)?;
         Ok(())
@@ -148,8 +148,8 @@ impl<'a> Runner<'a> {
         ensures { OnOk result (Does (Dispose n dd (dd_at (step_at (T.plan text.now).steps (n - 1)).dds (dd - 1))) self.old self.new) }
     {
         let at = site_of(text, JOB, n, dd);
-        let kind = text.kind(n - 1, dd - 1);
-        let meets = dispose::dispose(&mut self.store, &self.given, &mut self.course, &at, &kind)?;
+        let reads = text.disp_text(n - 1, dd - 1);
+        let meets = dispose::dispose(&mut self.store, &self.given, &mut self.course, &at, &reads)?;
         self.met(meets)?;
         Ok(())
     }
@@ -166,8 +166,8 @@ impl<'a> Runner<'a> {
         ensures { OnOk result (Does (Left n dd (dd_at (step_at (T.plan text.now).steps (n - 1)).dds (dd - 1))) self.old self.new) }
     {
         let at = site_of(text, JOB, n, dd);
-        let kind = text.kind(n - 1, dd - 1);
-        let meets = dispose::leave(&mut self.store, &self.given, &mut self.course, &at, &kind)?;
+        let reads = text.disp_text(n - 1, dd - 1);
+        let meets = dispose::leave(&mut self.store, &self.given, &mut self.course, &at, &reads)?;
         self.met(meets)?;
         Ok(())
     }

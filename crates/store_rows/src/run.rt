@@ -13,7 +13,7 @@ use jcl_meaning::words::passes;
 use jcl_plan::outcome::{Code, Outcome};
 use jcl_plan::plan::{DdPlan, JobPlan, StepPlan};
 use jname_core::serial::Serial;
-use job_text::texts::kind_text;
+use job_text::texts::{disp_text, take_text};
 use plain::listed::Listed;
 use request_core::ask::ask;
 use request_core::here::Asking;
@@ -207,7 +207,7 @@ impl Way<'_> {
             Action::Start => self.begin(at.n),
             Action::Take(dd, d) => {
                 let site = at.site(dd, d);
-                take(self.alloc, store, given, course, &site, &kind_text(&d.kind))?;
+                take(self.alloc, store, given, course, &site, &take_text(&d.kind))?;
                 Ok(())
             }
             Action::Ask(wants) => self.ask(store, at.n, wants),
@@ -218,7 +218,7 @@ impl Way<'_> {
             Action::Finish => self.answers.finish(self.alloc, course, at.n),
             Action::Dispose(dd, d) => dispose_of(store, given, course, &at.site(dd, d), d),
             Action::Left(dd, d) => {
-                leave(store, given, course, &at.site(dd, d), &kind_text(&d.kind))?;
+                leave(store, given, course, &at.site(dd, d), &disp_text(&d.kind))?;
                 Ok(())
             }
             Action::Over => end(course),
@@ -235,7 +235,7 @@ fn dispose_of<S: JobStore>(
     d: &DdPlan,
 ) -> Result<(), AllocError> {
     if site.dd > 0 {
-        dispose(store, given, course, site, &kind_text(&d.kind))?;
+        dispose(store, given, course, site, &disp_text(&d.kind))?;
     }
     Ok(())
 }

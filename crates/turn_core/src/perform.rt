@@ -69,8 +69,8 @@ pub(crate) fn perform<T: JobText, S: JobStore>(
         }
         Task::Take { n, dd } => {
             let at = site_of(text, job, *n, *dd);
-            let kind = text.kind(*n - 1, *dd - 1);
-            let taken = take::take(alloc, store, given, course, &at, &kind)?;
+            let reads = text.take_text(*n - 1, *dd - 1);
+            let taken = take::take(alloc, store, given, course, &at, &reads)?;
             Ok(acted(taken.made, false))
         }
         Task::Ask { n, wants } => {
@@ -100,14 +100,14 @@ pub(crate) fn perform<T: JobText, S: JobStore>(
         }
         Task::Dispose { n, dd } => {
             let at = site_of(text, job, *n, *dd);
-            let kind = text.kind(*n - 1, *dd - 1);
-            dispose::dispose(store, given, course, &at, &kind)?;
+            let reads = text.disp_text(*n - 1, *dd - 1);
+            dispose::dispose(store, given, course, &at, &reads)?;
             Ok(acted(None, false))
         }
         Task::Left { n, dd } => {
             let at = site_of(text, job, *n, *dd);
-            let kind = text.kind(*n - 1, *dd - 1);
-            dispose::leave(store, given, course, &at, &kind)?;
+            let reads = text.disp_text(*n - 1, *dd - 1);
+            dispose::leave(store, given, course, &at, &reads)?;
             Ok(acted(None, false))
         }
     }

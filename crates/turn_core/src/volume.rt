@@ -2,7 +2,7 @@
 ghost use Rattle.std.specs.Prelude.{◌≡◌, ◌<◌, Some, length};
 ghost use Rattle.jcl_plan.specs.declared.plan.DdKind.{DdKind};
 ghost use Rattle.job_text.specs.Places.{step_at};
-ghost use Rattle.job_text.specs.Texts.{kind_text};
+ghost use Rattle.job_text.specs.Texts.{put_text};
 ghost use Rattle.turn_core.specs.Waiting.{volume_asked_for, volume_at, volume_found, volume_here, volume_put};
 
 use jcl_meaning::program::Move;
@@ -10,12 +10,12 @@ use jcl_meaning::source::FoundRecord;
 use jcl_meaning::state::{DdState, TakenSet};
 use jname_core::serial::Serial;
 use job_text::text::JobText;
-use job_text::texts::KindText;
+use job_text::texts::PutText;
 use request_core::ask::{dd_name, is_read_only};
 use request_core::here::{Here, here_at};
 use request_core::read::reads;
 use store_core::job_store::JobStore;
-use store_core::source::{dd_of, is_concatenated};
+use store_core::source::is_concatenated;
 
 /// The volume of the set that has this record.
 fn volume_found(found: &FoundRecord) -> Option<Serial>
@@ -28,14 +28,14 @@ fn volume_found(found: &FoundRecord) -> Option<Serial>
 }
 
 /// The volume of the set to which a PUT goes.
-fn volume_put(kind: &KindText, t: &Option<TakenSet>) -> Option<Serial>
-    ensures { (dd : DdKind) → kind_text dd ≡ kind.now → result ≡ volume_put dd t.now }
+fn volume_put(text: &PutText, t: &Option<TakenSet>) -> Option<Serial>
+    ensures { (dd : DdKind) → put_text dd ≡ text.now → result ≡ volume_put dd t.now }
 {
-    match kind {
-        KindText::Sysout(_) => None,
-        KindText::Dummy => None,
-        KindText::Cards(_) => None,
-        KindText::Set(_) => match t {
+    match text {
+        PutText::Sysout => None,
+        PutText::Dummy => None,
+        PutText::Cards => None,
+        PutText::Set(_) => match t {
             None => None,
             Some(t) => Some(t.serial),
         },
@@ -63,11 +63,11 @@ fn volume_of<T: JobText, S: JobStore>(
             volume_found(&found)
         }
         Move::To { .. } => {
-            let kind = text.kind(step, here.d);
-            if is_read_only(&kind) || is_concatenated(text, step, here.d) {
+            let put_text = text.put_text(step, here.d);
+            if is_read_only(&put_text) || is_concatenated(text, step, here.d) {
                 None
             } else {
-                volume_put(&kind, &here.taken)
+                volume_put(&put_text, &here.taken)
             }
         }
     }
@@ -107,7 +107,7 @@ pub(crate) fn volume_asked_for<T: JobText, S: JobStore>(
     requires step { step < length (T.plan text.now).steps }
     ensures { result ≡ volume_asked_for (step_at (T.plan text.now).steps step) wants.now (S.seen job store.now) states.now }
 {
-    match dd_of(text, step, dd_name(wants)) {
+    match text.dd_named(step, dd_name(wants)) {
         None => None,
         Some(d) => volume_at(text, store, job, step, wants, states, d),
     }

@@ -10,7 +10,7 @@ use disp_core::dispose;
 use disp_core::site::Site;
 use jcl_meaning::words::passes;
 use jcl_plan::plan::{DdPlan, StepPlan};
-use job_text::texts::kind_text;
+use job_text::texts::disp_text;
 use std::alloc::{AllocError, Global};
 use view_domain::crossed::Stop;
 
@@ -84,7 +84,7 @@ pub(crate) fn leave_all(
             given,
             &mut under.course,
             &at,
-            &kind_text(&left.plan.kind),
+            &disp_text(&left.plan.kind),
         )?;
         if let Some(fault) = meets {
             return Ok(Some(Stop {

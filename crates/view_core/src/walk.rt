@@ -13,7 +13,7 @@ use disp_core::{dispose, step, take};
 use jcl_meaning::state::Place;
 use jcl_plan::outcome::Outcome;
 use jcl_plan::plan::{DdPlan, StepPlan};
-use job_text::texts::kind_text;
+use job_text::texts::{disp_text, take_text};
 use seen_store::store::SeenStore;
 use std::alloc::{AllocError, Global};
 use view_domain::crossed::Stop;
@@ -99,7 +99,7 @@ fn take_all(
             given,
             &mut under.course,
             &at,
-            &kind_text(&d.kind),
+            &take_text(&d.kind),
         )?;
         if let Some(fault) = taken.meets {
             return Ok(Some(Stop {
@@ -131,8 +131,8 @@ fn dispose_all(
             dd: i + 1,
             name: d.name,
         };
-        let kind = kind_text(&d.kind);
-        let meets = dispose::dispose(&mut under.store, given, &mut under.course, &at, &kind)?;
+        let text = disp_text(&d.kind);
+        let meets = dispose::dispose(&mut under.store, given, &mut under.course, &at, &text)?;
         if let Some(fault) = meets {
             return Ok(Some(Stop {
                 at: dds.len() + 2 + i,

@@ -1,5 +1,5 @@
 use Rattle.std.proofs.Common.{◌≡◌, drop}
-use Rattle.jcl_meaning.specs.History.{satisfied, some_satisfied}
+use Rattle.jcl_meaning.specs.History.{some_satisfied}
 use Rattle.job_text.specs.Places.{step_at}
 use Rattle.disp_core.proofs.step.is_met.Given as goal
 

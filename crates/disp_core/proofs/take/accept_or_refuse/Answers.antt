@@ -2,6 +2,7 @@ use Rattle.std.proofs.Common.{ap, subst, sym, ◌∙◌, Err, IfOk}
 use Rattle.jcl_plan.specs.declared.fault.Fault.TheVariants.{F6}
 use Rattle.jcl_meaning.specs.declared.take.Decision.TheVariants.{Takes}
 use Rattle.jcl_meaning.specs.TakeActs.{decided, refused}
+use Rattle.job_text.specs.Texts.{take_as}
 use Rattle.disp_core.specs.Acting.{Makes, MeetsAndMakes, at_site}
 use Rattle.disp_core.specs.Takings.{granted_or_refused}
 use Rattle.disp_core.proofs.take.accept_or_refuse.Goals as goal
@@ -25,7 +26,7 @@ returns-in-Err-NotGranted g c =
     same.1 c.refuse.ensures) in record {
       ok = subst
           (λ d. IfOk c.refuse.result (λ told.
-          MeetsAndMakes (λ s. at_site decided c.args.given.now at c.args.p.now chosen.key s d) seen c.args.course.now after c.refuse.new.course told))
+          MeetsAndMakes (λ s. at_site decided c.args.given.now at (take_as c.args.p.now) chosen.key s d) seen c.args.course.now after c.refuse.new.course told))
           (sym (λ i. granted_or_refused (Takes chosen.serial (why.0 i)) (why.1 i)))
           did.ok;
       err = did.err;

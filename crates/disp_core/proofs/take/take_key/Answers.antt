@@ -3,6 +3,7 @@ use Rattle.jcl_meaning.specs.declared.take.Decision.TheVariants.{Refuses, Takes}
 use Rattle.jcl_meaning.specs.declared.state.Resolution.TheVariants.{Means}
 use Rattle.jcl_meaning.specs.TakeActs.{decided, refused, takes_set}
 use Rattle.jcl_meaning.specs.Takes.{is_known, is_there, looked_at}
+use Rattle.job_text.specs.Texts.{take_as}
 use Rattle.disp_core.specs.Acting.{MeetsAndMakes, MeetsIfGranted, at_site}
 use Rattle.disp_core.specs.Courses.{fixed_by}
 use Rattle.disp_core.specs.Grants.{granted_on, made_of}
@@ -19,7 +20,7 @@ returns-in-Refuses g c =
     let seen = g.S.JobStore.seen at.job c.args.store.now in
     let after = g.S.JobStore.seen at.job c.refuse.new.store in
     let before = c.args.course.now in
-    let p = c.args.p.now in
+    let p = take_as c.args.p.now in
     let key = c.args.key.now in
     let granted = granted_on (g.S.JobStore.grants_new at.job c.args.store.now key) at.step at.dd p (looked_at (target_in fixed at.step at.dd p key seen before.own)) in
     let is = sym c.in-Refuses.is ∙ c.decision.ensures ∙ ap (λ t. decision_in fixed p key seen t true) c.target-target.ensures in record {
@@ -38,7 +39,7 @@ pub accept_or_refuse-requires : goal.accept_or_refuse-requires
 accept_or_refuse-requires g c made =
     let fixed = fixed_by c.args.given.now in
     let seen = g.S.JobStore.seen c.args.at.now.job c.args.store.now in
-    let p = c.args.p.now in
+    let p = take_as c.args.p.now in
     let key = c.args.key.now in
     let t = c.target-target.result in
     let there = is_there seen key (looked_at t) in
@@ -52,7 +53,7 @@ returns-in-Takes g c =
     let seen = g.S.JobStore.seen at.job c.args.store.now in
     let after = g.S.JobStore.seen at.job c.accept_or_refuse.new.store in
     let before = c.args.course.now in
-    let p = c.args.p.now in
+    let p = take_as c.args.p.now in
     let key = c.args.key.now in
     let t = target_in fixed at.step at.dd p key seen before.own in
     let grants = g.S.JobStore.grants_new at.job c.args.store.now key in

@@ -1,6 +1,7 @@
 use Rattle.std.proofs.Common.{subst, sym, ◌∙◌, IfOk}
 use Rattle.jcl_meaning.specs.declared.state.Resolution.TheVariants.{Fails}
 use Rattle.jcl_meaning.specs.TakeActs.{refused, takes_set}
+use Rattle.job_text.specs.Texts.{take_as}
 use Rattle.disp_core.specs.Acting.{MeetsAndMakes, MeetsIfGranted, at_site}
 use Rattle.disp_core.specs.Courses.{fixed_by}
 use Rattle.disp_core.specs.Grants.{granted_by}
@@ -15,7 +16,7 @@ returns-in-Fails g c =
     let seen = g.S.JobStore.seen at.job c.args.store.now in
     let after = g.S.JobStore.seen at.job c.refuse.new.store in
     let before = c.args.course.now in
-    let p = c.args.p.now in
+    let p = take_as c.args.p.now in
     let granted = granted_by (g.S.JobStore.grants_new at.job c.args.store.now) fixed at.step at.dd p seen before.own in record {
       ok = subst
           (λ m. IfOk c.refuse.result (λ told.

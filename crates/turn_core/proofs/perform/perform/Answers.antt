@@ -48,7 +48,7 @@ returns-in_ok-taken-in-Take-clause-ok g c =
     c.in_ok-taken-in-Take.taken.meets c.in_ok-taken-in-Take.taken.made (ap (λ t. is_idle (action_of steps t) before.own) (sym c.in-Take.is) ∙ c.requires.acts)
     (subst (λ (at : Site). MeetsIfGranted (primary_granted (g.S.JobStore.grants_new at.job c.args.store.now) fixed at.step at.dd d.kind (g.S.JobStore.seen at.job c.args.store.now) before.own)
     (taking c.args.setting.now.given at d.kind) (g.S.JobStore.seen at.job c.args.store.now) before (g.S.JobStore.seen at.job c.take.new.store) after c.in_ok-taken-in-Take.taken)
-    c.site_of-at.ensures (c.in_ok-taken-in-Take.ensures d.kind (sym c.kind-kind.ensures)).ok)))
+    c.site_of-at.ensures (c.in_ok-taken-in-Take.ensures d.kind (sym c.take_text-reads.ensures)).ok)))
 
 pub returns-in_ok-ask-in-Ask-clause-ok : goal.returns-in_ok-ask-in-Ask-clause-ok
 returns-in_ok-ask-in-Ask-clause-ok g c =
@@ -112,7 +112,7 @@ returns-in_ok-dispose-in-Dispose-clause-ok g c =
     c.in_ok-dispose-in-Dispose.field-0 (ap (λ t. is_idle (action_of steps t) before.own) (sym c.in-Dispose.is) ∙ c.requires.acts)
     (subst (λ (at : Site). Meets (disposition c.args.setting.now.given at d.kind) (g.S.JobStore.seen at.job c.args.store.now) before
     (g.S.JobStore.seen at.job c.dispose.new.store) after c.in_ok-dispose-in-Dispose.field-0)
-    c.site_of-at-in-Dispose.ensures (c.in_ok-dispose-in-Dispose.ensures d.kind (sym c.kind-kind-in-Dispose.ensures)).ok)))
+    c.site_of-at-in-Dispose.ensures (c.in_ok-dispose-in-Dispose.ensures d.kind (sym c.disp_text-reads.ensures)).ok)))
 
 pub returns-in_ok-leave-in-Left-clause-ok : goal.returns-in_ok-leave-in-Left-clause-ok
 returns-in_ok-leave-in-Left-clause-ok g c =
@@ -131,4 +131,4 @@ returns-in_ok-leave-in-Left-clause-ok g c =
     c.in_ok-leave-in-Left.field-0 (ap (λ t. is_idle (action_of steps t) before.own) (sym c.in-Left.is) ∙ c.requires.acts)
     (subst (λ (at : Site). Meets (at_site left_at c.args.setting.now.given at d.kind) (g.S.JobStore.seen at.job c.args.store.now) before
     (g.S.JobStore.seen at.job c.leave.new.store) after c.in_ok-leave-in-Left.field-0)
-    c.site_of-at-in-Left.ensures (c.in_ok-leave-in-Left.ensures d.kind (sym c.kind-kind-in-Left.ensures)).ok)))
+    c.site_of-at-in-Left.ensures (c.in_ok-leave-in-Left.ensures d.kind (sym c.disp_text-reads-in-Left.ensures)).ok)))

@@ -20,7 +20,7 @@ returns-in-Some c =
       λ answers. record {
         plan = l.plan.now;
         meets = leaves_meet fixed c.loop-i.i c.args.lefts.now l (state_of c.args.under.now answers) (state_of c.loop-i.under answers)
-            c.loop-i-test.true c.index-lefts-i.is c.in-Some.fault (c.loop-i.invariant answers) (((c.in_ok-meets.ensures l.plan.now.kind (sym c.kind_text.ensures)).ok answers).its_fault ∙ c.in-Some.is);
+            c.loop-i-test.true c.index-lefts-i.is c.in-Some.fault (c.loop-i.invariant answers) (((c.in_ok-meets.ensures l.plan.now.kind (sym c.disp_text.ensures)).ok answers).its_fault ∙ c.in-Some.is);
       },
     )
 
@@ -31,6 +31,6 @@ loop-i-preserved c =
     let l = c.index-lefts-i.result in
     λ answers. leaves_more fixed c.loop-i.i c.args.lefts.now l (state_of c.args.under.now answers) (state_of c.loop-i.under answers)
     c.loop-i-test.true c.index-lefts-i.is (state_of (record { store = c.leave.new.store; course = c.leave.new.course }) answers) (c.loop-i.invariant answers)
-    (let did = (c.in_ok-meets.ensures l.plan.now.kind (sym c.kind_text.ensures)).ok answers in
+    (let did = (c.in_ok-meets.ensures l.plan.now.kind (sym c.disp_text.ensures)).ok answers in
     run_one fixed (left_action l) (state_of c.loop-i.under answers) (state_of (record { store = c.leave.new.store; course = c.leave.new.course }) answers) []
     did.its_state (did.its_fault ∙ c.in_default.is) did.its_made)

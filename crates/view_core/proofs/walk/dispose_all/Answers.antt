@@ -23,7 +23,7 @@ returns-in-Some c =
         record {
           plan = d;
           meets = disposes_meet fixed c.args.n c.loop-i.i c.args.dds.now d (state_of c.args.under.now answers) (state_of c.loop-i.under answers) []
-              c.loop-i-test.true c.index-dds-i.is c.in-Some.fault (c.loop-i.invariant answers) (((c.in_ok-meets.ensures d.kind (sym c.kind_text-kind.ensures)).ok answers).its_fault ∙ c.in-Some.is);
+              c.loop-i-test.true c.index-dds-i.is c.in-Some.fault (c.loop-i.invariant answers) (((c.in_ok-meets.ensures d.kind (sym c.disp_text-text.ensures)).ok answers).its_fault ∙ c.in-Some.is);
         },
       ),
     )
@@ -35,6 +35,6 @@ loop-i-preserved c =
     let d = c.index-dds-i.result in
     λ answers. disposes_more fixed c.args.n c.loop-i.i c.args.dds.now d (state_of c.args.under.now answers) (state_of c.loop-i.under answers) []
     c.loop-i-test.true c.index-dds-i.is (state_of (record { store = c.dispose.new.store; course = c.dispose.new.course }) answers) [] (c.loop-i.invariant answers)
-    (let did = (c.in_ok-meets.ensures d.kind (sym c.kind_text-kind.ensures)).ok answers in
+    (let did = (c.in_ok-meets.ensures d.kind (sym c.disp_text-text.ensures)).ok answers in
     run_one fixed (Dispose c.args.n (c.loop-i.i + 1) d) (state_of c.loop-i.under answers) (state_of (record { store = c.dispose.new.store; course = c.dispose.new.course }) answers) []
     did.its_state (did.its_fault ∙ c.in_default.is) did.its_made)

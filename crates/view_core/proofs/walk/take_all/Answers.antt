@@ -28,7 +28,7 @@ returns-in-Some c =
           plan = d;
           meets = takes_meet fixed c.args.n c.loop-i.i c.args.dds.now d (state_of c.args.under.now answers) (state_of c.loop-i.under answers) c.loop-i.invariant.0
               c.loop-i-test.true c.index-dds-i.is c.in-Some.fault (c.loop-i.invariant.2 answers h)
-              (((c.in_ok-taken.ensures d.kind (sym c.kind_text.ensures)).ok answers (h ∙ sym (primary_is_granted fixed c.args.n (c.loop-i.i + 1) d.kind (store_of c.loop-i.under.store) c.loop-i.under.course.own))).its_fault
+              (((c.in_ok-taken.ensures d.kind (sym c.take_text.ensures)).ok answers (h ∙ sym (primary_is_granted fixed c.args.n (c.loop-i.i + 1) d.kind (store_of c.loop-i.under.store) c.loop-i.under.course.own))).its_fault
               ∙ c.in-Some.is);
         },
       ),
@@ -47,7 +47,7 @@ loop-i-preserved c =
       c.in_ok-push_made.ensures ∙ ap (λ (l : List Place). l ++ more) c.loop-i.invariant.1 ∙ append_assoc c.args.made.now.items sets more,
       λ answers h. takes_more fixed c.args.n c.loop-i.i c.args.dds.now d (state_of c.args.under.now answers) (state_of c.loop-i.under answers) sets
           c.loop-i-test.true c.index-dds-i.is (state_of (record { store = c.take.new.store; course = c.take.new.course }) answers) more (c.loop-i.invariant.2 answers h)
-          (let did = (c.in_ok-taken.ensures d.kind (sym c.kind_text.ensures)).ok answers (granted answers h) in
+          (let did = (c.in_ok-taken.ensures d.kind (sym c.take_text.ensures)).ok answers (granted answers h) in
           run_one fixed (Take c.args.n (c.loop-i.i + 1) d) (state_of c.loop-i.under answers) (state_of (record { store = c.take.new.store; course = c.take.new.course }) answers) more
           did.its_state (did.its_fault ∙ c.in_default.is) did.its_made),
     )

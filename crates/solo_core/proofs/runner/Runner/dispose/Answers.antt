@@ -16,7 +16,7 @@ returns g c =
     let old = c.args.self.now in
     let d = dd_at (step_at (g.T.JobText.plan c.args.text.now).steps (c.args.n - 1)).dds (c.args.dd - 1) in
     let new = record old { store = c.dispose.new.store; course = c.dispose.new.course } in
-    let told = c.in_ok-meets.ensures d.kind (sym c.kind-kind.ensures) in
+    let told = c.in_ok-meets.ensures d.kind (sym c.disp_text-reads.ensures) in
     does_told (Dispose c.args.n c.args.dd d) old new c.met.new.self c.in_ok-meets.meets []
     (subst (λ (at : Site). course.Does (disposition old.given at d.kind (state_by old)) (store_of new.store.store) new.course old.course (answers_by old) c.in_ok-meets.meets [])
     c.site_of-at.ensures (told.ok (answers_by old)))

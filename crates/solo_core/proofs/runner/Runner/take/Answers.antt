@@ -23,6 +23,6 @@ returns g c =
     does_told (Take c.args.n c.args.dd d) old new c.met.new.self taken.meets (made_of taken.made)
     (subst (λ (at : Site). course.Does (taking old.given at d.kind (state_by old)) (store_of new.store.store) new.course old.course (answers_by old) taken.meets (made_of taken.made))
     c.site_of-at.ensures
-    ((c.in_ok-taken.ensures d.kind (sym c.kind-kind.ensures)).ok (answers_by old)
+    ((c.in_ok-taken.ensures d.kind (sym c.take_text-reads.ensures)).ok (answers_by old)
     (sym (primary_is_granted (fixed_by old.given) c.site_of-at.result.step c.site_of-at.result.dd d.kind (store_of old.store.store) old.course.own))))
-    (record { given = refl; volumes = (c.in_ok-taken.ensures d.kind (sym c.kind-kind.ensures)).rest }) refl c.in_ok-met.ensures
+    (record { given = refl; volumes = (c.in_ok-taken.ensures d.kind (sym c.take_text-reads.ensures)).rest }) refl c.in_ok-met.ensures
