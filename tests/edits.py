@@ -13,8 +13,9 @@ What was refused stands in tests/refused.sums, a line each: the edit, and a sum 
 specs, and the signatures that a crate above can read, with their clauses. Bodies below do not count, since no proof above reads them.
 
 The edits of a crate are tried many at once: a function's contract is all that another function's proof reads, so edits of different functions do not
-meet, and an edit is refused where the check finds fault with a line of the function that it changes, or with that function's proof. One of which that
-cannot be said is tried alone, by `rt must-fail`.
+meet, and an edit is refused where the check finds fault with a line of the function that it changes, or with that function's proof. Only the functions
+that are changed are checked, and those that they call, once without the edits and once with them. An edit of which that cannot be said is tried alone,
+by `rt must-fail`.
 """
 
 import concurrent.futures
@@ -115,6 +116,15 @@ class Edit:
             if first <= self.begin and self.end <= last + 1:
                 self.function = self.file, start
                 self.name, self.lines = name, range(text.count("\n", 0, start) + 1, text.count("\n", 0, last) + 2)
+                self.item = self.item_of(rattle_text.owner_at(text, start))
+
+    def item_of(self, owner):
+        """Its function as a check names it, or the end of that; of a trait's method its module."""
+        if owner:
+            return f"{owner}::{self.name}"
+        parts = self.file.removeprefix("src/").removesuffix(".rt").removesuffix("/mod").split("/")
+        module = [] if parts in (["lib"], ["main"]) else parts
+        return "::".join(module if owner is None and module else [*module, self.name])
 
     def is_refused_by(self, said):
         """Whether a check finds fault with the function that this edit changes: with a line of it, or with its proof."""
@@ -128,9 +138,10 @@ class Edit:
         return False
 
 
-def check(copy, crate):
-    """Checks a crate of a copy, and returns its status and what was said."""
-    run = subprocess.run(["rt", "check"], cwd=f"{copy}/crates/{crate}", stdin=subprocess.DEVNULL, stdout=subprocess.PIPE,
+def check(copy, crate, edits):
+    """Checks the functions of a crate of a copy that these edits change, and returns its status and what was said."""
+    only = [word for item in sorted({edit.item for edit in edits}) for word in ("--only", item)]
+    run = subprocess.run(["rt", "check", *only], cwd=f"{copy}/crates/{crate}", stdin=subprocess.DEVNULL, stdout=subprocess.PIPE,
                          stderr=subprocess.STDOUT, text=True, errors="replace", check=False)
     return run.returncode, run.stdout.splitlines()
 
@@ -144,7 +155,7 @@ def with_edits(copy, crate, edits):
                 text = text[:edit.begin] + edit.new + text[edit.end:]
             with open(f"{copy}/crates/{crate}/{file}", "w", encoding="utf-8") as out:
                 out.write(text)
-        return check(copy, crate)
+        return check(copy, crate, edits)
     finally:
         for file, text in texts.items():
             with open(f"{copy}/crates/{crate}/{file}", "w", encoding="utf-8") as out:
@@ -193,12 +204,12 @@ def try_crate(top, copies, crate, paths, lines):
     """Tries these edits of a crate, and returns those that were not refused."""
     copy = copies.pop()
     try:
-        status, said = check(copy, crate)
+        edits = [Edit(copy, path) for path in paths]
+        refused = []
+        status, said = check(copy, crate, [edit for edit in edits if edit.function])
         if status:
             print(f"{crate}: it is not proved as it stands", *said[-3:], sep="\n", flush=True)
             return paths
-        edits = [Edit(copy, path) for path in paths]
-        refused = []
         for together in rounds_of([edit for edit in edits if edit.function]):
             refused += refused_together(copy, crate, together)
             keep(top, [lines[edit.path] for edit in refused])
@@ -211,6 +222,21 @@ def try_crate(top, copies, crate, paths, lines):
         return [edit.path for edit in edits if edit not in refused]
     finally:
         copies.append(copy)
+
+
+def left_out(folder, names):
+    """What of a folder no copy needs: of what earlier runs made it takes the libraries alone."""
+    return {".git"} if folder == "." else set(names) - {"rlib"} if os.path.basename(folder) == "out" else set()
+
+
+def take(source, target):
+    """Copies a file; a file of a library, which nothing writes in its place, gets a second name where it can."""
+    try:
+        if "/out/rlib/" not in source:
+            raise OSError
+        os.link(source, target)
+    except OSError:
+        shutil.copy2(source, target)
 
 
 def words_of(arguments):
@@ -246,7 +272,7 @@ def main():
     with tempfile.TemporaryDirectory(prefix="edits-") as work:
         copies = [os.path.join(work, str(number)) for number in range(jobs)]
         for copy in copies:
-            shutil.copytree(".", copy, symlinks=True, ignore=shutil.ignore_patterns(".git", "out"))
+            shutil.copytree(".", copy, symlinks=True, ignore=left_out, copy_function=take)
         with concurrent.futures.ThreadPoolExecutor(jobs) as pool:
             tries = [pool.submit(try_crate, os.getcwd(), copies, crate, paths, lines) for crate, paths in asked.items() if paths]
             failed = [path for it in tries for path in it.result()]

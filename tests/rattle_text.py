@@ -54,6 +54,17 @@ def functions(text):
         at = max(last, found.end())
 
 
+def owner_at(text, at):
+    """The type whose methods stand here, or an empty text; none where they are those of a trait."""
+    plain = quiet(text)
+    for found in re.finditer(r"^(impl|(?:pub )?trait)\b([^{};]*)\{", plain, re.MULTILINE):
+        if found.start() < at < closing(plain, found.end() - 1):
+            if found[1] != "impl" or re.search(r"\bfor\s", found[2]):
+                return None
+            return re.search(r"(\w+)\s*(?:<[^>]*>)?\s*$", found[2])[1]
+    return ""
+
+
 def imports(text):
     """The names that the imports of a text bring, each with where it comes from."""
     for found in re.finditer(r"(?<!ghost )\buse\s+([^;]*);", text):
