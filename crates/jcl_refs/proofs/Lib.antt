@@ -1,5 +1,4 @@
 pub mod Latest
-pub mod Looking
 pub mod Earlier
 pub mod Numbering
 pub mod TestLists
@@ -11,3 +10,5 @@ pub mod PlannedDds
 pub mod Asked
 pub mod Counted
 pub mod Early
+mod NamedPlaces
+mod WaitingDds

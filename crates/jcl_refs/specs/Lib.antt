@@ -1,9 +1,9 @@
 pub mod LaterDds
 pub mod Targets
+pub mod Waiting
 pub mod Meant
 pub mod Plans
 pub mod Kinds
 pub mod Planning
 pub mod Early
-pub mod Looking
 pub mod Examples

@@ -5,8 +5,10 @@
 pub mod examples;
 mod kinds;
 pub mod later_dds;
+mod places;
 mod placing;
 pub mod plan;
 pub mod targets;
 pub mod tests_of;
 pub mod units;
+mod waiting;

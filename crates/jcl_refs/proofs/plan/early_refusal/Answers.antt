@@ -1,4 +1,4 @@
-use Rattle.std.proofs.Common.{◌≡◌, Some, sym, ap, ◌∙◌, subst}
+use Rattle.std.proofs.Common.{sym, ◌∙◌, subst}
 use Rattle.std.specs.Bool.{OnTrue}
 use Rattle.jcl_refs.specs.Early.{AreTaken, IsEarly}
 use Rattle.jcl_refs.proofs.Early.{is_early}

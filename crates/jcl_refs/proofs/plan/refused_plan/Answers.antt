@@ -1,4 +1,4 @@
-use Rattle.std.proofs.Common.{◌≤◌, ◌∙◌, ap, length, arith, subst}
+use Rattle.std.proofs.Common.{◌∙◌, ap, length, arith, subst}
 use Rattle.std.specs.Option.{IfSome}
 use Rattle.value_core.specs.Reads.{Gives}
 use Rattle.jcl_refs.specs.Early.{IsEarly, settled_behind}
