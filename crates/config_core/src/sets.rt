@@ -15,6 +15,7 @@ use jname_core::serial::Serial;
 use mount_core::mounted::Mounted;
 use mount_core::place::KeptPlace;
 use plain::listed::Listed;
+use set_core::records::Records;
 use shared_core::volumes::position_of;
 use std::alloc::{AllocError, Global};
 use std::mem;
@@ -44,14 +45,17 @@ fn append(mounted: &mut Mounted, key: &SetKey, text: &Record) -> Result<(), Allo
 }
 
 /// Puts records behind those of a set that was just made. An `Err` leaves some of them there.
-fn fill(mounted: &mut Mounted, key: &SetKey, records: &[Record]) -> Result<(), AllocError>
+fn fill(mounted: &mut Mounted, key: &SetKey, records: &Records) -> Result<(), AllocError>
     ensures ok { OnOk result ((m : MountedState) (extents : List Extent) → mounted.old ≡ with_records_on m extents key.now [] →
         mounted.new ≡ with_records_on m extents key.now records.now) }
     ensures err { OnErr result ((m : MountedState) (extents : List Extent) → mounted.old ≡ with_records_on m extents key.now [] →
         (some : List (List ℕ)) × (mounted.new ≡ with_records_on m extents key.now some)) }
 {
-    for record in records {
-        append(mounted, key, record)?;
+    for at in 0..records.len() {
+        let Some(record) = records.read_at(at) else {
+            unreachable!();
+        };
+        append(mounted, key, &record)?;
     }
     Ok(())
 }
@@ -78,7 +82,7 @@ fn make_on(alloc: Global, mounted: &mut Mounted, set: &SetStatement) -> Result<(
         Ok(()) => {}
         Err(_) => return Err(AllocError),
     }
-    match fill(mounted, &key, set.records.as_slice()) {
+    match fill(mounted, &key, &set.records) {
         Ok(()) => Ok(()),
         Err(error) => {
             take_off(mounted, &key);

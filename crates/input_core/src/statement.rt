@@ -1,13 +1,13 @@
 //! The statements of the configuration.
 use extent_core::extent::Extent;
 use jcl_meaning::program::Request;
-use jcl_plan::plan::Record;
 use jname_core::ds_name::DsName;
 use jname_core::name8::{Name8, UnitName};
 use jname_core::serial::Serial;
 use plain::lent::Lent;
 use plain::listed::Listed;
 use plain::text::Text;
+use set_core::records::Records;
 
 /// The most generations of a group.
 pub const MOST_GENERATIONS: u16 = 255;
@@ -22,7 +22,7 @@ pub struct SetStatement {
     pub serial: Serial,
     pub tracks: u16,
     pub catalogued: bool,
-    pub records: Listed<Record>,
+    pub records: Records,
 }
 
 /// A statement of the configuration.

@@ -7,6 +7,7 @@ use plain::lent::Lent;
 use row_table::told::Told;
 use session_text::parse::statements;
 use session_text::statement::{Ending, Says, Statement};
+use set_core::records::Records;
 use std::alloc::Global;
 
 /// A word, and a number behind it.
@@ -32,9 +33,11 @@ fn tell_record(told: &mut Told, word: &[u8], record: &Record) {
     told.two(word, record.split_at(length.min(80)).0);
 }
 
-fn tell_records(told: &mut Told, records: &[Record]) {
-    for record in records {
-        tell_record(told, b"\n|", record);
+fn tell_records(told: &mut Told, records: &Records) {
+    for at in 0..records.len() {
+        if let Some(record) = records.read_at(at) {
+            tell_record(told, b"\n|", &record);
+        }
         told.word(b"|");
     }
 }
@@ -65,7 +68,7 @@ fn tell_set(told: &mut Told, set: &SetStatement) {
     if set.catalogued {
         told.word(b" CAT");
     }
-    tell_records(told, set.records.as_slice())
+    tell_records(told, &set.records)
 }
 
 /// The statements of volumes and groups.

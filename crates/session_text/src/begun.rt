@@ -6,16 +6,16 @@ ghost use Rattle.session_text.specs.declared.statement.Says.TheVariants as says;
 
 use crate::fault::Fault;
 use crate::programs::{is_ending, request_of};
-use crate::sets::record_in;
+use crate::sets::is_no_record;
 use crate::statement::{Block, Ending, Says};
 use boxed_core::Boxed;
 use input_core::event::Event;
 use input_core::statement::{ConfigStatement, SetStatement};
 use jcl_meaning::program::Request;
-use jcl_plan::plan::Record;
 use jname_core::name8::Name8;
 use plain::lent::Lent;
 use plain::listed::Listed;
+use set_core::records::Records;
 use std::alloc::{AllocError, Global};
 
 /// The requests of a program so far, and whether the last of them is its end.
@@ -62,7 +62,7 @@ fn lines_of_block<'a>(alloc: Global, block: &Block) -> BlockLines<'a>
                 serial: set.serial,
                 tracks: set.tracks,
                 catalogued: set.catalogued,
-                records: Listed::empty(alloc),
+                records: Records::new(alloc),
             })
         }
         Block::Program(name) => BlockLines::Program(ProgramLines {
@@ -106,17 +106,15 @@ fn push_request(program: &mut ProgramLines, line: &[u8]) -> Result<bool, AllocEr
 }
 
 /// Puts the record of a line behind the others, where it spells one, and tells whether it did.
-fn push_record(records: &mut Listed<Record>, line: &[u8]) -> Result<bool, AllocError>
+fn push_record(records: &mut Records, line: &[u8]) -> Result<bool, AllocError>
     ensures kept { IfOk result (λ kept. kept ≡ not (is_no_record line.now)) }
     ensures records { OnOk result (records.new ≡ records_with records.old (record_in line.now)) }
 {
-    match record_in(line) {
-        None => Ok(false),
-        Some(text) => {
-            records.push(text)?;
-            Ok(true)
-        }
+    if is_no_record(line) {
+        return Ok(false);
     }
+    records.append_text(line)?;
+    Ok(true)
 }
 
 /// Puts a line behind the others, where it is of their form, and tells whether it did.

@@ -3,7 +3,7 @@ ghost use Rattle.std.specs.Prelude.{◌≡◌, ◌≤◌, IfOk, length, not};
 ghost use Rattle.std.specs.List.{list_any};
 ghost use Rattle.jname_core.specs.Characters.{is_between};
 ghost use Rattle.session_text.specs.Fields.{fields_of};
-ghost use Rattle.session_text.specs.Records.{filled, record_in};
+ghost use Rattle.session_text.specs.Records.{filled, is_no_record, record_in};
 ghost use Rattle.session_text.specs.Statements.{set_of, set_with};
 
 use crate::fault::Fault;
@@ -16,7 +16,7 @@ use jcl_plan::plan::Record;
 use jname_core::decimal::number_within;
 use jname_core::ds_name::DsName;
 use jname_core::serial::Serial;
-use plain::listed::Listed;
+use set_core::records::Records;
 use std::alloc::{AllocError, Global};
 
 const COLUMNS: usize = 80;
@@ -36,13 +36,18 @@ fn has_bad_byte(line: &[u8]) -> bool
     line.iter().any(|b| !(b' ' <= *b && *b <= b'~'))
 }
 
+/// Whether a line spells no record.
+pub(crate) fn is_no_record(line: &[u8]) -> bool
+    ensures { result ≡ is_no_record line.now }
+{
+    line.len() > COLUMNS || has_bad_byte(line)
+}
+
 /// The record that a line spells.
 pub(crate) fn record_in(line: &[u8]) -> Option<Record>
     ensures { result ≡ record_in line.now }
 {
-    if line.len() > COLUMNS {
-        None
-    } else if has_bad_byte(line) {
+    if is_no_record(line) {
         None
     } else {
         Some(filled(line))
@@ -75,7 +80,7 @@ fn with_values(
                 serial,
                 tracks,
                 catalogued,
-                records: Listed::empty(alloc),
+                records: Records::new(alloc),
             };
             Ok(Block::Set(Boxed::new(alloc, set)?))
         }

@@ -98,7 +98,7 @@ impl JobStore for SharedStore {
 
     fn record(&self, job: u16, key: &Key, serial: Serial, place: usize) -> Option<Record> {
         match self.entry_of(job, key, serial) {
-            Some(entry) => entry.records.read_at(place).copied(),
+            Some(entry) => entry.records.read_at(place),
             None => None,
         }
     }

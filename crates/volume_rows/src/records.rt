@@ -43,7 +43,7 @@ fn fill(records: &mut Records, count: u16, byte: u8, told: &mut Told) {
 /// The byte in all columns of a record, or NONE.
 fn tell_read(told: &mut Told, records: &Records, place: u16) {
     match records.read_at(usize::from(place)) {
-        Some(record) => told.line(&[column_of(record)]),
+        Some(record) => told.line(&[column_of(&record)]),
         None => told.line(b"NONE"),
     }
 }

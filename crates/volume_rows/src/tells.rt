@@ -98,7 +98,7 @@ pub(crate) fn tell_records(told: &mut Told, records: &Records) {
     }
     for at in 0..records.len() {
         if let Some(record) = records.read_at(at) {
-            told.word(&[column_of(record)]);
+            told.word(&[column_of(&record)]);
         }
     }
     told.end_line();

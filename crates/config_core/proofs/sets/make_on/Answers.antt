@@ -1,6 +1,3 @@
-use Rattle.std.proofs.Common.{ap, ◌∙◌}
-use Rattle.vtoc_core.specs.declared.entry.SetKey.TheVariants.{Named}
-use Rattle.config_core.specs.Sets.{with_records_on}
 use Rattle.config_core.proofs.Filling.{made_free}
 use Rattle.config_core.proofs.sets.make_on.Goals as goal
 
@@ -10,8 +7,7 @@ returns-in-Ok-fill-clause-ok c =
     record {
       extents = made.0;
       planned_so = made.1;
-      made = c.in-Ok-fill.ensures.ok c.args.mounted.now made.0 made.2
-          ∙ ap (λ rs. with_records_on c.args.mounted.now made.0 (Named c.args.set.now.name) rs) c.as_slice.ensures;
+      made = c.in-Ok-fill.ensures.ok c.args.mounted.now made.0 made.2;
     }
 
 pub returns-in-Err-fill-clause-err : goal.returns-in-Err-fill-clause-err
