@@ -15,12 +15,12 @@ use crate::units::Units;
 use cat_core::catalog::Catalog;
 use extent_core::extent::Extent;
 use input_core::statement::{ConfigStatement, MOST_GENERATIONS, MOST_REQUESTS, SetStatement};
-use jcl_meaning::program::{Request, SoloProgram};
 use jcl_plan::plan::RECORDS_A_TRACK;
 use jcl_refs::units::UnitNames;
 use jname_core::ds_name::{DsName, MOST_OF_A_BASE};
 use jname_core::name8::{Name8, UnitName};
 use jname_core::serial::Serial;
+use kept_requests::requests::{Requests, SharedRequests};
 use machine_meaning::config::{
     ConfigFault, ConfiguredInitiator, LAST_INITIATOR, MOST_TRACKS, MOST_UNITS, MOST_VOLUMES,
 };
@@ -195,7 +195,7 @@ impl Config {
         refused_by(false, self.library.has(name))
     }
 
-    fn program_fault(&self, name: &Name8, requests: &[Request]) -> Option<ConfigFault>
+    fn program_fault(&self, name: &Name8, requests: &Requests) -> Option<ConfigFault>
         ensures { result ≡ program_fault self.now name.now requests.now }
     {
         refused_by(
@@ -296,18 +296,18 @@ impl Config {
         Ok(())
     }
 
-    fn add_program(&mut self, name: Name8, requests: &[Request]) -> Result<(), ConfigError>
+    fn add_program(&mut self, name: Name8, requests: &SharedRequests) -> Result<(), ConfigError>
         ensures sound { OnOk result (program_fault self.old name requests.now ≡ None) }
         ensures ok { OnOk result (self.new ≡ with_program self.old name requests.now) }
         ensures refused { IfErr result (IsRefusal (program_fault self.old name requests.now)) }
         ensures err { OnErr result (self.new ≡ self.old) }
     {
-        if let Some(fault) = self.program_fault(&name, requests) {
+        if let Some(fault) = self.program_fault(&name, requests.get()) {
             return Err(ConfigError::Refused(fault));
         }
-        are_requests(requests);
-        let requests = Listed::copy_of(self.alloc, requests)?;
-        self.programs.add(SoloProgram { name, requests })?;
+        are_requests(requests.get());
+        let requests = requests.clone()?;
+        self.programs.add(name, requests)?;
         Ok(())
     }
 
@@ -357,7 +357,7 @@ impl Config {
             ConfigStatement::Set(set) => self.set_fault(set),
             ConfigStatement::Procedure { name, .. } => self.procedure_fault(name),
             ConfigStatement::Program { name, requests } => {
-                self.program_fault(name, requests.as_slice())
+                self.program_fault(name, requests.get())
             }
             ConfigStatement::Initiator { number, classes } => {
                 self.initiator_fault(*number, classes.as_slice())
@@ -388,9 +388,7 @@ impl Config {
             ConfigStatement::Procedure { name, lines } => {
                 self.add_procedure(*name, lines.as_slice())
             }
-            ConfigStatement::Program { name, requests } => {
-                self.add_program(*name, requests.as_slice())
-            }
+            ConfigStatement::Program { name, requests } => { self.add_program(*name, requests) }
             ConfigStatement::Initiator { number, classes } => {
                 self.add_initiator(*number, classes.as_slice())
             }

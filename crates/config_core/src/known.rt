@@ -5,6 +5,7 @@ ghost use Rattle.config_core.specs.Configured.{IsName};
 
 use jcl_meaning::program::Request;
 use jname_core::ds_name::DsName;
+use kept_requests::requests::Requests;
 
 /// A name of a data set has at most 44 characters, and the number of a generation at most four digits.
 pub(crate) fn is_name(name: &DsName)
@@ -30,10 +31,13 @@ fn is_request(request: &Request)
 }
 
 /// The codes of requests are at most 4095.
-pub(crate) fn are_requests(requests: &[Request])
+pub(crate) fn are_requests(requests: &Requests)
     ensures { All IsRequest requests.now }
 {
-    for request in requests {
-        is_request(request);
+    for at in 0..requests.len() {
+        let Some(request) = requests.at(at) else {
+            unreachable!();
+        };
+        is_request(&request);
     }
 }

@@ -1,9 +1,9 @@
 //! The statements of the configuration.
 use extent_core::extent::Extent;
-use jcl_meaning::program::Request;
 use jname_core::ds_name::DsName;
 use jname_core::name8::{Name8, UnitName};
 use jname_core::serial::Serial;
+use kept_requests::requests::SharedRequests;
 use plain::lent::Lent;
 use plain::listed::Listed;
 use plain::text::Text;
@@ -52,7 +52,7 @@ pub enum ConfigStatement<'a> {
     },
     Program {
         name: Name8,
-        requests: Listed<Request>,
+        requests: SharedRequests,
     },
     Initiator {
         number: u16,

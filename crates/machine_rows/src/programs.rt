@@ -1,8 +1,9 @@
 //! Programs by their names.
-use jcl_meaning::program::{Move, Request, SoloProgram};
+use jcl_meaning::program::{Move, Request};
 use jcl_plan::outcome::{Abend, Code, Outcome};
 use jcl_plan::plan::Record;
-use plain::listed::Listed;
+use jname_core::name8::Name8;
+use kept_requests::requests::{Requests, SharedRequests};
 use prog_core::library::ProgramLibrary;
 use row_table::desk::Line;
 use row_table::names::name8;
@@ -47,8 +48,8 @@ fn request(words: &mut Words<'_>) -> Option<Request> {
 }
 
 /// Takes all further words as requests.
-fn requests(alloc: Global, line: &mut Line<'_>) -> Listed<Request> {
-    let mut requests = Listed::empty(alloc);
+fn requests(alloc: Global, line: &mut Line<'_>) -> Requests {
+    let mut requests = Requests::new(alloc);
     for _ in 0..64u8 {
         if line.words.is_empty() {
             break;
@@ -61,11 +62,16 @@ fn requests(alloc: Global, line: &mut Line<'_>) -> Listed<Request> {
 }
 
 /// Adds a program, if its name is new.
-fn add(library: &mut ProgramLibrary, program: SoloProgram) -> Result<bool, AllocError> {
-    if library.has(&program.name) {
+fn add(
+    alloc: Global,
+    library: &mut ProgramLibrary,
+    name: Name8,
+    requests: Requests,
+) -> Result<bool, AllocError> {
+    if library.has(&name) {
         return Ok(false);
     }
-    library.add(program)?;
+    library.add(name, SharedRequests::new(alloc, requests)?)?;
     Ok(true)
 }
 
@@ -75,7 +81,7 @@ pub(crate) fn add_program(alloc: Global, library: &mut ProgramLibrary, line: &mu
         return;
     };
     let requests = requests(alloc, line);
-    if line.told.got(add(library, SoloProgram { name, requests })) == Some(false) {
+    if line.told.got(add(alloc, library, name, requests)) == Some(false) {
         line.told.not_allowed();
     }
 }

@@ -1,16 +1,19 @@
 //! A program whose moves are counted once.
-ghost use Rattle.std.specs.Prelude.{◌≡◌, ◌<◌, ◌≤◌, IfSome, drop, length, slice_get};
+ghost use Rattle.std.specs.Prelude.{◌≡◌, ◌<◌, IfSome, length, slice_get};
 ghost use Rattle.jcl_meaning.specs.Programs.{ending_in, moves_in};
-ghost use Rattle.prog_core.specs.Moves.{move_by};
+ghost use Rattle.prog_core.specs.Moves.{ending_by, is_move, move_by};
 
-use jcl_meaning::program::{Move, Request, SoloProgram, ending_in};
-use jcl_plan::outcome::Outcome;
+use jcl_meaning::program::{Move, Request};
+use jcl_plan::outcome::{Abend, Code, Outcome};
+use jname_core::name8::Name8;
+use kept_requests::requests::{Requests, SharedRequests};
 use std::marker::Model;
 
 /// A program, and how many records it moves: each of so many requests is a move, and the next one is its end.
 #[derive(Drop)]
 pub(crate) struct CountedProgram {
-    program: SoloProgram,
+    name: Name8,
+    requests: SharedRequests,
     moves: usize,
 }
 
@@ -21,25 +24,34 @@ impl Model for CountedProgram {
 
     ghost Value = { SoloProgram };
 
-    ghost view = { λ c. c.program };
+    ghost view = { λ c. record { name = c.name; requests = c.requests } };
 
-    ghost invariant = { λ c. c.moves ≡ length (moves_in c.program.requests) };
+    ghost invariant = { λ c. c.moves ≡ length (moves_in c.requests) };
+}
+
+/// Whether there is a request that moves a record.
+fn is_move(request: Option<Request>) -> bool
+    ensures { result ≡ is_move request }
+{
+    match request {
+        None => false,
+        Some(Request::Get(_)) => true,
+        Some(Request::Put { .. }) => true,
+        Some(Request::End(_)) => false,
+        Some(Request::Abend(_)) => false,
+    }
 }
 
 /// How many requests come before the end.
-fn count_moves(requests: &[Request]) -> usize
+fn count_moves(requests: &Requests) -> usize
     ensures { result ≡ length (moves_in requests.now) }
 {
-    let mut count = 0;
-    for request in requests {
-        match request {
-            Request::Get(_) => count += 1,
-            Request::Put { .. } => count += 1,
-            Request::End(_) => return count,
-            Request::Abend(_) => return count,
+    for at in 0..requests.len() {
+        if !is_move(requests.at(at)) {
+            return at;
         }
     }
-    count
+    requests.len()
 }
 
 /// The move that a request asks for, if it is no end.
@@ -57,20 +69,29 @@ fn move_by(request: &Request) -> Option<Move>
     }
 }
 
-/// How requests from a place on end.
-fn ending_from(requests: &[Request], place: usize) -> Outcome
-    requires { place ≤ length requests.now }
-    ensures { result ≡ ending_in (drop place requests.now) }
+/// How a program ends whose moves are before this request.
+fn ending_by(request: &Option<Request>) -> Outcome
+    ensures { result ≡ ending_by request.now }
 {
-    ending_in(&requests[place..])
+    match request {
+        None => Outcome::Code(Code::zero()),
+        Some(Request::Get(_)) => Outcome::Code(Code::zero()),
+        Some(Request::Put { .. }) => Outcome::Code(Code::zero()),
+        Some(Request::End(code)) => Outcome::Code(*code),
+        Some(Request::Abend(code)) => Outcome::Abend(Abend::User(*code)),
+    }
 }
 
 impl CountedProgram {
-    pub(crate) fn new(program: SoloProgram) -> CountedProgram
-        ensures { result ≡ program }
+    pub(crate) fn new(name: Name8, requests: SharedRequests) -> CountedProgram
+        ensures { result ≡ record { name = name; requests = requests } }
     {
-        let moves = count_moves(program.requests.as_slice());
-        CountedProgram { program, moves }
+        let moves = count_moves(requests.get());
+        CountedProgram {
+            name,
+            requests,
+            moves,
+        }
     }
 
     pub(crate) fn move_count(&self) -> usize
@@ -87,16 +108,16 @@ impl CountedProgram {
         if place >= self.moves {
             return None;
         }
-        match self.program.requests.as_slice().get(place) {
+        match self.requests.get().at(place) {
             None => None,
-            Some(request) => move_by(request),
+            Some(request) => move_by(&request),
         }
     }
 
-    /// How the program ends by itself: the request behind its moves tells.
+    /// How the program ends by itself: the request after its moves tells.
     pub(crate) fn ending(&self) -> Outcome
         ensures { result ≡ ending_in self.now.requests }
     {
-        ending_from(self.program.requests.as_slice(), self.moves)
+        ending_by(&self.requests.get().at(self.moves))
     }
 }

@@ -4,9 +4,10 @@ ghost use Rattle.std.specs.Option.{option_map};
 ghost use Rattle.jcl_meaning.specs.Programs.{ending_of, moves_of, program_of};
 
 use crate::counted::CountedProgram;
-use jcl_meaning::program::{Move, SoloProgram, is_iefbr14};
+use jcl_meaning::program::{Move, is_iefbr14};
 use jcl_plan::outcome::{Abend, Code, Outcome};
 use jname_core::name8::Name8;
+use kept_requests::requests::SharedRequests;
 use name_places::places::NamePlaces;
 use std::alloc::{AllocError, Global};
 use std::marker::Model;
@@ -49,13 +50,12 @@ impl ProgramLibrary {
     }
 
     /// Adds a program of a new name. An `Err` changes nothing.
-    pub fn add(&mut self, program: SoloProgram) -> Result<(), AllocError>
-        requires { program_of self.old program.name ≡ None }
-        ensures ok { OnOk result (self.new ≡ self.old ++ program ∷ []) }
+    pub fn add(&mut self, name: Name8, requests: SharedRequests) -> Result<(), AllocError>
+        requires { program_of self.old name ≡ None }
+        ensures ok { OnOk result (self.new ≡ self.old ++ record { name = name; requests = requests } ∷ []) }
         ensures err { OnErr result (self.new ≡ self.old) }
     {
-        let name = program.name;
-        let counted = CountedProgram::new(program);
+        let counted = CountedProgram::new(name, requests);
         self.list.reserve(1)?;
         self.places.add(name.as_slice())?;
         let Ok(()) = self.list.push(counted) else {

@@ -3,6 +3,7 @@ use input_core::event::Event;
 use input_core::statement::{ConfigStatement, SetStatement};
 use jcl_meaning::program::Request;
 use jcl_plan::plan::Record;
+use kept_requests::requests::Requests;
 use plain::lent::Lent;
 use row_table::told::Told;
 use session_text::parse::statements;
@@ -54,9 +55,11 @@ fn tell_request(told: &mut Told, request: &Request) {
     }
 }
 
-fn tell_requests(told: &mut Told, requests: &[Request]) {
-    for request in requests {
-        tell_request(told, request);
+fn tell_requests(told: &mut Told, requests: &Requests) {
+    for at in 0..requests.len() {
+        if let Some(request) = requests.at(at) {
+            tell_request(told, &request);
+        }
         told.word(b"|");
     }
 }
@@ -116,7 +119,7 @@ fn tell_config(told: &mut Told, statement: &ConfigStatement<'_>) {
         }
         ConfigStatement::Program { name, requests } => {
             told.two(b"PROGRAM ", name.as_slice());
-            tell_requests(told, requests.as_slice())
+            tell_requests(told, requests.get())
         }
         ConfigStatement::Initiator { number, classes } => {
             tell_count(told, b"INIT ", *number);

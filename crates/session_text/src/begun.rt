@@ -11,8 +11,8 @@ use crate::statement::{Block, Ending, Says};
 use boxed_core::Boxed;
 use input_core::event::Event;
 use input_core::statement::{ConfigStatement, SetStatement};
-use jcl_meaning::program::Request;
 use jname_core::name8::Name8;
+use kept_requests::requests::{Requests, SharedRequests};
 use plain::lent::Lent;
 use plain::listed::Listed;
 use set_core::records::Records;
@@ -22,7 +22,7 @@ use std::alloc::{AllocError, Global};
 #[derive(Drop)]
 pub(crate) struct ProgramLines {
     pub(crate) name: Name8,
-    pub(crate) requests: Listed<Request>,
+    pub(crate) requests: Requests,
     pub(crate) ended: bool,
 }
 
@@ -67,7 +67,7 @@ fn lines_of_block<'a>(alloc: Global, block: &Block) -> BlockLines<'a>
         }
         Block::Program(name) => BlockLines::Program(ProgramLines {
             name: *name,
-            requests: Listed::empty(alloc),
+            requests: Requests::new(alloc),
             ended: false,
         }),
         Block::Faulty(_) => BlockLines::Deck(Listed::empty(alloc)),
@@ -176,6 +176,7 @@ fn program_told<'a>(
         ended,
     } = program;
     if ended {
+        let requests = SharedRequests::new(alloc, requests)?;
         config_told(alloc, ConfigStatement::Program { name, requests }, has_end)
     } else {
         Ok(Says::Refused(Fault::BadValue))

@@ -1,5 +1,5 @@
 -- A text without the blanks at its end, and those blanks after it.
-use Rattle.std.proofs.Common.{◌≡◌, ℕ, zero, suc, ◌-◌, ◌≤◌, ◌==◌, true, false, cond, Bool, List, [], ◌∷◌, ◌++◌, length, take, replicate, refl, ap, ◌∙◌, sym, arith}
+use Rattle.std.proofs.Common.{◌≡◌, ℕ, suc, ◌-◌, ◌==◌, true, false, cond, Bool, List, [], ◌∷◌, ◌++◌, length, take, replicate, refl, ap, ◌∙◌, sym, arith}
 use Rattle.std.proofs.lemmas.Bool.{eqb-true}
 use Rattle.jcl_plan.specs.Texts.{trimmed, onto_text}
 use Rattle.set_core.specs.Texts.{filled}

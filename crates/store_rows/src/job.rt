@@ -12,6 +12,7 @@ use jcl_meaning::program::{SoloProgram, endings};
 use jcl_meaning::solo::SoloRun;
 use jcl_plan::outcome::Outcome;
 use jcl_plan::plan::{DdKind, Expiry, JobPlan, StepPlan};
+use kept_requests::requests::{Requests, SharedRequests};
 use plain::listed::Listed;
 use prog_core::budget::budget_of;
 use prog_core::library::ProgramLibrary;
@@ -52,22 +53,32 @@ fn programs_of<'a>(case: &'a Case<'_>) -> &'a [SoloProgram] {
     }
 }
 
+/// The requests of a program, as a library keeps them.
+fn requests_of(alloc: Global, program: &SoloProgram) -> Result<SharedRequests, AllocError> {
+    let mut requests = Requests::new(alloc);
+    for request in program.requests.as_slice() {
+        requests.push(*request)?;
+    }
+    SharedRequests::new(alloc, requests)
+}
+
 /// Adds a copy of a program where there is none of its name.
-fn add(library: &mut ProgramLibrary, program: &SoloProgram) -> Result<(), AllocError> {
+fn add(
+    alloc: Global,
+    library: &mut ProgramLibrary,
+    program: &SoloProgram,
+) -> Result<(), AllocError> {
     if library.has(&program.name) {
         return Ok(());
     }
-    library.add(SoloProgram {
-        name: program.name,
-        requests: program.requests.clone()?,
-    })
+    library.add(program.name, requests_of(alloc, program)?)
 }
 
 /// The programs of a case by their names, of which the first of each counts.
 fn library_of(alloc: Global, case: &Case<'_>) -> Result<ProgramLibrary, AllocError> {
     let mut library = ProgramLibrary::new(alloc);
     for program in programs_of(case) {
-        add(&mut library, program)?;
+        add(alloc, &mut library, program)?;
     }
     Ok(library)
 }

@@ -1,8 +1,7 @@
-use Rattle.std.proofs.Common.{◌≡◌, ◌+◌, drop, length}
+use Rattle.std.proofs.Common.{◌≤◌, length}
 use Rattle.jcl_meaning.specs.Programs.{moves_in}
 use Rattle.prog_core.proofs.counted.count_moves.Given as goal
 
--- all so far are moves, and what is left has the others
-abbrev pub invariant-loop-request : goal.invariant-loop-request
-invariant-loop-request l =
-    (l.count ≡ l.request-index) × (l.count + length (moves_in (drop l.request-index l.requests)) ≡ length (moves_in l.requests))
+-- all before this one are moves
+abbrev pub invariant-loop-at : goal.invariant-loop-at
+invariant-loop-at l = l.at ≤ length (moves_in l.requests)
