@@ -3,7 +3,7 @@ use Rattle.std.proofs.Common.{◌≡◌, ℕ, ◌+◌, ◌<◌, ◌≤◌, List,
 use Rattle.std.proofs.lemmas.Grind.{replicate_next}
 use Rattle.std.proofs.lemmas.List.{append-nil, map_more, take_all}
 use Rattle.std.proofs.lemmas.List.Sums.{fold-append}
-use Rattle.input_core.specs.declared.event.Event.{Event}
+use Rattle.session_input.specs.declared.event.Event.{Event}
 use Rattle.jcl_plan.specs.declared.entry.Entry.{Entry}
 use Rattle.sched_core.specs.Systems.{IsNext, Machine, Steps, world_of}
 use Rattle.session_core.proofs.Applied.{Drives-append}

@@ -1,7 +1,7 @@
 -- Which statements of a session read decks. (This profile)
 use Rattle.std.specs.Prelude.{ℕ, ◌+◌, Bool, true, false, List, [], ◌∷◌, if◌then◌else◌}
-use Rattle.input_core.specs.declared.event.Event.{Event}
-use Rattle.input_core.specs.declared.event.Event.TheVariants as event
+use Rattle.session_input.specs.declared.event.Event.{Event}
+use Rattle.session_input.specs.declared.event.Event.TheVariants as event
 use Rattle.session_text.specs.declared.statement.Says.{Says}
 use Rattle.session_text.specs.declared.statement.Says.TheVariants as says
 use Rattle.session_text.specs.declared.statement.Statement.{Statement}

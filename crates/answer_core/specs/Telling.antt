@@ -2,7 +2,7 @@
 use Rattle.std.specs.Prelude.{◌≡◌, ◌⊎◌, ℕ, ◌+◌, Bool, true, false, List, [], ◌∷◌, ◌++◌, Option, drop, is_some, map, replicate, take}
 use Rattle.cb_meaning.specs.declared.layout.TheConstants.{LAYOUT_1}
 use Rattle.config_core.specs.Configs.{Configuration}
-use Rattle.input_core.specs.declared.event.Event.{Event}
+use Rattle.session_input.specs.declared.event.Event.{Event}
 use Rattle.jcl_plan.specs.declared.entry.Entry.{Entry}
 use Rattle.sched_core.specs.Starting.{IsStarted}
 use Rattle.sched_core.specs.Systems.{Drives, Machine}

@@ -12,12 +12,12 @@ use crate::answer::{Answer, Answers, DeckRead};
 use crate::noted::note_answer;
 use crate::told::told_by;
 use cb_queue::list_store::ListStore;
-use input_core::event::Event;
 use play_core::given::Given;
 use play_core::play::added_events;
 use sched_core::system::System;
 use session_core::open::{Opened, open, start};
 use session_core::{Options, SessionFault};
+use session_input::event::Event;
 use session_text::statement::{Says, Statement};
 use std::alloc::{AllocError, Global};
 

@@ -9,7 +9,7 @@ use Rattle.shared_core.specs.Shown.{mounted_in}
 use Rattle.config_core.specs.Configs.{Configuration, has_room, set_fault, stands_on}
 use Rattle.config_core.specs.Sets.{CanHold, NothingKept}
 use Rattle.config_core.proofs.Refused.{neither, no_fault, not_there, so}
-use Rattle.input_core.specs.declared.statement.SetStatement.{SetStatement}
+use Rattle.session_input.specs.declared.statement.SetStatement.{SetStatement}
 
 abbrev KeepsNothing : MountedState → Type 0
 KeepsNothing m = m.kept ≡ finite.empty

@@ -16,7 +16,7 @@ use Rattle.mount_core.specs.Mounts.{MountedState}
 use Rattle.config_core.specs.Configs.{changed_at, with_set_in, with_set_on}
 use Rattle.config_core.specs.Configured.{HasNamedSets, IsNamed, serials_of}
 use Rattle.config_core.specs.Sets.{NothingKept}
-use Rattle.input_core.specs.declared.statement.SetStatement.{SetStatement}
+use Rattle.session_input.specs.declared.statement.SetStatement.{SetStatement}
 
 module _ (f : MountedState → MountedState) (serial : List ℕ) where
   all_by : (P : MountedState → Type 0) (b : Bool) (m : MountedState) (ms ns : List MountedState) → P m → P (f m) → All P ms → All P ns →

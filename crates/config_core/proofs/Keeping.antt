@@ -23,7 +23,7 @@ use Rattle.config_core.proofs.Changed.{same_length, same_serials, still_named, s
 use Rattle.config_core.proofs.Differing.{differ_push, none_such}
 use Rattle.config_core.proofs.Entering.{entries_grouped, entries_named}
 use Rattle.config_core.proofs.Refused.{neither, no_fault, so}
-use Rattle.input_core.specs.declared.statement.SetStatement.{SetStatement}
+use Rattle.session_input.specs.declared.statement.SetStatement.{SetStatement}
 use Rattle.plain.specs.Lists.{Differ}
 
 abbrev KeepsNothing : MountedState → Type 0

@@ -26,10 +26,10 @@ use Rattle.machine_meaning.specs.declared.config.ConfiguredUnit.{ConfiguredUnit}
 use Rattle.proc_library.specs.declared.library.LibraryProcedure.{LibraryProcedure}
 use Rattle.proc_library.specs.Libraries.{has_procedure}
 use Rattle.shared_core.specs.Shown.{mounted_in}
-use Rattle.input_core.specs.declared.statement.ConfigStatement.{ConfigStatement}
-use Rattle.input_core.specs.declared.statement.ConfigStatement.TheVariants as statement
-use Rattle.input_core.specs.declared.statement.SetStatement.{SetStatement}
-use Rattle.input_core.specs.declared.statement.TheConstants.{MOST_GENERATIONS, MOST_REQUESTS}
+use Rattle.session_input.specs.declared.statement.ConfigStatement.{ConfigStatement}
+use Rattle.session_input.specs.declared.statement.ConfigStatement.TheVariants as statement
+use Rattle.session_input.specs.declared.statement.SetStatement.{SetStatement}
+use Rattle.session_input.specs.declared.statement.TheConstants.{MOST_GENERATIONS, MOST_REQUESTS}
 use Rattle.plain.specs.Lists.{are_different}
 
 -- in the order of the statements; a volume with the sets that were made on it

@@ -10,7 +10,7 @@ use Rattle.vtoc_core.specs.declared.volume.Track.TheVariants.{InSet}
 use Rattle.mount_core.specs.Mounts.{MountedState, holds}
 use Rattle.shared_core.specs.Shown.{mounted_in}
 use Rattle.config_core.specs.Configs.{changed_at, with_set_on}
-use Rattle.input_core.specs.declared.statement.SetStatement.{SetStatement}
+use Rattle.session_input.specs.declared.statement.SetStatement.{SetStatement}
 
 -- a set of these extents and records
 abbrev pub with_records_on : MountedState → List Extent → SetKey → List (List ℕ) → MountedState

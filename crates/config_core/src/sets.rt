@@ -9,12 +9,12 @@ ghost use Rattle.config_core.specs.Configs.{catalog_with, extents_on, has_room, 
 ghost use Rattle.config_core.specs.Sets.{CanHold, IsMade, IsPlaceOf, with_records_on};
 
 use cat_core::catalog::Catalog;
-use input_core::statement::SetStatement;
 use jcl_plan::plan::Record;
 use jname_core::serial::Serial;
 use mount_core::mounted::Mounted;
 use mount_core::place::KeptPlace;
 use plain::listed::Listed;
+use session_input::statement::SetStatement;
 use set_core::records::Records;
 use shared_core::volumes::position_of;
 use std::alloc::{AllocError, Global};

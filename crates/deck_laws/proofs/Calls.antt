@@ -29,12 +29,12 @@ use Rattle.jcl_deck.specs.declared.operation.Operation.TheVariants.{IsDd, IsExec
 use Rattle.jcl_deck.specs.Decks.{dd_place_faults, has_no_name, operation_of}
 use Rattle.jcl_procs.specs.declared.step.FlatStep.{FlatStep}
 use Rattle.jcl_procs.specs.Calls.{Call, Place, behind_by, calls, dd_faults, onto_last, program_of, read_with, step_of, steps_behind, steps_from, steps_of, takes_dd, takes_exec}
-use Rattle.card_laws.specs.Ranges.{HasSoundCodes, IsSoundCondition, IsSoundDd, IsSoundExec, IsSoundRuns}
-use Rattle.card_laws.proofs.Codes.{none_fit}
-use Rattle.card_laws.proofs.Dds.{dd_cards_are_sound}
-use Rattle.card_laws.proofs.Execs.{exec_cards_are_sound}
-use Rattle.card_laws.proofs.Faultless.{when_none}
-use Rattle.card_laws.proofs.Merging.{by_itself_is_sound}
+use Rattle.statement_laws.specs.Ranges.{HasSoundCodes, IsSoundCondition, IsSoundDd, IsSoundExec, IsSoundRuns}
+use Rattle.statement_laws.proofs.Codes.{none_fit}
+use Rattle.statement_laws.proofs.Dds.{dd_cards_are_sound}
+use Rattle.statement_laws.proofs.Execs.{exec_cards_are_sound}
+use Rattle.statement_laws.proofs.Faultless.{when_none}
+use Rattle.statement_laws.proofs.Merging.{by_itself_is_sound}
 use Rattle.deck_laws.specs.Sound.{HoldsCards, IsNamed, IsSoundStep}
 use Rattle.deck_laws.proofs.Lasts.{HasFront, all_with_dd, at_last, begins_behind, has_place}
 use Rattle.deck_laws.proofs.Taken.{from_or, name_there}

@@ -12,7 +12,7 @@ use Rattle.jcl_cards.specs.declared.exec.ExecCard.{ExecCard}
 use Rattle.jcl_cards.specs.declared.exec.StepCondition.{StepCondition}
 use Rattle.jcl_procs.specs.declared.step.FlatStep.{FlatStep}
 use Rattle.jcl_procs.specs.Overrides.{conditions_overridden, is_step, names_steps, with_condition, with_step_condition, with_step_conditions, with_this}
-use Rattle.card_laws.specs.Ranges.{HasSoundCodes, IsSoundCondition, IsSoundExec, IsSoundStepCondition}
+use Rattle.statement_laws.specs.Ranges.{HasSoundCodes, IsSoundCondition, IsSoundExec, IsSoundStepCondition}
 use Rattle.deck_laws.specs.Sound.{IsSoundStep}
 use Rattle.deck_laws.proofs.Calls.{AreBrought}
 

@@ -22,10 +22,10 @@ use Rattle.jcl_deck.specs.declared.deck.Procedure.{Procedure}
 use Rattle.jcl_deck.specs.declared.operation.Operation.{Operation}
 use Rattle.jcl_deck.specs.declared.operation.Operation.TheVariants.{IsDd, IsExec, IsJob, IsOther, IsPend, IsProc}
 use Rattle.jcl_deck.specs.Decks.{Place, behind, dd_place_faults, deck_behind, deck_from, ended_with, has_no_name, keeps, most_procedures, not_first, onto_last, onto_open, operation_of, outside, procedure_with, start, taken, takes_dd, takes_exec, takes_job, takes_proc, within}
-use Rattle.card_laws.specs.Ranges.{IsSoundDd, IsSoundJob}
-use Rattle.card_laws.proofs.Dds.{dd_cards_are_sound}
-use Rattle.card_laws.proofs.Execs.{exec_cards_are_sound}
-use Rattle.card_laws.proofs.Jobs.{job_cards_are_sound}
+use Rattle.statement_laws.specs.Ranges.{IsSoundDd, IsSoundJob}
+use Rattle.statement_laws.proofs.Dds.{dd_cards_are_sound}
+use Rattle.statement_laws.proofs.Execs.{exec_cards_are_sound}
+use Rattle.statement_laws.proofs.Jobs.{job_cards_are_sound}
 use Rattle.deck_laws.specs.Sound.{HoldsCards, IsSoundDeck, IsSoundDeckStep, KeepsCards}
 use Rattle.deck_laws.proofs.Lasts.{HasFront, all_at_last, all_with_dd, at_last, begins_behind, has_place}
 use Rattle.deck_laws.proofs.Taken.{dd_not_long, from_or, name_there, own_told}

@@ -21,8 +21,8 @@ use Rattle.jcl_procs.specs.Calls.{Call, steps_of}
 use Rattle.jcl_procs.specs.Expansions.{Body, and_then, body_named, called, flat_from, flat_of, joined, plain_step, steps_by}
 use Rattle.jcl_procs.specs.Overrides.{conditions_overridden, dds_overridden}
 use Rattle.proc_library.specs.declared.library.LibraryProcedure.{LibraryProcedure}
-use Rattle.card_laws.specs.Ranges.{IsSoundDd, IsSoundRuns}
-use Rattle.card_laws.proofs.Merging.{by_itself_is_sound}
+use Rattle.statement_laws.specs.Ranges.{IsSoundDd, IsSoundRuns}
+use Rattle.statement_laws.proofs.Merging.{by_itself_is_sound}
 use Rattle.deck_laws.specs.Sound.{BeginsWithName, IsSoundDeck, IsSoundDeckStep, IsSoundStep, KeepsCards}
 use Rattle.deck_laws.proofs.Bodies.{body_finds}
 use Rattle.deck_laws.proofs.Calls.{AreBrought, codes_of, steps_are}

@@ -11,7 +11,7 @@ use Rattle.operand_core.specs.Faults.{told, when}
 use Rattle.operand_core.proofs.Told.{told-none}
 use Rattle.jcl_cards.specs.declared.dd.DdCard.{DdCard}
 use Rattle.jcl_deck.specs.Decks.{dd_place_faults, has_no_name, last_has_dd}
-use Rattle.card_laws.proofs.Faultless.{when_none}
+use Rattle.statement_laws.proofs.Faultless.{when_none}
 use Rattle.deck_laws.specs.Sound.{BeginsWithName, IsNamed}
 
 -- the last of several changed

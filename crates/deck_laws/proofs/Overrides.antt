@@ -11,8 +11,8 @@ use Rattle.jcl_cards.specs.Merging.{by_itself, merged}
 use Rattle.jcl_procs.specs.declared.step.FlatStep.{FlatStep}
 use Rattle.jcl_procs.specs.Overrides.{adds, dds_at, dds_overridden, inserts, is_of_name, overrides_by_position, overrides_from, overrides_member, overrides_named, overrides_next, overrides_one, overrides_there, place_behind, puts_merged, step_at, steps_behind, with_dd, with_dd_between, with_dds}
 use Rattle.jcl_procs.proofs.Reached.{dds_put, length_put, length_with_dd}
-use Rattle.card_laws.specs.Ranges.{IsSoundDd}
-use Rattle.card_laws.proofs.Merging.{by_itself_is_sound, merged_is_sound, merged_keeps_name}
+use Rattle.statement_laws.specs.Ranges.{IsSoundDd}
+use Rattle.statement_laws.proofs.Merging.{by_itself_is_sound, merged_is_sound, merged_keeps_name}
 use Rattle.deck_laws.specs.Sound.{BeginsWithName, IsNamed, IsSoundStep}
 use Rattle.deck_laws.proofs.Calls.{AreBrought}
 use Rattle.deck_laws.proofs.Taken.{from_or}

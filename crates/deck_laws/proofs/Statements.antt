@@ -15,7 +15,7 @@ use Rattle.card_core.specs.Cards.{filled, first_line_fault, kind_of}
 use Rattle.card_core.specs.Deck.{Card, Statements, begins, comment_cards, data_cards, data_of, is_early, is_exec, loose, onto, statements_behind, statements_of, unless, used_by_data, with_data, with_operand}
 use Rattle.card_core.specs.Fields.{name_of, opens, operand_behind, operation_of}
 use Rattle.cb_meaning.specs.Writable.{IsCard}
-use Rattle.card_laws.specs.CardLaws.{AreCards}
+use Rattle.statement_laws.specs.CardLaws.{AreCards}
 use Rattle.deck_laws.specs.Sound.{HoldsCards}
 use Rattle.deck_laws.proofs.Cards.{all_filled}
 

@@ -9,7 +9,7 @@ use Rattle.jcl_cards.specs.Examples.{empty_dd}
 use Rattle.jcl_deck.specs.Decks.{deck_of}
 use Rattle.jcl_procs.specs.declared.step.FlatStep.{FlatStep}
 use Rattle.jcl_procs.specs.Expansions.{and_then, flat_of}
-use Rattle.card_laws.specs.Examples.{greatest}
+use Rattle.statement_laws.specs.Examples.{greatest}
 
 -- a line of 80 tildes, and one of nothing
 abbrev pub data_lines : List (List ℕ)

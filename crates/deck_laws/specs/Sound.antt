@@ -8,8 +8,8 @@ use Rattle.jcl_deck.specs.declared.deck.Deck.{Deck}
 use Rattle.jcl_deck.specs.declared.deck.DeckStep.{DeckStep}
 use Rattle.jcl_deck.specs.declared.deck.Procedure.{Procedure}
 use Rattle.jcl_procs.specs.declared.step.FlatStep.{FlatStep}
-use Rattle.card_laws.specs.CardLaws.{AreCards}
-use Rattle.card_laws.specs.Ranges.{HasSoundCodes, IsSoundDd, IsSoundExec, IsSoundJob}
+use Rattle.statement_laws.specs.CardLaws.{AreCards}
+use Rattle.statement_laws.specs.Ranges.{HasSoundCodes, IsSoundDd, IsSoundExec, IsSoundJob}
 
 -- the data behind a statement
 abbrev pub HoldsCards : Statement → Type 0

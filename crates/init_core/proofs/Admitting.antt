@@ -31,7 +31,7 @@ use Rattle.shared_core.specs.declared.store.SharedStore.{SharedStore}
 use Rattle.turn_core.specs.Standing.{Stands, count_at}
 use Rattle.turn_core.specs.declared.todo.Todo.TheVariants as todo
 use Rattle.turn_core.specs.declared.walk.Walk.{Walk}
-use Rattle.job_core.proofs.Wanted.{releasing_leaves, releasing_leaves_none}
+use Rattle.queued_job.proofs.Wanted.{releasing_leaves, releasing_leaves_none}
 use Rattle.admit_core.specs.Admissions.{behind, fixed_for, line_of, named_of}
 use Rattle.admit_core.specs.Admitted.{IsAdmission, IsAnswered, IsProvision}
 use Rattle.admit_core.specs.Told.{IsTold, fixed_by_room}

@@ -42,7 +42,7 @@ use Rattle.disp_core.specs.Grants.{made_of}
 use Rattle.grant_laws.specs.Granted.{GrantedTurns, GrantsAll, with_primaries}
 use Rattle.admit_core.specs.Admissions.{fixed_for, given_to, is_assured, named_of}
 use Rattle.admit_core.specs.declared.admission.AdmittedJob.{AdmittedJob}
-use Rattle.job_core.proofs.Wanted.{releasing_leaves, releasing_leaves_none}
+use Rattle.queued_job.proofs.Wanted.{releasing_leaves, releasing_leaves_none}
 use Rattle.machine_core.specs.declared.parts.Parts.{Parts}
 use Rattle.machine_core.specs.Shown.{shown}
 use Rattle.init_core.specs.declared.running.Profile.{Profile}

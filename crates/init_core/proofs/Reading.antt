@@ -13,7 +13,7 @@ use Rattle.world_meaning.specs.Holdings.{Holds, blocked, broken, held as holding
 use Rattle.world_meaning.specs.Worlds as world
 use Rattle.world_meaning.specs.Worlds.{Config, Shared}
 use Rattle.turn_core.specs.declared.walk.Walk.{Walk}
-use Rattle.job_core.proofs.Wanted.{releasing_leaves, releasing_leaves_none}
+use Rattle.queued_job.proofs.Wanted.{releasing_leaves, releasing_leaves_none}
 use Rattle.machine_core.specs.declared.parts.Parts.{Parts}
 use Rattle.machine_core.specs.Released.{GivesBack, IsReleased}
 use Rattle.machine_core.specs.Shown.{shown}

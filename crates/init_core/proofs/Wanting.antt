@@ -15,7 +15,7 @@ use Rattle.world_meaning.specs.Worlds as world
 use Rattle.world_meaning.specs.Worlds.{Config, Shared, going_on}
 use Rattle.world_meaning.proofs.Following.{unopened}
 use Rattle.turn_core.specs.declared.walk.Walk.{Walk}
-use Rattle.job_core.proofs.Wanted.{holding_leaves}
+use Rattle.queued_job.proofs.Wanted.{holding_leaves}
 use Rattle.machine_core.specs.declared.parts.Parts.{Parts}
 use Rattle.machine_core.specs.Shown.{shown}
 use Rattle.machine_core.proofs.Unnamed.{none_given_free}

@@ -13,12 +13,12 @@ use cb_queue::store::RecordStore;
 use enq_core::table::Want;
 use jcl_plan::entry::JobLine;
 use jcl_plan::plan::JobPlan;
-use job_core::laws::wants_are_in_order;
-use job_core::read::{Read, read_job};
-use job_core::wants::wants_of;
 use machine_core::over::release_unnamed;
 use machine_core::parts::Parts;
 use plain::listed::Listed;
+use queued_job::laws::wants_are_in_order;
+use queued_job::read::{Read, read_job};
+use queued_job::wants::wants_of;
 use std::alloc::{AllocError, Global};
 use turn_core::walk::Walk;
 

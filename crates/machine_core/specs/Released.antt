@@ -6,7 +6,7 @@ use Rattle.world_meaning.specs.Holdings.{cancels_without, released}
 use Rattle.world_meaning.specs.Records.{Reopened}
 use Rattle.world_meaning.specs.Tracks.{Conserves}
 use Rattle.world_meaning.specs.Worlds.{Config}
-use Rattle.job_core.specs.Releases.{Releases}
+use Rattle.queued_job.specs.Releases.{Releases}
 use Rattle.place_core.specs.Keepings.{GivesBackAll}
 use Rattle.machine_core.specs.declared.parts.Parts.{Parts}
 use Rattle.machine_core.specs.Shown.{shown}

@@ -2,8 +2,8 @@
 use cb_queue::store::RecordStore;
 use enq_core::table::EnqTable;
 use jcl_plan::day::Day;
-use job_core::cancels::Cancels;
 use prog_core::units::Units;
+use queued_job::cancels::Cancels;
 use shared_core::store::SharedStore;
 use spool_core::spool::Spool;
 

@@ -1,7 +1,7 @@
 -- The answers along a chain of machines.
 use Rattle.std.proofs.Common.{List}
 use Rattle.jcl_plan.specs.declared.entry.Entry.{Entry}
-use Rattle.input_core.specs.declared.event.Event.{Event}
+use Rattle.session_input.specs.declared.event.Event.{Event}
 use Rattle.sched_core.specs.Systems.{Drives, Machine, world_of}
 use Rattle.sched_core.proofs.Driving.{along}
 use Rattle.machine_laws.specs.Answers.{AnswersAreExact, AreExact, AreExactAlong}

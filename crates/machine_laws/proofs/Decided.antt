@@ -8,7 +8,7 @@ use Rattle.jcl_meaning.specs.Agendas.{Action, Ask, Take}
 use Rattle.jcl_meaning.specs.RequestActs.{asked, head_or}
 use Rattle.jcl_meaning.specs.States.{Done}
 use Rattle.request_core.specs.Requests.{growth_asked}
-use Rattle.input_core.specs.declared.event.Event.{Event}
+use Rattle.session_input.specs.declared.event.Event.{Event}
 use Rattle.world_meaning.specs.Choices.{AtAction, Choice}
 use Rattle.world_meaning.specs.Turns.{Advanced}
 use Rattle.world_meaning.specs.Worlds.{Admission, World}

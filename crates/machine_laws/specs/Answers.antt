@@ -10,7 +10,7 @@ use Rattle.jcl_plan.specs.declared.outcome.Outcome.{Outcome}
 use Rattle.jcl_plan.specs.declared.plan.JobPlan.{JobPlan}
 use Rattle.cb_meaning.specs.Walks.{first_fault}
 use Rattle.walk_laws.specs.WalkLaws.{DenotesSome}
-use Rattle.input_core.specs.declared.event.Event.{Event}
+use Rattle.session_input.specs.declared.event.Event.{Event}
 use Rattle.world_meaning.specs.Worlds.{Named, Running, Selected, Stage, World}
 use Rattle.law_core.specs.Soundness.{RunsAt}
 use Rattle.admit_core.specs.Told.{IsTold, fixed_by_room}

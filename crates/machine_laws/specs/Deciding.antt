@@ -19,7 +19,7 @@ use Rattle.jcl_meaning.specs.Resolutions.{meaning_at}
 use Rattle.jcl_meaning.specs.TakeActs.{target_at}
 use Rattle.jcl_meaning.specs.Takes.{is_known, looked_at, primary_of}
 use Rattle.request_core.specs.Requests.{Growth, growth_asked}
-use Rattle.input_core.specs.declared.event.Event.{Event}
+use Rattle.session_input.specs.declared.event.Event.{Event}
 use Rattle.world_meaning.specs.Choices.{AtAction, AtAdmission, choice_of}
 use Rattle.world_meaning.specs.Turns.{Advanced}
 use Rattle.world_meaning.specs.Worlds.{Admission, World, of_job}

@@ -1,6 +1,6 @@
 -- What a session puts into the machine, and the events of the machine's definitions.
 use Rattle.std.specs.Prelude.{◌≡◌}
-use Rattle.input_core.specs.declared.event.Event.{Event}
+use Rattle.session_input.specs.declared.event.Event.{Event}
 use Rattle.world_meaning.specs.declared.event.Event as meant
 use Rattle.world_meaning.specs.declared.event.Event.TheVariants as event
 use Rattle.sched_core.specs.Systems.{meant_by}

@@ -11,8 +11,8 @@ use Rattle.check_core.specs.declared.report.Checked.TheVariants.{Refused, Taken}
 use Rattle.check_core.specs.Reports.{AreTold}
 use Rattle.check_core.specs.Texts.{AddsToldText}
 use Rattle.config_core.specs.Configs.{unit_names}
-use Rattle.input_core.specs.declared.event.Event.{Event}
-use Rattle.input_core.specs.declared.event.Event.TheVariants as event
+use Rattle.session_input.specs.declared.event.Event.{Event}
+use Rattle.session_input.specs.declared.event.Event.TheVariants as event
 use Rattle.jcl_job.specs.Jobs.{job_of}
 use Rattle.proc_library.specs.declared.library.LibraryProcedure.{LibraryProcedure}
 use Rattle.session_text.specs.declared.fault.Fault.{Fault}

@@ -5,8 +5,8 @@ mod program;
 mod session;
 
 use crate::program::{mvt_check, run_program};
-use option_core::ended::{end_unread, end_unrun, prompt};
-use option_core::options::read_words;
+use command_line::ended::{end_unread, end_unrun, prompt};
+use command_line::options::read_words;
 use session_core::stream::{Sink, Source};
 use std::io::{self, IsTerminal};
 use std::process::ExitCode;

@@ -4,8 +4,8 @@ ghost use Rattle.session_core.specs.Streams.{sink_state, source_state};
 ghost use Rattle.mvt_check.specs.Checking.{Checks, IsTold, Starves};
 
 use crate::session::{Found, check_session};
-use option_core::ended::{ALL_READ, Ended, SESSION_FAULT, end_out_of_memory};
-use option_core::program::Program;
+use command_line::ended::{ALL_READ, Ended, SESSION_FAULT, end_out_of_memory};
+use command_line::program::Program;
 use session_core::Options;
 use session_core::stream::{Sink, Source};
 use session_core::transfer::{read_text, write_text};

@@ -6,9 +6,9 @@ use Rattle.std.specs.Io.KnownBytes.{Appends}
 use Rattle.std.proofs.lemmas.List.{append_assoc}
 use Rattle.clap.specs.Words.{Text}
 use Rattle.clap.specs.declared.error.Error.{Error}
-use Rattle.option_core.specs.CommandLines.{IsRead, names_of}
-use Rattle.option_core.specs.declared.options.Asked.{Asked}
-use Rattle.option_core.specs.declared.program.Program.{Program}
+use Rattle.command_line.specs.CommandLines.{IsRead, names_of}
+use Rattle.command_line.specs.declared.options.Asked.{Asked}
+use Rattle.command_line.specs.declared.program.Program.{Program}
 
 appends_both : (old between new : Option (List ℕ)) (first second : List ℕ) → Appends old between first → Appends between new second
     → Appends old new (first ++ second)

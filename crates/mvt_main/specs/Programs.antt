@@ -4,10 +4,10 @@ use Rattle.std.specs.Bool.{OnTrue}
 use Rattle.std.specs.Io.KnownBytes.{Appends}
 use Rattle.clap.specs.Words.{Text, kind_of}
 use Rattle.clap.specs.declared.error.Error.{Error}
-use Rattle.option_core.specs.CommandLines.{IsRead}
-use Rattle.option_core.specs.Endings.{EndsUnrun, prompt_of}
-use Rattle.option_core.specs.declared.ended.Ended.{Ended}
-use Rattle.option_core.specs.declared.options.Asked.{Asked}
+use Rattle.command_line.specs.CommandLines.{IsRead}
+use Rattle.command_line.specs.Endings.{EndsUnrun, prompt_of}
+use Rattle.command_line.specs.declared.ended.Ended.{Ended}
+use Rattle.command_line.specs.declared.options.Asked.{Asked}
 use Rattle.session_core.specs.declared.Options.{Options}
 use Rattle.session_core.specs.declared.SessionEnd.{SessionEnd}
 use Rattle.session_core.specs.declared.SessionFault.{SessionFault}

@@ -7,7 +7,7 @@ mod report;
 mod tests;
 
 use crate::program::run_program;
-use option_core::ended::end_unread;
+use command_line::ended::end_unread;
 use session_core::stream::{Sink, Source};
 use std::io::{self, IsTerminal};
 use std::process::ExitCode;

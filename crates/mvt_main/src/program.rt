@@ -6,9 +6,9 @@ ghost use Rattle.session_core.specs.Streams.{sink_state, source_state};
 ghost use Rattle.mvt_main.specs.Programs.{EndsSession, IsEnded, said_of};
 
 use crate::report::{Message, session_report};
-use option_core::ended::{Ended, end_unrun, prompt};
-use option_core::options::read_words;
-use option_core::program::Program;
+use command_line::ended::{Ended, end_unrun, prompt};
+use command_line::options::read_words;
+use command_line::program::Program;
 use session_core::Options;
 use session_core::stream::{Sink, Source};
 use std::alloc::Global;

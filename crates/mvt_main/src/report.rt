@@ -3,7 +3,7 @@ ghost use Rattle.std.specs.Prelude.{◌≡◌, Some, false};
 ghost use Rattle.session_core.specs.Streams.{sink_state, source_state};
 ghost use Rattle.mvt_main.specs.Programs.{IsReported, reported, text_of};
 
-use option_core::ended::{ALL_READ, SESSION_FAULT, WANT_OF_MEMORY};
+use command_line::ended::{ALL_READ, SESSION_FAULT, WANT_OF_MEMORY};
 use session_core::stream::{Sink, Source};
 use session_core::{Options, SessionEnd, SessionFault, run_streams};
 use std::alloc::Global;

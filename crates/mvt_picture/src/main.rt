@@ -6,8 +6,8 @@ mod session;
 mod watch;
 
 use crate::program::{mvt_picture, run_program};
-use option_core::ended::{end_unread, end_unrun, prompt};
-use option_core::options::read_words;
+use command_line::ended::{end_unread, end_unrun, prompt};
+use command_line::options::read_words;
 use session_core::stream::Source;
 use std::io::{self, IsTerminal};
 use std::process::ExitCode;

@@ -3,9 +3,9 @@ ghost use Rattle.std.specs.Prelude.{◌≡◌, false};
 ghost use Rattle.mvt_picture.specs.Endings.{WritesPicture, status_of};
 
 use crate::session::run_session;
+use command_line::ended::{ALL_READ, Ended, SESSION_FAULT, end_out_of_memory};
+use command_line::program::Program;
 use history_core::history::History;
-use option_core::ended::{ALL_READ, Ended, SESSION_FAULT, end_out_of_memory};
-use option_core::program::Program;
 use picture_core::draw::picture_of;
 use session_core::stream::Source;
 use session_core::{Options, SessionEnd, SessionFault};

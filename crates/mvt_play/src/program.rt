@@ -1,12 +1,12 @@
 //! What the program does, over its streams: its status, and what it says on the stream of errors.
 ghost use Rattle.std.specs.Prelude.{◌≡◌, codes, false};
-ghost use Rattle.option_core.specs.CommandLines.{has_text, texts};
+ghost use Rattle.command_line.specs.CommandLines.{has_text, texts};
 ghost use Rattle.session_core.specs.Streams.{sink_state, source_state};
 ghost use Rattle.mvt_play.specs.Endings.{IsStatus, PlaysAsAsked, status_of, status_of_text};
 
-use option_core::ended::{ALL_READ, Ended, SESSION_FAULT, end_out_of_memory};
-use option_core::options::Asked;
-use option_core::program::{Flag, Program};
+use command_line::ended::{ALL_READ, Ended, SESSION_FAULT, end_out_of_memory};
+use command_line::options::Asked;
+use command_line::program::{Flag, Program};
 use play_core::play::play_streams;
 use play_core::text::{Extended, extend_streams};
 use play_core::waits::Waits;

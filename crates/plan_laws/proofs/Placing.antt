@@ -22,7 +22,7 @@ use Rattle.jcl_procs.specs.declared.step.FlatStep.{FlatStep}
 use Rattle.jcl_refs.specs.Planning.{counts_in, planned_counts}
 use Rattle.jcl_refs.specs.Plans.{all_of, by_fault, dds_with, kind_of, kinds_from, kinds_in, plan_of, spot, step_of, steps_from, unit_of, units_of_dds, units_of_step, units_of_steps, with_dds_left, with_units}
 use Rattle.plan_laws.specs.Each.{EachDd, EachStep}
-use Rattle.card_laws.specs.Ranges.{CodesName}
+use Rattle.statement_laws.specs.Ranges.{CodesName}
 use Rattle.plan_laws.specs.PlanLaws.{IsWritten, KeyLooksBack, KindLooksBack, VolumeLooksBack, WritesNames}
 use Rattle.plan_laws.proofs.Few.{map_length}
 use Rattle.plan_laws.proofs.LeftDds.{steps_left}

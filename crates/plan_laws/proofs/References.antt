@@ -32,7 +32,7 @@ use Rattle.jcl_refs.specs.declared.targets.Target.{Target}
 use Rattle.jcl_refs.specs.LaterDds.{has_name}
 use Rattle.jcl_refs.specs.Plans.{Led, Naming, Names, MakesDummy, NamesNothing, Nowhere, Own, OwnCards, OwnDummy, OwnSet, OwnSysout, Spot, ToDummy, ToSet, by_fault, kind_at, kind_of, kind_with, kinds_from, led, led_by, naming, naming_by, own_kind, spot, volume_by, volume_plan}
 use Rattle.jcl_refs.specs.Targets.{dds_of, earlier_step, in_earlier, looks_forward, missing, dd_position, target_of}
-use Rattle.card_laws.specs.Ranges.{CodesName}
+use Rattle.statement_laws.specs.Ranges.{CodesName}
 use Rattle.deck_laws.proofs.Given.{same_ok}
 use Rattle.plan_laws.proofs.Places.{Extends, IsLast, look, look_in, more_there, was_there}
 use Rattle.plan_laws.proofs.Tests.{step_between}

@@ -35,7 +35,7 @@ use Rattle.jcl_refs.specs.LaterDds.{Found, as_dummy, defined_by, found_in, left_
 use Rattle.jcl_refs.specs.Plans.{Led, MakesDummy, Names, NamesNothing, Naming, Nowhere, Own, OwnCards, OwnDummy, OwnSet, OwnSysout, Spot, ToDummy, ToSet, all_of, by_class, dds_with, job_test, job_with, kind_of, kind_with, kinds_in, led, most_dds, most_steps, naming, own_kind, plan_of, space_of, step_of, steps_from, test_of, test_with, unit_of, units_of_dds, units_of_steps, volume_by, volume_plan, with_dds_left, with_units}
 use Rattle.jcl_refs.specs.Targets.{earlier_step}
 use Rattle.plan_laws.specs.Each.{EachDd, EachStep}
-use Rattle.card_laws.specs.Ranges.{CodesName, IsSoundClass, IsSoundDd, IsSoundJob, IsSoundKey, IsSoundSpace, IsSoundVolume, IsSoundWord}
+use Rattle.statement_laws.specs.Ranges.{CodesName, IsSoundClass, IsSoundDd, IsSoundJob, IsSoundKey, IsSoundSpace, IsSoundVolume, IsSoundWord}
 use Rattle.deck_laws.specs.Sound.{BeginsWithName, IsNamed, IsSoundStep}
 use Rattle.plan_laws.specs.PlanLaws.{HasKnownUnits, VolumeLooksBack}
 use Rattle.plan_laws.proofs.DdFacts.{all_kinds, all_with, units_are_known}

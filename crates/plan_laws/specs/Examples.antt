@@ -23,7 +23,7 @@ use Rattle.jcl_cards.specs.declared.job.JobCard.{JobCard}
 use Rattle.jcl_cards.specs.Examples.{empty_dd}
 use Rattle.jcl_procs.specs.declared.step.FlatStep.{FlatStep}
 use Rattle.jcl_refs.specs.Plans.{plan_of}
-use Rattle.card_laws.specs.Ranges.{IsSoundJob}
+use Rattle.statement_laws.specs.Ranges.{IsSoundJob}
 use Rattle.deck_laws.specs.Sound.{IsSoundStep}
 
 abbrev pub card : List ℕ → Coded SetName → Coded VolumeName → DdCard

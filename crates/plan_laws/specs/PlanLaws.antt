@@ -12,7 +12,7 @@ use Rattle.jcl_plan.specs.declared.plan.VolumePlan.TheVariants as volume
 use Rattle.jcl_cards.specs.declared.job.JobCard.{JobCard}
 use Rattle.jcl_procs.specs.declared.step.FlatStep.{FlatStep}
 use Rattle.cb_meaning.specs.Writable.{IsEarlierSet, IsUnits, NamesEarlier}
-use Rattle.card_laws.specs.Ranges.{CodesName}
+use Rattle.statement_laws.specs.Ranges.{CodesName}
 use Rattle.jcl_refs.specs.Plans.{most_dds, most_steps, plan_of}
 use Rattle.plan_laws.specs.Each.{EachDd, EachStep}
 

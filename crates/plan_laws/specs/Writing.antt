@@ -5,7 +5,7 @@ use Rattle.cb_meaning.specs.Writable.{IsWritable}
 use Rattle.jcl_cards.specs.declared.job.JobCard.{JobCard}
 use Rattle.jcl_procs.specs.declared.step.FlatStep.{FlatStep}
 use Rattle.proc_library.specs.declared.library.LibraryProcedure.{LibraryProcedure}
-use Rattle.card_laws.specs.Ranges.{IsSoundJob}
+use Rattle.statement_laws.specs.Ranges.{IsSoundJob}
 use Rattle.deck_laws.specs.Sound.{IsSoundStep}
 use Rattle.jcl_refs.specs.Plans.{most_steps, plan_of}
 use Rattle.jcl_job.specs.Jobs.{job_of}

@@ -14,7 +14,7 @@ use Rattle.sched_core.specs.declared.views.SeenInitiator.{SeenInitiator}
 use Rattle.sched_core.specs.declared.views.SeenVolume.{SeenVolume}
 use Rattle.world_meaning.specs.Worlds.{Initiator, Shared}
 use Rattle.play_core.specs.Given.{IsTaken, event_of}
-use Rattle.input_core.specs.declared.event.Event.{Event}
+use Rattle.session_input.specs.declared.event.Event.{Event}
 use Rattle.session_core.proofs.Applied.{Drives-append}
 use Rattle.play_core.specs.Giving.{Adds, Gives, IsWait, Leads, Stays, StaysAt}
 use Rattle.play_core.specs.declared.given.Given.{Given}

@@ -1,8 +1,8 @@
 -- Events that are added to a session, and their lines. (This profile)
 use Rattle.std.specs.Prelude.{◌≡◌, ℕ, ◌+◌, ◌<◌, true, List, [], ◌∷◌, ◌++◌, codes, decimal, Some}
 use Rattle.std.specs.List.{Contains}
-use Rattle.input_core.specs.declared.event.Event.{Event}
-use Rattle.input_core.specs.declared.event.Event.TheVariants as event
+use Rattle.session_input.specs.declared.event.Event.{Event}
+use Rattle.session_input.specs.declared.event.Event.TheVariants as event
 use Rattle.machine_meaning.specs.declared.machine.TheConstants.{MOST_EVENTS}
 use Rattle.prog_core.specs.Operations.{is_busy}
 use Rattle.session_text.specs.declared.statement.Says.TheVariants.{Events}

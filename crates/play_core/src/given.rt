@@ -2,9 +2,9 @@
 ghost use Rattle.std.specs.Prelude.{◌≡◌, ◌++◌, OnOk};
 ghost use Rattle.play_core.specs.Given.{event_of, line_of};
 
-use input_core::event::Event;
 use itoa::Buffer;
 use jname_core::serial::Serial;
+use session_input::event::Event;
 use std::alloc::AllocError;
 
 /// An event that is added.

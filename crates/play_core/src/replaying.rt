@@ -5,8 +5,8 @@ ghost use Rattle.session_core.specs.Sessions.{events_of, has_events};
 ghost use Rattle.play_core.specs.Giving.{Leads};
 
 use cb_queue::list_store::ListStore;
-use input_core::event::Event;
 use sched_core::system::System;
+use session_input::event::Event;
 use session_text::statement::{Says, Statement};
 use std::alloc::AllocError;
 

@@ -3,10 +3,10 @@ use Rattle.std.proofs.Common.{◌≡◌, ◌++◌, ℕ, true, false, List, [], �
 use Rattle.std.specs.Prelude.{codes}
 use Rattle.std.specs.Fmt.{digits}
 use Rattle.std.proofs.lemmas.List.Elements.{All-cons, All-nil}
-use Rattle.input_core.specs.declared.statement.ConfigStatement.TheVariants as config
+use Rattle.session_input.specs.declared.statement.ConfigStatement.TheVariants as config
 use Rattle.jcl_meaning.specs.declared.program.Request.TheVariants.{Get, Put, End}
 use Rattle.hex.specs.Hex.{encode_with}
-use Rattle.input_core.specs.declared.event.Event.TheVariants as event
+use Rattle.session_input.specs.declared.event.Event.TheVariants as event
 use Rattle.session_text.specs.declared.statement.Says.{Says}
 use Rattle.session_text.specs.declared.statement.Says.TheVariants as says
 use Rattle.reader_laws.specs.SpelledSessions.{IsSaid, Spelled, text_of}

@@ -9,10 +9,10 @@ use Rattle.std.proofs.lemmas.List.Folds.{list_all-append}
 use Rattle.std.proofs.Math.Seq.{take-append_seam}
 use Rattle.jname_core.specs.Decimals.{number_within}
 use Rattle.jname_core.specs.Faults.{is_no_serial}
-use Rattle.input_core.specs.declared.statement.ConfigStatement.{ConfigStatement}
-use Rattle.input_core.specs.declared.statement.ConfigStatement.TheVariants as config
+use Rattle.session_input.specs.declared.statement.ConfigStatement.{ConfigStatement}
+use Rattle.session_input.specs.declared.statement.ConfigStatement.TheVariants as config
 use Rattle.jcl_meaning.specs.declared.program.Request.{Request}
-use Rattle.input_core.specs.declared.event.Event.TheVariants as event
+use Rattle.session_input.specs.declared.event.Event.TheVariants as event
 use Rattle.session_text.specs.declared.fault.Fault.TheVariants.{BadValue}
 use Rattle.session_text.specs.declared.statement.Block.{Block}
 use Rattle.session_text.specs.declared.statement.Ending.TheVariants.{Whole}

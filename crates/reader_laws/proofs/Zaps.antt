@@ -8,8 +8,8 @@ use Rattle.hex.specs.Hex.{IsBytes, encode_lower, encode_upper, encode_with, lowe
 use Rattle.hex.specs.declared.error.FromHexError.{FromHexError}
 use Rattle.hex.proofs.HexLemmas.{decode_of-encode_lower, decode_of-encode_upper}
 use Rattle.cb_meaning.specs.declared.layout.TheConstants.{LAYOUT_1, RECORD_BYTES}
-use Rattle.input_core.specs.declared.event.Event.TheVariants as event
-use Rattle.input_core.specs.declared.event.TheConstants.{FIRST_OPEN}
+use Rattle.session_input.specs.declared.event.Event.TheVariants as event
+use Rattle.session_input.specs.declared.event.TheConstants.{FIRST_OPEN}
 use Rattle.jname_core.specs.Characters.{is_digit}
 use Rattle.jname_core.specs.Decimals.{number_within}
 use Rattle.session_text.specs.declared.statement.Says.TheVariants as says

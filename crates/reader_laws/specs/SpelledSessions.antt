@@ -3,10 +3,10 @@ use Rattle.std.specs.Prelude.{◌≡◌, ◌≤◌, ◌+◌, ◌-◌, ℕ, ◌==
 use Rattle.std.specs.List.{flat_map, join_with_byte, list_all}
 use Rattle.hex.specs.Hex.{encode_lower, encode_upper}
 use Rattle.cb_meaning.specs.declared.layout.TheConstants.{LAYOUT_1, RECORD_BYTES}
-use Rattle.input_core.specs.declared.event.TheConstants.{FIRST_OPEN}
-use Rattle.input_core.specs.declared.event.Event.TheVariants as event
-use Rattle.input_core.specs.declared.statement.ConfigStatement.{ConfigStatement}
-use Rattle.input_core.specs.declared.statement.ConfigStatement.TheVariants as config
+use Rattle.session_input.specs.declared.event.TheConstants.{FIRST_OPEN}
+use Rattle.session_input.specs.declared.event.Event.TheVariants as event
+use Rattle.session_input.specs.declared.statement.ConfigStatement.{ConfigStatement}
+use Rattle.session_input.specs.declared.statement.ConfigStatement.TheVariants as config
 use Rattle.session_text.specs.declared.statement.Says.{Says}
 use Rattle.session_text.specs.declared.statement.Says.TheVariants as says
 use Rattle.session_text.specs.declared.statement.Statement.{Statement}

@@ -8,7 +8,7 @@ use crate::waiting::{WaitingVerb, on_waiting};
 use cb_meaning::layout::LAYOUT_1;
 use cb_queue::list_store::ListStore;
 use cb_records::rec::Rec;
-use job_core::cancels::Cancels;
+use queued_job::cancels::Cancels;
 use row_table::desk::Line;
 use row_table::told::Told;
 use std::alloc::Global;

@@ -1,7 +1,7 @@
 //! Jobs that wait, and which of them is selected.
 use cb_queue::store::RecordStore;
-use job_core::selecting::select;
 use queue_core::queue::Queued;
+use queued_job::selecting::select;
 use row_table::desk::Line;
 use row_table::told::Told;
 use std::alloc::Global;

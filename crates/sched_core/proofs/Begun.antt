@@ -32,9 +32,9 @@ use Rattle.shared_core.proofs.Showing.{nothing_shown}
 use Rattle.world_meaning.specs.Starts.{IsStart}
 use Rattle.world_meaning.specs.Worlds as world
 use Rattle.world_meaning.specs.Worlds.{World}
-use Rattle.job_core.specs.Layouts.{ReadsWhatItHolds}
-use Rattle.job_core.specs.Listed.{waiting_in}
-use Rattle.job_core.specs.declared.backlog.Listing.{Listing}
+use Rattle.queued_job.specs.Layouts.{ReadsWhatItHolds}
+use Rattle.queued_job.specs.Listed.{waiting_in}
+use Rattle.queued_job.specs.declared.backlog.Listing.{Listing}
 use Rattle.machine_core.specs.Shown.{shown}
 use Rattle.machine_core.specs.declared.parts.Parts.{Parts}
 use Rattle.init_core.specs.declared.running.Profile.{Profile}

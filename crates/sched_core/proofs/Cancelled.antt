@@ -29,10 +29,10 @@ use Rattle.world_meaning.specs.Worlds.{Config, Shared, Waiting, World, with_runn
 use Rattle.world_meaning.proofs.Following.{unopened}
 use Rattle.place_core.specs.Placings.{serials_of}
 use Rattle.turn_core.specs.declared.walk.Walk.{Walk}
-use Rattle.job_core.specs.Cancelled.{with_job}
-use Rattle.job_core.specs.Listed.{AreListed, but_job, but_listing, waiting_in}
-use Rattle.job_core.proofs.Listed.{others}
-use Rattle.job_core.proofs.Wanted.{releasing_leaves, releasing_leaves_none}
+use Rattle.queued_job.specs.Cancelled.{with_job}
+use Rattle.queued_job.specs.Listed.{AreListed, but_job, but_listing, waiting_in}
+use Rattle.queued_job.proofs.Listed.{others}
+use Rattle.queued_job.proofs.Wanted.{releasing_leaves, releasing_leaves_none}
 use Rattle.machine_core.specs.Released.{IsReleased}
 use Rattle.machine_core.specs.Shown.{shown}
 use Rattle.machine_core.specs.declared.parts.Parts.{Parts}

@@ -4,7 +4,7 @@ use Rattle.std.specs.Prelude.{get_or}
 use Rattle.std.proofs.lemmas.List.{take_more}
 use Rattle.jcl_job.specs.Jobs.{job_of}
 use Rattle.jcl_plan.specs.declared.entry.Entry.{Entry}
-use Rattle.input_core.specs.declared.event.Event.{Event}
+use Rattle.session_input.specs.declared.event.Event.{Event}
 use Rattle.shared_core.proofs.Following.{stays_follow}
 use Rattle.world_meaning.specs.declared.event.Event as meant
 use Rattle.world_meaning.specs.Headlines.{IsPromised}

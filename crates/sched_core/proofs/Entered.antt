@@ -24,11 +24,11 @@ use Rattle.world_meaning.specs.Readings as table
 use Rattle.world_meaning.specs.Readings.{Denoting, Reads, read_line, waits}
 use Rattle.world_meaning.specs.Worlds.{Config, World, of_job}
 use Rattle.world_meaning.proofs.Following.{unopened}
-use Rattle.job_core.specs.Entering.{Enters, queued_of}
-use Rattle.job_core.specs.Listed.{AreListed, waiting_in}
-use Rattle.job_core.specs.declared.backlog.Listing.{Listing}
-use Rattle.job_core.proofs.Listed.{last}
-use Rattle.job_core.proofs.Listings.{number_of}
+use Rattle.queued_job.specs.Entering.{Enters, queued_of}
+use Rattle.queued_job.specs.Listed.{AreListed, waiting_in}
+use Rattle.queued_job.specs.declared.backlog.Listing.{Listing}
+use Rattle.queued_job.proofs.Listed.{last}
+use Rattle.queued_job.proofs.Listings.{number_of}
 use Rattle.machine_core.specs.Shown.{shown}
 use Rattle.sched_core.specs.Events.{Answers, LeadsTo, RefusesFirst}
 use Rattle.sched_core.specs.Fits.{IsFit, IsKept}

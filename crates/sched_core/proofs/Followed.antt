@@ -7,7 +7,7 @@ use Rattle.shared_core.specs.declared.store.SharedStore.{SharedStore}
 use Rattle.shared_core.specs.Laws.{Follow}
 use Rattle.shared_core.proofs.Following.{stays_follow}
 use Rattle.init_core.specs.Extents.{ExtentsFollow}
-use Rattle.job_core.specs.declared.backlog.Listing.{Listing}
+use Rattle.queued_job.specs.declared.backlog.Listing.{Listing}
 use Rattle.machine_core.specs.declared.parts.Parts.{Parts}
 use Rattle.sched_core.specs.Cancelling.{CancelsRunning, LeavesQueue, is_noted, leaves}
 use Rattle.sched_core.specs.declared.state.Initiator.{Initiator}

@@ -2,8 +2,8 @@
 use Rattle.std.proofs.Common.{◌≡◌, ℕ, ◌∷◌, ◌++◌, [], List, None, Some, ap, subst, arith}
 use Rattle.queue_core.specs.declared.queue.Queued.{Queued}
 use Rattle.world_meaning.specs.Selections.{IsFirst, IsSelected}
-use Rattle.job_core.specs.Listed.{AreListed, ListedAreQueued, waiting_in}
-use Rattle.job_core.specs.Selecting.{SelectsOf}
+use Rattle.queued_job.specs.Listed.{AreListed, ListedAreQueued, waiting_in}
+use Rattle.queued_job.specs.Selecting.{SelectsOf}
 use Rattle.sched_core.specs.Systems.{Machine, world_of}
 use Rattle.sched_core.specs.Views.{IsNext}
 

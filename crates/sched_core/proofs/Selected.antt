@@ -19,11 +19,11 @@ use Rattle.world_meaning.specs.Selections.{IsSelected, Selects, taken_by}
 use Rattle.world_meaning.specs.Worlds as world
 use Rattle.world_meaning.specs.Worlds.{Config, Waiting, World, of_job, with_running, without_waiting}
 use Rattle.world_meaning.proofs.Following.{unopened}
-use Rattle.job_core.specs.Backlogs.{IsListingOf, told}
-use Rattle.job_core.specs.Listed.{AreListed, but_job, but_listing, waiting_in}
-use Rattle.job_core.specs.Selecting.{IsSelection, SelectsOf}
-use Rattle.job_core.specs.declared.backlog.Listing.{Listing}
-use Rattle.job_core.proofs.Listed.{one_listing, others, queued}
+use Rattle.queued_job.specs.Backlogs.{IsListingOf, told}
+use Rattle.queued_job.specs.Listed.{AreListed, but_job, but_listing, waiting_in}
+use Rattle.queued_job.specs.Selecting.{IsSelection, SelectsOf}
+use Rattle.queued_job.specs.declared.backlog.Listing.{Listing}
+use Rattle.queued_job.proofs.Listed.{one_listing, others, queued}
 use Rattle.init_core.specs.Running.{IsReady, shown_running}
 use Rattle.init_core.specs.declared.running.Running.{Running}
 use Rattle.sched_core.specs.Events.{LeadsTo, SelectsAt}

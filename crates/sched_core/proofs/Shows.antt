@@ -24,8 +24,8 @@ use Rattle.world_meaning.specs.Transitions as table
 use Rattle.world_meaning.specs.Worlds as world
 use Rattle.world_meaning.specs.Worlds.{Config, World}
 use Rattle.world_meaning.proofs.Following.{unopened}
-use Rattle.job_core.specs.Listed.{ListedAreQueued, waiting_in}
-use Rattle.job_core.specs.Selecting.{queued_as}
+use Rattle.queued_job.specs.Listed.{ListedAreQueued, waiting_in}
+use Rattle.queued_job.specs.Selecting.{queued_as}
 use Rattle.machine_core.specs.Events.{DeviceEnds, DeviceIsRefused, IsOf, IsShowing, WriterWrites, with_shared, written_lines}
 use Rattle.machine_core.specs.Events as machine
 use Rattle.machine_core.specs.Shown.{shown}

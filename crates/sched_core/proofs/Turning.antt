@@ -15,7 +15,7 @@ use Rattle.world_laws.proofs.Beside.{one_there, set_elsewhere, set_here}
 use Rattle.world_meaning.specs.Transitions.{told_with}
 use Rattle.world_meaning.specs.Worlds as world
 use Rattle.world_meaning.specs.Worlds.{Config, IsAt, World, with_running}
-use Rattle.job_core.specs.Listed.{AreListed, waiting_in}
+use Rattle.queued_job.specs.Listed.{AreListed, waiting_in}
 use Rattle.machine_core.specs.Shown.{shown}
 use Rattle.init_core.specs.Going.{IsLeft}
 use Rattle.init_core.specs.Running.{IsReady, lines_told, runs_after, shown_running}

@@ -9,7 +9,7 @@ use Rattle.enq_core.specs.Holds.{HoldsNone}
 use Rattle.machine_meaning.specs.declared.machine.TheConstants.{MOST_EVENTS, MOST_JOBS}
 use Rattle.world_meaning.specs.Worlds.{Config}
 use Rattle.place_core.specs.Placings.{serials_of}
-use Rattle.job_core.specs.Listed.{AreListed, waiting_in}
+use Rattle.queued_job.specs.Listed.{AreListed, waiting_in}
 use Rattle.machine_core.specs.Shown.{shown}
 use Rattle.machine_core.specs.declared.parts.Parts.{Parts}
 use Rattle.init_core.specs.Running.{IsGood, IsReady, config_of}

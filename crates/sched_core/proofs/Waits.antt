@@ -9,11 +9,11 @@ use Rattle.queue_core.specs.declared.queue.Queued.{Queued}
 use Rattle.queue_core.proofs.Numbered.{all_read}
 use Rattle.world_meaning.specs.Starts.{AreInOrder}
 use Rattle.world_meaning.specs.Worlds.{Config, Waiting, World}
-use Rattle.job_core.specs.Backlogs.{IsListingOf}
-use Rattle.job_core.specs.Listed.{AreListed, waiting_as, waiting_in}
-use Rattle.job_core.specs.Selecting.{SelectsOf, queued_as}
-use Rattle.job_core.specs.declared.backlog.Listing.{Listing}
-use Rattle.job_core.proofs.Listed.{queued}
+use Rattle.queued_job.specs.Backlogs.{IsListingOf}
+use Rattle.queued_job.specs.Listed.{AreListed, waiting_as, waiting_in}
+use Rattle.queued_job.specs.Selecting.{SelectsOf, queued_as}
+use Rattle.queued_job.specs.declared.backlog.Listing.{Listing}
+use Rattle.queued_job.proofs.Listed.{queued}
 use Rattle.init_core.specs.Running.{shown_running}
 use Rattle.sched_core.specs.Fits.{IsAtNone, IsKept}
 use Rattle.sched_core.specs.Machines.{world_in}

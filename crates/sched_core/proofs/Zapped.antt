@@ -21,9 +21,9 @@ use Rattle.world_meaning.specs.Worlds as world
 use Rattle.world_meaning.specs.Worlds.{Config, World}
 use Rattle.world_meaning.specs.Zaps as zap
 use Rattle.world_meaning.specs.Zaps.{ZapsRecord, is_owned, is_within, may_be_zapped, most_zapped, not_owned, runs_job, selected, zapped}
-use Rattle.job_core.specs.Listed.{AreListed, waiting_in}
-use Rattle.job_core.specs.Zapping.{IsOwner, Overwrites}
-use Rattle.job_core.specs.declared.backlog.Listing.{Listing}
+use Rattle.queued_job.specs.Listed.{AreListed, waiting_in}
+use Rattle.queued_job.specs.Zapping.{IsOwner, Overwrites}
+use Rattle.queued_job.specs.declared.backlog.Listing.{Listing}
 use Rattle.machine_core.specs.Shown.{shown}
 use Rattle.init_core.specs.Running.{shown_running}
 use Rattle.init_core.specs.declared.running.Running.{Running}

@@ -6,9 +6,9 @@ use Rattle.jcl_plan.specs.declared.entry.Entry.{Entry}
 use Rattle.jcl_plan.specs.declared.entry.Entry.TheVariants as entry
 use Rattle.world_meaning.specs.Cancels.{cancelled_lines}
 use Rattle.world_meaning.specs.Worlds.{Config}
-use Rattle.job_core.specs.Cancelled.{with_job}
-use Rattle.job_core.specs.Listed.{but_listing}
-use Rattle.job_core.specs.declared.backlog.Listing.{Listing}
+use Rattle.queued_job.specs.Cancelled.{with_job}
+use Rattle.queued_job.specs.Listed.{but_listing}
+use Rattle.queued_job.specs.declared.backlog.Listing.{Listing}
 use Rattle.machine_core.specs.Released.{GivesBack, IsReleased}
 use Rattle.machine_core.specs.declared.parts.Parts.{Parts}
 use Rattle.init_core.specs.Running.{IsReady}

@@ -8,7 +8,7 @@ use Rattle.case_laws.specs.Cases.{IsSupplied}
 use Rattle.law_core.specs.Soundness.{IsSound}
 use Rattle.world_meaning.specs.Worlds.{Config}
 use Rattle.jcl_refs.specs.Plans.{most_steps}
-use Rattle.job_core.specs.Listed.{AreListed}
+use Rattle.queued_job.specs.Listed.{AreListed}
 use Rattle.init_core.specs.Running.{IsGood, IsReady}
 use Rattle.init_core.specs.declared.running.Running.{Running}
 use Rattle.sched_core.specs.Machines.{RunsIn, world_in}

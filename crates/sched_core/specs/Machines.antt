@@ -4,7 +4,7 @@ use Rattle.std.specs.Option.{option_map}
 use Rattle.cb_queue.specs.RecordQueues.{RecordQueue}
 use Rattle.world_meaning.specs.Worlds as world
 use Rattle.world_meaning.specs.Worlds.{Config, World}
-use Rattle.job_core.specs.Listed.{waiting_in}
+use Rattle.queued_job.specs.Listed.{waiting_in}
 use Rattle.machine_core.specs.Shown.{shown}
 use Rattle.init_core.specs.Running.{config_of, shown_running}
 use Rattle.init_core.specs.declared.running.Profile.{Profile}

@@ -9,8 +9,8 @@ use Rattle.jcl_plan.specs.declared.fault.QueueFault.TheVariants.{Full}
 use Rattle.jcl_plan.specs.declared.plan.JobPlan.{JobPlan}
 use Rattle.world_meaning.specs.Readings.{Denoting, Reads, read_line}
 use Rattle.world_meaning.specs.Worlds.{World, of_job}
-use Rattle.job_core.specs.Entering.{Enters}
-use Rattle.job_core.specs.declared.backlog.Listing.{Listing}
+use Rattle.queued_job.specs.Entering.{Enters}
+use Rattle.queued_job.specs.declared.backlog.Listing.{Listing}
 
 abbrev pub listing_of : ℕ → JobPlan → Listing
 listing_of job plan = record { job = job; lines = read_line plan ∷ [] }

@@ -8,10 +8,10 @@ use Rattle.jcl_plan.specs.declared.entry.JobLine.TheVariants as line
 use Rattle.queue_core.specs.declared.queue.Queued.{Queued}
 use Rattle.turn_core.specs.declared.todo.Todo.TheVariants as todo
 use Rattle.world_meaning.specs.Worlds.{of_job}
-use Rattle.job_core.specs.Backlogs.{IsListingOf}
-use Rattle.job_core.specs.Listed.{but_job, but_listing}
-use Rattle.job_core.specs.Selecting.{SelectsOf}
-use Rattle.job_core.specs.declared.backlog.Listing.{Listing}
+use Rattle.queued_job.specs.Backlogs.{IsListingOf}
+use Rattle.queued_job.specs.Listed.{but_job, but_listing}
+use Rattle.queued_job.specs.Selecting.{SelectsOf}
+use Rattle.queued_job.specs.declared.backlog.Listing.{Listing}
 use Rattle.init_core.specs.declared.running.Running.{Running}
 use Rattle.init_core.specs.declared.running.Stage.TheVariants as stage
 use Rattle.sched_core.specs.declared.state.Initiator.{Initiator}

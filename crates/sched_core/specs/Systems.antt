@@ -1,8 +1,8 @@
 -- The machine as its callers see it: the parts' values, and the world that they are.
 use Rattle.std.specs.Prelude.{◌≡◌, ℕ, ◌≤◌, List, [], ◌∷◌, map, length, take, Result, Ok, Err}
 use Rattle.cb_queue.specs.RecordQueues.{RecordQueue, shown as records_of}
-use Rattle.input_core.specs.declared.event.Event.{Event}
-use Rattle.input_core.specs.declared.event.Event.TheVariants as input
+use Rattle.session_input.specs.declared.event.Event.{Event}
+use Rattle.session_input.specs.declared.event.Event.TheVariants as input
 use Rattle.jcl_job.specs.Jobs.{job_of}
 use Rattle.jcl_plan.specs.declared.entry.Entry.{Entry}
 use Rattle.jcl_plan.specs.declared.entry.Entry.TheVariants as entry
@@ -15,8 +15,8 @@ use Rattle.walk_laws.specs.WalkLaws.{AreRecords}
 use Rattle.shared_core.specs.LaidOut.{VolumesAreLaidOut}
 use Rattle.place_core.specs.Placings.{serials_of}
 use Rattle.init_core.specs.Extents.{ExtentsFollow}
-use Rattle.job_core.specs.Listed.{waiting_in}
-use Rattle.job_core.specs.declared.backlog.Listing.{Listing}
+use Rattle.queued_job.specs.Listed.{waiting_in}
+use Rattle.queued_job.specs.declared.backlog.Listing.{Listing}
 use Rattle.machine_core.specs.Shown.{shown}
 use Rattle.machine_core.specs.declared.parts.Parts.{Parts}
 use Rattle.init_core.specs.declared.running.Profile.{Profile}

@@ -22,7 +22,6 @@ use crate::zapping::zap;
 use case_laws::supplies_are_kept;
 use cb_queue::store::RecordStore;
 use init_core::running::Profile;
-use input_core::event::Event;
 use jcl_plan::entry::Entry;
 use jcl_plan::fault::{Cause, EventFault};
 use jcl_refs::units::UnitNames;
@@ -30,6 +29,7 @@ use law_core::soundness_is_kept;
 use machine_meaning::machine::MOST_EVENTS;
 use plain::listed::Listed;
 use proc_library::library::ProcLibrary;
+use session_input::event::Event;
 use std::alloc::Global;
 
 /// Where the initiator of a number is.

@@ -16,9 +16,9 @@ use init_core::running::Profile;
 use jcl_plan::entry::Entry;
 use jcl_plan::fault::Cause;
 use jname_core::serial::Serial;
-use job_core::laws::waiting_are_listed;
 use machine_core::events;
 use plain::listed::Listed;
+use queued_job::laws::waiting_are_listed;
 use std::alloc::Global;
 use std::mem;
 

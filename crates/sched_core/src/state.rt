@@ -1,9 +1,9 @@
 //! The machine between two events.
 use cb_queue::store::RecordStore;
 use init_core::running::Running;
-use job_core::backlog::Backlog;
 use machine_core::parts::Parts;
 use plain::short::Short;
+use queued_job::backlog::Backlog;
 
 /// An initiator, the classes that it selects from, in their order, and its job.
 pub struct Initiator {

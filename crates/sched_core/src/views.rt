@@ -16,11 +16,11 @@ use cb_queue::store::RecordStore;
 use enq_core::table::Hold;
 use init_core::running::{Running, Stage};
 use jname_core::serial::Serial;
-use job_core::laws::waiting_are_listed;
-use job_core::selecting::select;
 use machine_core::parts::Parts;
 use machine_core::tracks::{VolumeTracks, tracks_on};
 use plain::short::Short;
+use queued_job::laws::waiting_are_listed;
+use queued_job::selecting::select;
 
 /// How far an initiator is with its job.
 #[derive(Clone, Copy, PartialEq, Eq)]

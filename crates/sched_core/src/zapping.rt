@@ -3,7 +3,7 @@ ghost use Rattle.std.specs.Prelude.{◌≡◌, Ok, OnErr, None, length};
 ghost use Rattle.std.specs.List.{list_any};
 ghost use Rattle.cb_meaning.specs.Walks.{owner_of};
 ghost use Rattle.cb_queue.specs.RecordQueues.{shown};
-ghost use Rattle.job_core.specs.Listed.{AreListed};
+ghost use Rattle.queued_job.specs.Listed.{AreListed};
 ghost use Rattle.world_meaning.specs.Worlds.{Config};
 ghost use Rattle.world_meaning.specs.Zaps.{ZapsRecord, is_within};
 ghost use Rattle.sched_core.specs.Cancelling.{has_job};
@@ -19,11 +19,11 @@ use crate::state::{Initiator, State};
 use cb_meaning::layout::RECORD_BYTES;
 use cb_queue::store::RecordStore;
 use init_core::running::Profile;
-use input_core::event::{FIRST_OPEN, MOST_ZAPPED};
 use jcl_plan::entry::Entry;
 use jcl_plan::fault::{Cause, QueueFault};
-use job_core::zapping::{overwrite, owner_of};
 use plain::listed::Listed;
+use queued_job::zapping::{overwrite, owner_of};
+use session_input::event::{FIRST_OPEN, MOST_ZAPPED};
 use std::alloc::Global;
 
 /// Whether a record of the queue is named, of this many, and bytes that stay within what is open of it.

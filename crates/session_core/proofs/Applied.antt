@@ -5,7 +5,7 @@ use Rattle.std.proofs.lemmas.List.Concat.{flat_map-append}
 use Rattle.std.proofs.lemmas.Grind.{replicate_next}
 use Rattle.jcl_plan.specs.declared.entry.Entry.{Entry}
 use Rattle.jcl_plan.specs.Lines.{text_of}
-use Rattle.input_core.specs.declared.event.Event.{Event}
+use Rattle.session_input.specs.declared.event.Event.{Event}
 use Rattle.sched_core.specs.Systems.{Drives, IsNext, Machine}
 use Rattle.session_core.specs.Listings.{text_of_all}
 use Rattle.session_core.specs.Running.{AreApplied, IsApplied}

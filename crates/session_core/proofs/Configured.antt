@@ -1,7 +1,7 @@
 -- How far the configuration has come.
 use Rattle.std.proofs.Common.{◌≡◌, Bool, false, true, ◌||◌, List, [], ◌∷◌, ◌++◌, Some, None, Err, refl, sym, ap, subst, ◌∙◌}
 use Rattle.machine_meaning.specs.declared.config.ConfigFault.{ConfigFault}
-use Rattle.input_core.specs.declared.statement.ConfigStatement.{ConfigStatement}
+use Rattle.session_input.specs.declared.statement.ConfigStatement.{ConfigStatement}
 use Rattle.config_core.specs.Configs.{Configuration, config_fault, configured}
 use Rattle.sched_core.specs.Systems.{IsWhole, Machine}
 use Rattle.session_text.specs.declared.fault.Fault.{Fault}

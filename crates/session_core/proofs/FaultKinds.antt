@@ -7,10 +7,10 @@ use Rattle.machine_meaning.specs.declared.config.ConfigFault.{ConfigFault}
 use Rattle.machine_meaning.specs.declared.config.ConfigFault.TheVariants as config
 use Rattle.cb_meaning.specs.declared.layout.TheConstants.{LAYOUT_1, RECORD_BYTES}
 use Rattle.config_core.specs.Configs.{config_fault}
-use Rattle.input_core.specs.declared.event.Event.TheVariants as event
-use Rattle.input_core.specs.declared.event.TheConstants.{FIRST_OPEN}
-use Rattle.input_core.specs.declared.statement.ConfigStatement.TheVariants as statement
-use Rattle.input_core.specs.declared.statement.SetStatement.{SetStatement}
+use Rattle.session_input.specs.declared.event.Event.TheVariants as event
+use Rattle.session_input.specs.declared.event.TheConstants.{FIRST_OPEN}
+use Rattle.session_input.specs.declared.statement.ConfigStatement.TheVariants as statement
+use Rattle.session_input.specs.declared.statement.SetStatement.{SetStatement}
 use Rattle.session_text.specs.declared.fault.Fault.{Fault}
 use Rattle.session_text.specs.declared.fault.Fault.TheVariants as fault
 use Rattle.session_text.specs.declared.statement.Ending.{Ending}

@@ -3,8 +3,8 @@ use Rattle.std.proofs.Common.{◌≡◌, ◌⊎◌, ℕ, ◌+◌, ◌<◌, ◌�
 use Rattle.std.proofs.lemmas.List.{append-nil, length-replicate, take-replicate}
 use Rattle.std.specs.Io.KnownBytes.{Appends}
 use Rattle.config_core.specs.Configs.{Configuration, config_fault}
-use Rattle.input_core.specs.declared.event.Event.{Event}
-use Rattle.input_core.specs.declared.statement.ConfigStatement.{ConfigStatement}
+use Rattle.session_input.specs.declared.event.Event.{Event}
+use Rattle.session_input.specs.declared.statement.ConfigStatement.{ConfigStatement}
 use Rattle.machine_meaning.specs.declared.config.ConfigFault.{ConfigFault}
 use Rattle.sched_core.specs.Systems.{Drives, IsWhole, Machine}
 use Rattle.session_text.specs.declared.fault.Fault.{Fault}

@@ -8,7 +8,7 @@ use Rattle.config_core.proofs.Starting.{nothing_on}
 use Rattle.config_core.specs.Starts.{StartsOfConfigurations, idle, start_config, start_of}
 use Rattle.cb_queue.proofs.Changing.{sound_empty}
 use Rattle.cb_read.proofs.Sound.{all_records}
-use Rattle.input_core.specs.declared.event.Event.{Event}
+use Rattle.session_input.specs.declared.event.Event.{Event}
 use Rattle.jcl_job.specs.Jobs.{job_of}
 use Rattle.jcl_plan.specs.declared.entry.Entry.{Entry}
 use Rattle.machine_meaning.specs.declared.config.ConfiguredInitiator.{ConfiguredInitiator}

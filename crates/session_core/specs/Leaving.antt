@@ -2,7 +2,7 @@
 use Rattle.std.specs.Prelude.{◌≡◌, ℕ, List, []}
 use Rattle.std.specs.Io.KnownBytes.{Appends}
 use Rattle.jcl_plan.specs.declared.entry.Entry.{Entry}
-use Rattle.input_core.specs.declared.event.Event.{Event}
+use Rattle.session_input.specs.declared.event.Event.{Event}
 use Rattle.sched_core.specs.Systems.{Machine, Steps, world_of}
 use Rattle.session_core.specs.Running.{AreApplied}
 use Rattle.session_core.specs.Streams.{SinkState}

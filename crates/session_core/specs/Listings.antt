@@ -7,7 +7,7 @@ use Rattle.jcl_plan.specs.declared.fault.Cause.TheVariants as cause
 use Rattle.jcl_plan.specs.declared.fault.EventFault.TheVariants as event_fault
 use Rattle.jcl_plan.specs.Lines.{text_of}
 use Rattle.cb_meaning.specs.declared.layout.TheConstants.{LAYOUT_1}
-use Rattle.input_core.specs.declared.event.Event.{Event}
+use Rattle.session_input.specs.declared.event.Event.{Event}
 use Rattle.sched_core.specs.Starting.{IsStarted}
 use Rattle.sched_core.specs.Systems.{Drives, IsWhole, Machine}
 use Rattle.session_text.specs.declared.statement.Statement.{Statement}

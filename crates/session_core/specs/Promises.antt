@@ -1,7 +1,7 @@
 -- The promise of each ASSURED line of a session, that what each job is answered is exact, and what its volumes decide: along the chain of machines that its
 -- listing has.
 use Rattle.std.specs.Prelude.{ℕ, List, map}
-use Rattle.input_core.specs.declared.event.Event.{Event}
+use Rattle.session_input.specs.declared.event.Event.{Event}
 use Rattle.machine_laws.specs.Answers.{AreExactAlong}
 use Rattle.machine_laws.specs.Deciding.{AreDecidedAlong}
 use Rattle.sched_core.specs.Promised.{ArePromisedAlong}

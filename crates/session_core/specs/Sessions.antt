@@ -6,7 +6,7 @@ use Rattle.machine_meaning.specs.declared.config.ConfigFault.TheVariants as conf
 use Rattle.cb_meaning.specs.declared.layout.TheConstants.{LAYOUT_1}
 use Rattle.config_core.specs.Configs.{Configuration, config_fault, configured, nothing_configured, unit_names}
 use Rattle.config_core.specs.Starts.{start_of}
-use Rattle.input_core.specs.declared.event.Event.{Event}
+use Rattle.session_input.specs.declared.event.Event.{Event}
 use Rattle.jcl_job.specs.Jobs.{job_of}
 use Rattle.sched_core.specs.declared.start.TheConstants.{FIRST_DAY}
 use Rattle.world_meaning.specs.Readings.{Denoting}

@@ -10,8 +10,8 @@ ghost use Rattle.session_core.specs.declared.SessionEnd.{SessionEnd};
 use crate::SessionFault;
 use crate::laws::configuration_has_a_machine;
 use config_core::config::{Config, ConfigError};
-use input_core::statement::ConfigStatement;
 use machine_meaning::config::ConfigFault;
+use session_input::statement::ConfigStatement;
 use session_text::fault::Fault;
 use session_text::statement::{Says, Statement};
 

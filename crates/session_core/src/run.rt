@@ -1,7 +1,7 @@
 //! The events of the statements, and their lines.
 ghost use Rattle.std.specs.Prelude.{◌≡◌, [], Bool, OnErr, OnOk, drop, false, is_some, replicate, true};
 ghost use Rattle.cb_meaning.specs.declared.layout.TheConstants.{LAYOUT_1};
-ghost use Rattle.input_core.specs.declared.statement.ConfigStatement.{ConfigStatement};
+ghost use Rattle.session_input.specs.declared.statement.ConfigStatement.{ConfigStatement};
 ghost use Rattle.config_core.specs.Configs.{Configuration};
 ghost use Rattle.session_core.specs.Configuring.{IsConfiguredBy, late_in};
 ghost use Rattle.session_core.specs.Leaving.{IsLeft, ListsWhole, WritesWhole};
@@ -18,10 +18,10 @@ use crate::open::{Opened, open, start};
 use crate::stream::Sink;
 use crate::{Options, SessionEnd, SessionFault};
 use cb_queue::list_store::ListStore;
-use input_core::event::Event;
 use jcl_plan::entry::Entry;
 use sched_core::fault::ApplyFault;
 use sched_core::system::System;
+use session_input::event::Event;
 use session_text::fault::Fault;
 use session_text::statement::{Says, Statement};
 use std::alloc::{AllocError, Global};

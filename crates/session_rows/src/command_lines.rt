@@ -1,7 +1,7 @@
 //! Command lines of a program with two options of its own, and what is told of each.
-use option_core::ended::{WANT_OF_MEMORY, end_unrun};
-use option_core::options::{Asked, read_words};
-use option_core::program::{Flag, Program};
+use command_line::ended::{WANT_OF_MEMORY, end_unrun};
+use command_line::options::{Asked, read_words};
+use command_line::program::{Flag, Program};
 use row_table::told::Told;
 use row_table::words::Lines;
 use session_core::RiskChoice;

@@ -1,11 +1,11 @@
 //! The statements of a text, and what each says.
-use input_core::event::Event;
-use input_core::statement::{ConfigStatement, SetStatement};
 use jcl_meaning::program::Request;
 use jcl_plan::plan::Record;
 use kept_requests::requests::Requests;
 use plain::lent::Lent;
 use row_table::told::Told;
+use session_input::event::Event;
+use session_input::statement::{ConfigStatement, SetStatement};
 use session_text::parse::statements;
 use session_text::statement::{Ending, Says, Statement};
 use set_core::records::Records;

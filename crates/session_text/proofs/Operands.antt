@@ -4,7 +4,7 @@ use Rattle.std.specs.List.{list_any}
 use Rattle.jname_core.specs.Faults.{is_no_serial}
 use Rattle.jname_core.specs.Grammar.{IsName8, IsUnitName}
 use Rattle.jname_core.proofs.Names.{name8_none, unit_name_none}
-use Rattle.input_core.specs.declared.statement.ConfigStatement.TheVariants as config
+use Rattle.session_input.specs.declared.statement.ConfigStatement.TheVariants as config
 use Rattle.session_text.specs.declared.statement.Block.TheVariants.{Procedure}
 use Rattle.session_text.specs.Fields.{listed_in}
 use Rattle.session_text.specs.Rows.{only_of, two_of}

@@ -5,8 +5,8 @@ use Rattle.std.proofs.lemmas.List.{append-nil}
 use Rattle.std.specs.List.{list_any}
 use Rattle.std.specs.Option.{option_map}
 use Rattle.jcl_meaning.specs.declared.program.Request.{Request}
-use Rattle.input_core.specs.declared.statement.ConfigStatement.TheVariants as config
-use Rattle.input_core.specs.declared.statement.SetStatement.{SetStatement}
+use Rattle.session_input.specs.declared.statement.ConfigStatement.TheVariants as config
+use Rattle.session_input.specs.declared.statement.SetStatement.{SetStatement}
 use Rattle.session_text.specs.declared.begun.Begun.{Begun}
 use Rattle.session_text.specs.declared.begun.BlockLines.{BlockLines}
 use Rattle.session_text.specs.declared.begun.BlockLines.TheVariants as lines

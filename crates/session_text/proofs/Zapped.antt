@@ -6,7 +6,7 @@ use Rattle.hex.specs.Hex.{decode_of}
 use Rattle.hex.specs.declared.error.FromHexError.{FromHexError}
 use Rattle.hex.proofs.HexLemmas.{decode_of-ok}
 use Rattle.cb_meaning.specs.declared.layout.TheConstants.{LAYOUT_1}
-use Rattle.input_core.specs.declared.event.TheConstants.{FIRST_OPEN, MOST_ZAPPED}
+use Rattle.session_input.specs.declared.event.TheConstants.{FIRST_OPEN, MOST_ZAPPED}
 use Rattle.jname_core.specs.Decimals.{number_within}
 use Rattle.session_text.specs.Fields.{listed_in}
 use Rattle.session_text.specs.Rows.{only_of, three_of}

@@ -1,8 +1,8 @@
 -- A block as far as its lines are taken, one after another. (This profile)
 use Rattle.std.specs.Prelude.{ℕ, Bool, true, false, not, ◌&&◌, List, [], ◌∷◌, ◌++◌, fold, Option, Some, None, is_some, if◌then◌else◌}
 use Rattle.jcl_meaning.specs.declared.program.Request.{Request}
-use Rattle.input_core.specs.declared.event.Event.TheVariants as event
-use Rattle.input_core.specs.declared.statement.ConfigStatement.TheVariants as config
+use Rattle.session_input.specs.declared.event.Event.TheVariants as event
+use Rattle.session_input.specs.declared.statement.ConfigStatement.TheVariants as config
 use Rattle.session_text.specs.declared.begun.Begun.{Begun}
 use Rattle.session_text.specs.declared.begun.BlockLines.{BlockLines}
 use Rattle.session_text.specs.declared.begun.BlockLines.TheVariants as lines

@@ -2,9 +2,9 @@
 use Rattle.std.specs.Prelude.{ℕ, Bool, true, false, List, [], map, Option, Some, None, if◌then◌else◌}
 use Rattle.std.specs.List.{list_any}
 use Rattle.jcl_meaning.specs.declared.program.Request.{Request}
-use Rattle.input_core.specs.declared.event.Event.TheVariants as event
-use Rattle.input_core.specs.declared.statement.ConfigStatement.TheVariants as config
-use Rattle.input_core.specs.declared.statement.SetStatement.{SetStatement}
+use Rattle.session_input.specs.declared.event.Event.TheVariants as event
+use Rattle.session_input.specs.declared.statement.ConfigStatement.TheVariants as config
+use Rattle.session_input.specs.declared.statement.SetStatement.{SetStatement}
 use Rattle.session_text.specs.declared.fault.Fault.TheVariants as fault
 use Rattle.session_text.specs.declared.statement.Block.{Block}
 use Rattle.session_text.specs.declared.statement.Block.TheVariants.{Deck, Procedure, Set, Program, Faulty}

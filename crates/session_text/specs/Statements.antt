@@ -5,12 +5,12 @@ use Rattle.std.specs.Result.{result_ok}
 use Rattle.std.specs.Str.{bytes_eq}
 use Rattle.hex.specs.Hex.{decode_of}
 use Rattle.cb_meaning.specs.declared.layout.TheConstants.{LAYOUT_1, RECORD_BYTES}
-use Rattle.input_core.specs.declared.event.TheConstants.{FIRST_OPEN, MOST_ZAPPED}
+use Rattle.session_input.specs.declared.event.TheConstants.{FIRST_OPEN, MOST_ZAPPED}
 use Rattle.extent_core.specs.declared.extent.Extent.{Extent}
 use Rattle.jname_core.specs.Faults.{is_no_serial, name8_fault, unit_name_fault}
-use Rattle.input_core.specs.declared.statement.ConfigStatement.{ConfigStatement}
-use Rattle.input_core.specs.declared.statement.ConfigStatement.TheVariants as config
-use Rattle.input_core.specs.declared.event.Event.TheVariants as event
+use Rattle.session_input.specs.declared.statement.ConfigStatement.{ConfigStatement}
+use Rattle.session_input.specs.declared.statement.ConfigStatement.TheVariants as config
+use Rattle.session_input.specs.declared.event.Event.TheVariants as event
 use Rattle.session_text.specs.declared.fault.Fault.TheVariants as fault
 use Rattle.session_text.specs.declared.statement.Block.{Block}
 use Rattle.session_text.specs.declared.statement.Block.TheVariants.{Deck, Procedure, Set, Program, Faulty}

@@ -1,7 +1,7 @@
 -- The values of a zap as the reading of a text takes them. (This profile)
 use Rattle.std.specs.Prelude.{ℕ, ◌-◌, nat_le, List, length, Option, Some, None, if◌then◌else◌}
 use Rattle.cb_meaning.specs.declared.layout.TheConstants.{RECORD_BYTES}
-use Rattle.input_core.specs.declared.event.TheConstants.{MOST_ZAPPED}
+use Rattle.session_input.specs.declared.event.TheConstants.{MOST_ZAPPED}
 
 -- the last byte of a record
 abbrev pub last_open : ℕ

@@ -9,12 +9,12 @@ use crate::programs::{is_ending, request_of};
 use crate::sets::is_no_record;
 use crate::statement::{Block, Ending, Says};
 use boxed_core::Boxed;
-use input_core::event::Event;
-use input_core::statement::{ConfigStatement, SetStatement};
 use jname_core::name8::Name8;
 use kept_requests::requests::{Requests, SharedRequests};
 use plain::lent::Lent;
 use plain::listed::Listed;
+use session_input::event::Event;
+use session_input::statement::{ConfigStatement, SetStatement};
 use set_core::records::Records;
 use std::alloc::{AllocError, Global};
 

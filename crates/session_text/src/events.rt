@@ -8,8 +8,8 @@ use crate::fields::{next_field, only_field};
 use crate::statement::{Block, LineSays, Says};
 use crate::values::{before_star, class_of, serial_in, times_in};
 use crate::zaps::zap;
-use input_core::event::Event;
 use jname_core::decimal::number_within;
+use session_input::event::Event;
 use std::alloc::{AllocError, Global};
 
 /// An initiator acts, so many times over.

@@ -7,9 +7,9 @@ use crate::fault::Fault;
 use crate::fields::{flag_in, next_field};
 use crate::statement::{Says, configures};
 use crate::values::base_in;
-use input_core::statement::ConfigStatement;
 use jname_core::decimal::number_within;
 use jname_core::ds_name::DsName;
+use session_input::statement::ConfigStatement;
 use std::alloc::{AllocError, Global};
 
 fn with_values<'a>(

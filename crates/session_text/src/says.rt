@@ -12,10 +12,10 @@ use crate::sets::set;
 use crate::statement::{Block, LineSays, Says, configures};
 use crate::values::serials_in;
 use crate::volumes::volume;
-use input_core::statement::ConfigStatement;
 use jname_core::decimal::number_within;
 use jname_core::name8::{Name8, UnitName};
 use plain::text::Text;
+use session_input::statement::ConfigStatement;
 use std::alloc::{AllocError, Global};
 
 fn unit<'a>(alloc: Global, operands: &[u8]) -> Result<Says<'a>, AllocError>

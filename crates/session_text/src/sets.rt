@@ -11,11 +11,11 @@ use crate::fields::{flag_in, next_field};
 use crate::statement::Block;
 use crate::values::{serial_in, set_name_in};
 use boxed_core::Boxed;
-use input_core::statement::SetStatement;
 use jcl_plan::plan::Record;
 use jname_core::decimal::number_within;
 use jname_core::ds_name::DsName;
 use jname_core::serial::Serial;
+use session_input::statement::SetStatement;
 use set_core::records::Records;
 use std::alloc::{AllocError, Global};
 

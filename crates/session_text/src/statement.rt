@@ -4,9 +4,9 @@ ghost use Rattle.session_text.specs.Statements.{configures};
 
 use crate::fault::Fault;
 use boxed_core::Boxed;
-use input_core::event::Event;
-use input_core::statement::{ConfigStatement, SetStatement};
 use jname_core::name8::Name8;
+use session_input::event::Event;
+use session_input::statement::{ConfigStatement, SetStatement};
 use std::alloc::{AllocError, Global};
 
 /// How a text ended: whole, or cut where it was too long or could not be read further.

@@ -9,10 +9,10 @@ use crate::fields::{next_field, only_field};
 use crate::statement::{Says, configures};
 use crate::values::{comma_in, serial_in};
 use extent_core::extent::Extent;
-use input_core::statement::ConfigStatement;
 use jname_core::decimal::number_within;
 use jname_core::serial::Serial;
 use plain::listed::Listed;
+use session_input::statement::ConfigStatement;
 use std::alloc::{AllocError, Global};
 
 fn track_in(text: &[u8]) -> Option<u16>

@@ -1,7 +1,7 @@
 //! The line that writes into a record.
 ghost use Rattle.std.specs.Prelude.{◌≡◌, ◌∷◌, [], IfNone, IfOk, IfSome};
 ghost use Rattle.cb_meaning.specs.declared.layout.TheConstants.{LAYOUT_1, RECORD_BYTES};
-ghost use Rattle.input_core.specs.declared.event.TheConstants.{FIRST_OPEN};
+ghost use Rattle.session_input.specs.declared.event.TheConstants.{FIRST_OPEN};
 ghost use Rattle.jname_core.specs.Decimals.{number_within};
 ghost use Rattle.session_text.specs.Fields.{fields_of, listed_in};
 ghost use Rattle.session_text.specs.Rows.{three_of};
@@ -15,9 +15,9 @@ use crate::statement::Says;
 use crate::values::comma_in;
 use boxed_core::Boxed;
 use cb_meaning::layout::{LAYOUT_1, RECORD_BYTES};
-use input_core::event::{Event, FIRST_OPEN, MOST_ZAPPED};
 use jname_core::decimal::number_within;
 use plain::short::Short;
+use session_input::event::{Event, FIRST_OPEN, MOST_ZAPPED};
 use std::alloc::{AllocError, Global};
 
 /// The part before the first comma, and what stands behind that.

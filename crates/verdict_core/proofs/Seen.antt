@@ -10,7 +10,7 @@ use Rattle.jcl_meaning.specs.Resolutions.{meanings_of}
 use Rattle.jcl_meaning.specs.Solo.{fixed_in, fixed_with}
 use Rattle.jcl_meaning.specs.Stores.{Store}
 use Rattle.jcl_meaning.specs.WellFormed.{IsWellFormedPlan}
-use Rattle.part_core.specs.Parts.{ShowsEntries, ShowsSets}
+use Rattle.part_copy.specs.Parts.{ShowsEntries, ShowsSets}
 use Rattle.part_laws.specs.Keeping.{HasSoundGroups}
 use Rattle.part_laws.specs.PartLaws.{StartFits}
 use Rattle.path_meaning.specs.Explanations.{path_lines, up_to_fault}

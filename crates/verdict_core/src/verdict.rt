@@ -22,7 +22,7 @@ use jcl_meaning::state::Place;
 use jcl_plan::day::Day;
 use jcl_plan::entry::JobLine;
 use jcl_plan::plan::JobPlan;
-use part_core::part::part_of;
+use part_copy::part::part_of;
 use part_laws::start_fits;
 use path_core::analyse::analyse_named;
 use path_core::explain::path_lines;

@@ -1,6 +1,6 @@
 use Rattle.std.proofs.Common.{◌≡◌, ◌∙◌, ap, refl, sym}
-use Rattle.input_core.specs.declared.event.Event.{Event}
-use Rattle.input_core.specs.declared.event.Event.TheVariants as input
+use Rattle.session_input.specs.declared.event.Event.{Event}
+use Rattle.session_input.specs.declared.event.Event.TheVariants as input
 use Rattle.world_meaning.specs.declared.event.Event as meant
 use Rattle.world_meaning.specs.declared.event.Event.TheVariants as event
 use Rattle.machine_laws.specs.Inputs.{IsInput}

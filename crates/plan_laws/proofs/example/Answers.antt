@@ -8,7 +8,7 @@ use Rattle.value_core.specs.declared.set.SetName.TheVariants as name
 use Rattle.value_core.specs.declared.set.VolumeName.TheVariants as coded_volume
 use Rattle.jcl_cards.specs.declared.dd.DdCard.{DdCard}
 use Rattle.plan_laws.specs.Examples.{a_step, card}
-use Rattle.card_laws.specs.Ranges.{IsSoundDd}
+use Rattle.statement_laws.specs.Ranges.{IsSoundDd}
 use Rattle.deck_laws.specs.Sound.{IsSoundStep}
 use Rattle.plan_laws.proofs.example.Goals as goal
 

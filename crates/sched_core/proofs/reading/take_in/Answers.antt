@@ -4,7 +4,7 @@ use Rattle.jcl_plan.specs.declared.entry.Entry.TheVariants as entry
 use Rattle.jcl_plan.specs.declared.entry.JobLine.TheVariants as line
 use Rattle.jcl_plan.specs.declared.fault.Cause.TheVariants.{Q}
 use Rattle.jcl_plan.specs.declared.fault.QueueFault.TheVariants.{Full}
-use Rattle.job_core.specs.declared.backlog.Listing.{Listing}
+use Rattle.queued_job.specs.declared.backlog.Listing.{Listing}
 use Rattle.sched_core.specs.Reading.{enters, is_full}
 use Rattle.sched_core.proofs.Entered.{taken_again}
 use Rattle.sched_core.proofs.reading.take_in.Goals as goal

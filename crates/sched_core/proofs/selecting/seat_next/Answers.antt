@@ -1,6 +1,6 @@
 use Rattle.std.proofs.Common.{None, arith, refl, ap, ◌∙◌, subst}
 use Rattle.std.proofs.lemmas.Option.{slice_get_within}
-use Rattle.job_core.specs.Selecting.{SelectsOf}
+use Rattle.queued_job.specs.Selecting.{SelectsOf}
 use Rattle.sched_core.specs.Selecting.{nobody}
 use Rattle.sched_core.specs.declared.state.Initiator.{Initiator}
 use Rattle.sched_core.proofs.Selected.{read_at, seats_job}

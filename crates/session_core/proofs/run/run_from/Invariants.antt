@@ -1,6 +1,6 @@
 use Rattle.std.proofs.Common.{◌≡◌, ℕ, ◌+◌, List, [], ◌++◌, false, take, drop}
 use Rattle.std.specs.Io.KnownBytes.{Appends}
-use Rattle.input_core.specs.declared.event.Event.{Event}
+use Rattle.session_input.specs.declared.event.Event.{Event}
 use Rattle.session_core.specs.Running.{AreApplied, options_in}
 use Rattle.session_core.proofs.Progress.{Progress}
 use Rattle.session_core.proofs.run.run_from.Given as goal

@@ -7,7 +7,7 @@ use Rattle.session_text.specs.Fields.{fields_of, listed_in}
 use Rattle.session_text.specs.Rows.{two_of}
 use Rattle.session_text.specs.Statements.{configures, unit_of}
 use Rattle.session_text.specs.declared.statement.Says.{Says}
-use Rattle.input_core.specs.declared.statement.ConfigStatement.TheVariants.{Unit}
+use Rattle.session_input.specs.declared.statement.ConfigStatement.TheVariants.{Unit}
 use Rattle.session_text.proofs.Operands.{unit_kept}
 use Rattle.session_text.proofs.says.unit.Goals as goal
 

@@ -1,5 +1,0 @@
-use Rattle.card_laws.proofs.Merging.{merged_is_sound}
-use Rattle.card_laws.proofs.merged_is_sound.Goals as goal
-
-pub returns : goal.returns
-returns c = merged_is_sound

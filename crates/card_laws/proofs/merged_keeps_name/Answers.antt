@@ -1,5 +1,0 @@
-use Rattle.card_laws.proofs.Merging.{merged_keeps_name}
-use Rattle.card_laws.proofs.merged_keeps_name.Goals as goal
-
-pub returns : goal.returns
-returns c = merged_keeps_name

@@ -1,5 +1,0 @@
-use Rattle.job_core.proofs.Listed.{last, one_listing, others, queued}
-use Rattle.job_core.proofs.laws.waiting_are_listed.Goals as goal
-
-pub returns : goal.returns
-returns c = record { queued = queued; last = last; others = others; one = one_listing }

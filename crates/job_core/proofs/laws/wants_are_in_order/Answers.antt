@@ -1,5 +1,0 @@
-use Rattle.job_core.proofs.Wanted.{wants_in_order}
-use Rattle.job_core.proofs.laws.wants_are_in_order.Goals as goal
-
-pub returns : goal.returns
-returns c = wants_in_order

@@ -1,9 +1,0 @@
-use Rattle.std.proofs.Common.{subst, sym}
-use Rattle.job_core.specs.Releases.{Releases}
-use Rattle.job_core.proofs.Owned.{released}
-use Rattle.job_core.proofs.records.release_records.Goals as goal
-
-pub returns : goal.returns
-returns g c =
-    let old = g.Q.RecordStore.queue c.args.queue.now in
-    subst (Releases c.args.job old) (sym c.give_back_all.ensures) (released c.shows_records.ensures old c.args.job c.layout-layout.ensures.sound c.requires)

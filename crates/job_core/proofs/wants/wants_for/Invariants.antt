@@ -1,6 +1,0 @@
-use Rattle.std.proofs.Common.{◌≡◌, map, take}
-use Rattle.job_core.specs.Naming.{want_of}
-use Rattle.job_core.proofs.wants.wants_for.Given as goal
-
-abbrev pub invariant-loop-held : goal.invariant-loop-held
-invariant-loop-held l = l.wants.items ≡ map want_of (take l.held-index l.names)
