@@ -18,11 +18,16 @@ ends() {
     fi
 }
 
-for words in '--views 0' '--risk stop' '--events' 'first.session' '--help' '--version'; do
+for words in '--views 0' '--risk stop' '--events' 'first.session'; do
     # shellcheck disable=SC2086
     "$check" $words <examples/first.session >"$work/told" 2>/dev/null
     ends "$words" 2 $?
     [ ! -s "$work/told" ] || { echo "DIFFERS $words: something is written"; differ=1; }
+done
+for words in '--help' '--version'; do
+    "$check" "$words" </dev/null >"$work/told" 2>"$work/errors"
+    ends "$words" 0 $?
+    [ -s "$work/told" ] && [ ! -s "$work/errors" ] || { echo "DIFFERS $words: it is not written on the output alone"; differ=1; }
 done
 "$check" <examples/first.session >/dev/null
 ends 'examples/first.session' 0 $?

@@ -28,11 +28,18 @@ ends() {
     fi
 }
 
-for words in '--views 0' '--risk stop' '--event' 'first.session' '--events=all' '--help' '--version'; do
+for words in '--views 0' '--risk stop' '--event' 'first.session' '--events=all'; do
     # shellcheck disable=SC2086
     "$play" $words <tests/play/first.session >"$work/listing" 2>/dev/null
     ends "$words" 2 $?
     compare "$words, its listing" /dev/null "$work/listing"
+done
+
+for words in '--help' '--version'; do
+    "$play" "$words" </dev/null >"$work/told" 2>"$work/said"
+    ends "$words" 0 $?
+    compare "$words, its errors" /dev/null "$work/said"
+    [ -s "$work/told" ] || { echo "DIFFERS $words: nothing is written"; differ=1; }
 done
 
 for session in tests/play/*.session; do

@@ -6,7 +6,7 @@ use Rattle.std.specs.declared.io.ErrorKind.{ErrorKind as IoKind}
 use Rattle.std.specs.declared.io.ErrorKind.TheVariants.{OutOfMemory as HasNoMemory}
 use Rattle.clap.specs.Words.{Text}
 use Rattle.clap.specs.declared.error.kind.ErrorKind.{ErrorKind}
-use Rattle.clap.specs.declared.error.kind.ErrorKind.TheVariants.{OutOfMemory as WantsMemory}
+use Rattle.clap.specs.declared.error.kind.ErrorKind.TheVariants.{DisplayHelp, DisplayVersion, OutOfMemory as WantsMemory}
 use Rattle.command_line.specs.declared.ended.Ended.{Ended}
 
 -- the status of a command line that is not taken
@@ -21,6 +21,20 @@ said_of_memory = codes "out of memory\n"
 pub record EndsUnrun (kind : ErrorKind) (errors errors_after : Option (List ℕ)) (answer : Ended) : Type 0 where
   pub status : answer.status ≡ misuse_status kind
   pub said : kind ≡ WantsMemory → OnTrue answer.said (Appends errors errors_after said_of_memory)
+
+-- the command line asks for help, or for the version, in place of a run
+abbrev pub is_asked : ErrorKind → Bool
+is_asked DisplayHelp = true
+is_asked DisplayVersion = true
+is_asked _ = false
+
+-- What is asked for is written on the output and nothing on the errors, or the other way round.
+abbrev pub EndsByKind : Bool → ErrorKind → Option (List ℕ) → Option (List ℕ) → Option (List ℕ) → Option (List ℕ) → Ended → Type 0
+EndsByKind true kind output output_after errors errors_after answer = (answer.status ≡ 0) × (errors_after ≡ errors)
+EndsByKind false kind output output_after errors errors_after answer = EndsUnrun kind errors errors_after answer × (output_after ≡ output)
+
+abbrev pub EndsAsked : ErrorKind → Option (List ℕ) → Option (List ℕ) → Option (List ℕ) → Option (List ℕ) → Ended → Type 0
+EndsAsked kind = EndsByKind (is_asked kind) kind
 
 -- so where the words of the command line could not be had
 abbrev pub unread_status : IoKind → ℕ

@@ -4,7 +4,7 @@ ghost use Rattle.std.specs.Bool.{OnTrue};
 ghost use Rattle.std.specs.Io.KnownBytes.{Appends};
 ghost use Rattle.std.specs.IoError.{error_kind};
 ghost use Rattle.clap.specs.Words.{kind_of};
-ghost use Rattle.command_line.specs.Endings.{EndsUnread, EndsUnrun, misuse_status, prompt_of, said_of_memory};
+ghost use Rattle.command_line.specs.Endings.{EndsAsked, EndsUnread, EndsUnrun, is_asked, misuse_status, prompt_of, said_of_memory};
 
 use clap::Error;
 use clap::error::ErrorKind;
@@ -63,6 +63,31 @@ pub fn end_unrun<E: Write>(errors: &mut E, error: &Error) -> Ended
             status,
             said: write!(errors, "{error}").is_ok(),
         }
+    }
+}
+
+/// Whether the command line asks for help or for the version, and nothing is wrong with it.
+fn is_asked(kind: ErrorKind) -> bool
+    ensures { result ≡ is_asked kind }
+{
+    match kind {
+        ErrorKind::DisplayHelp => true,
+        ErrorKind::DisplayVersion => true,
+        _ => false,
+    }
+}
+
+/// Writes the help or the version where the command line asks for it, with status 0; else says why the command line is not taken.
+pub fn end_asked<W: Write, E: Write>(output: &mut W, errors: &mut E, error: &Error) -> Ended
+    ensures { EndsAsked (kind_of error.now) (W.contents output.old) (W.contents output.new) (E.contents errors.old) (E.contents errors.new) result }
+{
+    if is_asked(error.kind()) {
+        Ended {
+            status: ALL_READ,
+            said: write!(output, "{error}").is_ok(),
+        }
+    } else {
+        end_unrun(errors, error)
     }
 }
 

@@ -5,7 +5,7 @@ mod program;
 mod session;
 
 use crate::program::{mvt_check, run_program};
-use command_line::ended::{end_unread, end_unrun, prompt};
+use command_line::ended::{end_asked, end_unread, prompt};
 use command_line::options::read_words;
 use session_core::stream::{Sink, Source};
 use std::io::{self, IsTerminal};
@@ -24,10 +24,10 @@ fn main(rt: HostRuntime) -> ExitCode {
     let mut output = rt.stdout();
     let mut errors = rt.stderr();
     let mut source = Source::new(&mut input);
-    let mut sink = Sink::new(&mut output);
     let ended = match words_of(&rt) {
         Ok(words) => match read_words(rt.alloc(), &program, words.as_slice()) {
             Ok(asked) => {
+                let mut sink = Sink::new(&mut output);
                 prompt(&mut errors, program.name, at_terminal);
                 run_program(
                     rt.alloc(),
@@ -37,7 +37,7 @@ fn main(rt: HostRuntime) -> ExitCode {
                     &mut errors,
                 )
             }
-            Err(error) => end_unrun(&mut errors, &error),
+            Err(error) => end_asked(&mut output, &mut errors, &error),
         },
         Err(error) => end_unread(&mut errors, &error),
     };

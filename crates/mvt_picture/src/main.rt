@@ -6,7 +6,7 @@ mod session;
 mod watch;
 
 use crate::program::{mvt_picture, run_program};
-use command_line::ended::{end_unread, end_unrun, prompt};
+use command_line::ended::{end_asked, end_unread, prompt};
 use command_line::options::read_words;
 use session_core::stream::Source;
 use std::io::{self, IsTerminal};
@@ -37,7 +37,7 @@ fn main(rt: HostRuntime) -> ExitCode {
                     &mut errors,
                 )
             }
-            Err(error) => end_unrun(&mut errors, &error),
+            Err(error) => end_asked(&mut output, &mut errors, &error),
         },
         Err(error) => end_unread(&mut errors, &error),
     };
