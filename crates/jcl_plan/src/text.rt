@@ -1,5 +1,6 @@
 //! The texts of lines, to the byte.
-ghost use Rattle.std.specs.Prelude.{◌≡◌, ◌≤◌, ◌++◌, ◌∷◌, [], OnOk, codes, decimal, length, take, replicate};
+ghost use Rattle.std.specs.Prelude.{◌≡◌, ◌≤◌, ◌++◌, ◌∷◌, ◌==◌, [], OnOk, codes, decimal, length, not, take, replicate};
+ghost use Rattle.std.specs.List.{list_any};
 ghost use Rattle.jcl_plan.specs.declared.entry.Entry.TheVariants as entry;
 ghost use Rattle.jcl_plan.specs.declared.entry.JobLine.TheVariants as line;
 ghost use Rattle.jcl_plan.specs.Lines.{entry_text, grown_text, job_line_text, line_text, text_of, written_text};
@@ -53,8 +54,31 @@ fn push_zeros(out: &mut Draft, count: usize) -> Result<(), AllocError>
     Ok(())
 }
 
-/// How long a text is without the blanks at its end.
-pub fn trimmed_len(text: &[u8]) -> usize
+/// Whether some character of the text is no blank.
+fn has_other(text: &[u8]) -> bool
+    ensures { result ≡ list_any (λ c. not (c == 32)) text.now }
+{
+    let mut found = false;
+    for c in text.iter() {
+        found |= *c != b' ';
+    }
+    found
+}
+
+/// How long a text is without blanks at its end that make up whole eights.
+fn len_by_eights(text: &[u8]) -> usize
+    ensures within { result ≤ length text.now }
+    ensures trimmed { trimmed (take result text.now) ≡ trimmed text.now }
+{
+    let mut len = text.len();
+    while len >= 8 && !has_other(&text[len - 8..len]) {
+        len -= 8;
+    }
+    len
+}
+
+/// How long a text is without the blanks at its end, each looked at by itself.
+fn len_by_ones(text: &[u8]) -> usize
     ensures within { result ≤ length text.now }
     ensures trimmed { take result text.now ≡ trimmed text.now }
 {
@@ -63,6 +87,14 @@ pub fn trimmed_len(text: &[u8]) -> usize
         len -= 1;
     }
     len
+}
+
+/// How long a text is without the blanks at its end.
+pub fn trimmed_len(text: &[u8]) -> usize
+    ensures within { result ≤ length text.now }
+    ensures trimmed { take result text.now ≡ trimmed text.now }
+{
+    len_by_ones(&text[..len_by_eights(text)])
 }
 
 fn push_record(out: &mut Draft, text: &Record) -> Result<(), AllocError>

@@ -1,6 +1,6 @@
 use Rattle.std.proofs.Common.{◌≡◌, ◌≤◌, length, take}
 use Rattle.jcl_plan.specs.Texts.{trimmed}
-use Rattle.jcl_plan.proofs.text.trimmed_len.Given as goal
+use Rattle.jcl_plan.proofs.text.len_by_ones.Given as goal
 
 -- what is behind the front is blank
 abbrev pub invariant-loop-len : goal.invariant-loop-len

@@ -1,6 +1,6 @@
 use Rattle.std.proofs.Common.{sym, ◌∙◌, arith}
 use Rattle.jcl_plan.proofs.Trims.{trimmed-before, trimmed-front}
-use Rattle.jcl_plan.proofs.text.trimmed_len.Goals as goal
+use Rattle.jcl_plan.proofs.text.len_by_ones.Goals as goal
 
 pub loop-len-preserved : goal.loop-len-preserved
 loop-len-preserved c = record {
