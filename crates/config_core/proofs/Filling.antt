@@ -1,4 +1,4 @@
--- A set that is filled, record by record, and taken off again.
+-- A set that gets its records, and is taken off again.
 use Rattle.std.proofs.Common.{◌≡◌, ℕ, zero, suc, ◌+◌, List, [], ◌∷◌, ◌++◌, Some, None, take, slice_get, sym, ap, subst, arith, ◌∙◌}
 use Rattle.std.specs.FinMap as finite
 use Rattle.extent_core.specs.declared.extent.Extent.{Extent}
@@ -17,12 +17,11 @@ use Rattle.mount_core.specs.Kept.{place_cmp}
 use Rattle.mount_core.specs.Mounts.{MountedState, WasMade}
 use Rattle.config_core.specs.Sets.{with_records_on}
 
--- one record more
-pub one_more : (m : MountedState) (extents : List Extent) (key : SetKey) (records : List (List ℕ)) (text : List ℕ) →
-    changed (with_records_on m extents key records).volume.sets key (with_records (λ all. all ++ text ∷ []))
-    ≡ (with_records_on m extents key (records ++ text ∷ [])).volume.sets
-one_more m extents key records text =
-    ap (λ o. changed_by o (with_records_on m extents key records).volume.sets key (with_records (λ all. all ++ text ∷ []))) (get_inserted m.volume.sets key _)
+-- a set that was just made gets its records
+pub its_records : (m : MountedState) (extents : List Extent) (key : SetKey) (records : List (List ℕ)) →
+    changed (with_records_on m extents key []).volume.sets key (with_records (λ _. records)) ≡ (with_records_on m extents key records).volume.sets
+its_records m extents key records =
+    ap (λ o. changed_by o (with_records_on m extents key []).volume.sets key (with_records (λ _. records))) (get_inserted m.volume.sets key _)
     ∙ insert-insert m.volume.sets key _ _
 
 -- taken off again
@@ -62,16 +61,16 @@ scratched m extents key records n plan none old new was entry at volume others =
     ∙ (λ i. record made { volume = record { tracks = marked Free (its_extents i) (was i).volume.tracks; sets = finite.remove (was i).volume.sets key } })
     ∙ taken_off m extents key records n plan none
 
--- a record behind the others
-pub appended : (m : MountedState) (extents : List Extent) (key : SetKey) (records : List (List ℕ)) (text : List ℕ) (old new : MountedState) →
-    old ≡ with_records_on m extents key records →
-    new.volume ≡ record old.volume { sets = changed old.volume.sets key (with_records (λ all. all ++ text ∷ [])) } →
-    new ≡ record old { volume = new.volume } → new ≡ with_records_on m extents key (records ++ text ∷ [])
-appended m extents key records text old new was volume others =
-    let made = with_records_on m extents key records in
+-- and its volume is as if it had been made with them
+pub filled : (m : MountedState) (extents : List Extent) (key : SetKey) (records : List (List ℕ)) (old new : MountedState) →
+    old ≡ with_records_on m extents key [] →
+    new.volume ≡ record old.volume { sets = changed old.volume.sets key (with_records (λ _. records)) } →
+    new ≡ record old { volume = new.volume } → new ≡ with_records_on m extents key records
+filled m extents key records old new was volume others =
+    let made = with_records_on m extents key [] in
     others ∙ (λ i. record old { volume = volume i })
-    ∙ (λ i. record (was i) { volume = record (was i).volume { sets = changed (was i).volume.sets key (with_records (λ all. all ++ text ∷ [])) } })
-    ∙ (λ i. record made { volume = record made.volume { sets = one_more m extents key records text i } })
+    ∙ (λ i. record (was i) { volume = record (was i).volume { sets = changed (was i).volume.sets key (with_records (λ _. records)) } })
+    ∙ (λ i. record made { volume = record made.volume { sets = its_records m extents key records i } })
 
 -- a set of free tracks, where none are kept at the place
 pub made_free : (old new : MountedState) (place : KeptPlace) (key : SetKey) (n : ℕ) → old.kept ≡ finite.empty →

@@ -9,7 +9,6 @@ ghost use Rattle.config_core.specs.Configs.{catalog_with, extents_on, has_room, 
 ghost use Rattle.config_core.specs.Sets.{CanHold, IsMade, IsPlaceOf, with_records_on};
 
 use cat_core::catalog::Catalog;
-use jcl_plan::plan::Record;
 use jname_core::serial::Serial;
 use mount_core::mounted::Mounted;
 use mount_core::place::KeptPlace;
@@ -32,32 +31,15 @@ fn no_place() -> KeptPlace
     }
 }
 
-/// Puts a record behind those of a set. An `Err` changes nothing.
-fn append(mounted: &mut Mounted, key: &SetKey, text: &Record) -> Result<(), AllocError>
-    ensures ok { OnOk result ((m : MountedState) (extents : List Extent) (records : List (List ℕ)) → mounted.old ≡ with_records_on m extents key.now records →
-        mounted.new ≡ with_records_on m extents key.now (records ++ text.now ∷ [])) }
-    ensures err { OnErr result (mounted.new ≡ mounted.old) }
+/// Gives a set that was just made its records.
+fn fill(mounted: &mut Mounted, key: &SetKey, records: Records)
+    ensures { (m : MountedState) (extents : List Extent) → mounted.old ≡ with_records_on m extents key.now [] →
+        mounted.new ≡ with_records_on m extents key.now records }
 {
-    match mounted.append(key, *text) {
-        Ok(()) => Ok(()),
-        Err(_) => Err(AllocError),
+    match mounted.put_records(key, records) {
+        Ok(()) => {}
+        Err(_) => {}
     }
-}
-
-/// Puts records behind those of a set that was just made. An `Err` leaves some of them there.
-fn fill(mounted: &mut Mounted, key: &SetKey, records: &Records) -> Result<(), AllocError>
-    ensures ok { OnOk result ((m : MountedState) (extents : List Extent) → mounted.old ≡ with_records_on m extents key.now [] →
-        mounted.new ≡ with_records_on m extents key.now records.now) }
-    ensures err { OnErr result ((m : MountedState) (extents : List Extent) → mounted.old ≡ with_records_on m extents key.now [] →
-        (some : List (List ℕ)) × (mounted.new ≡ with_records_on m extents key.now some)) }
-{
-    for at in 0..records.len() {
-        let Some(record) = records.read_at(at) else {
-            unreachable!();
-        };
-        append(mounted, key, &record)?;
-    }
-    Ok(())
 }
 
 /// Takes a set off its volume, where it is there.
@@ -78,17 +60,13 @@ fn make_on(alloc: Global, mounted: &mut Mounted, set: &SetStatement) -> Result<(
     ensures err { OnErr result (mounted.new ≡ mounted.old) }
 {
     let key = SetKey::Named(set.name);
+    let records = set.records.copied(alloc)?;
     match mounted.make(alloc, &no_place(), key, set.tracks, None) {
         Ok(()) => {}
         Err(_) => return Err(AllocError),
     }
-    match fill(mounted, &key, &set.records) {
-        Ok(()) => Ok(()),
-        Err(error) => {
-            take_off(mounted, &key);
-            Err(error)
-        }
-    }
+    fill(mounted, &key, records);
+    Ok(())
 }
 
 /// Enters a set's name, where it is to be catalogued. An `Err` changes nothing.

@@ -14,7 +14,7 @@ ghost use Rattle.mount_core.specs.Mounts.{WasMade, all_tracks, kept_given_back, 
 use crate::lists::{self, Lists, copy_of, drop_place, extents_at, is_taken};
 use crate::place::KeptPlace;
 use jname_core::serial::Serial;
-use set_core::records::DataRecord;
+use set_core::records::{DataRecord, Records};
 use std::alloc::{AllocError, Global};
 use std::collections::BTreeMap;
 use std::marker::Model;
@@ -228,6 +228,17 @@ impl Mounted {
         ensures others { self.new ≡ record self.old { volume = self.new.volume } }
     {
         self.volume.append(key, columns)
+    }
+
+    /// Gives a set these records in place of its own. It takes no memory. A refusal changes nothing.
+    pub fn put_records(&mut self, key: &SetKey, records: Records) -> Result<(), VolumeFault>
+        ensures ok { OnOk result (self.new.volume ≡ record self.old.volume { sets = changed self.old.volume.sets key.now (with_records (λ _. records)) }) }
+        ensures missing { IsErr result ↔ (map.get self.old.volume.sets key.now ≡ None) }
+        ensures fault { IfErr result (λ fault. fault ≡ VolumeFault.NameMissing) }
+        ensures err { OnErr result (self.new.volume ≡ self.old.volume) }
+        ensures others { self.new ≡ record self.old { volume = self.new.volume } }
+    {
+        self.volume.put_records(key, records)
     }
 
     /// Takes all records of a set away. A refusal changes nothing.

@@ -1,5 +1,5 @@
 //! The records of a set in order.
-ghost use Rattle.std.specs.Prelude.{◌≡◌, ◌≤◌, ◌<◌, ◌+◌, ◌-◌, ◌*◌, ◌∷◌, ◌++◌, [], OnOk, OnErr, IsTrue, ◌↔◌, drop, get_or, length, slice_get, take};
+ghost use Rattle.std.specs.Prelude.{◌≡◌, ◌≤◌, ◌<◌, ◌+◌, ◌-◌, ◌*◌, ◌∷◌, ◌++◌, [], IfOk, OnOk, OnErr, IsTrue, ◌↔◌, drop, get_or, length, slice_get, take};
 ghost use Rattle.jcl_plan.specs.declared.plan.TheConstants.{RECORDS_A_TRACK};
 ghost use Rattle.jcl_plan.specs.Tracks.{tracks_for};
 ghost use Rattle.std.specs.Vec.{vec_capacity};
@@ -148,6 +148,19 @@ impl Records {
             text: Vec::new(alloc),
             ends: Vec::new(alloc),
         }
+    }
+
+    /// The same records once more, in as much memory as they take.
+    pub fn copied(&self, alloc: Global) -> Result<Records, AllocError>
+        ensures { IfOk result (λ copy. copy ≡ self.now) }
+    {
+        if self.ends.is_empty() {
+            return Ok(Records::new(alloc));
+        }
+        let mut text = Vec::with_capacity(alloc, self.text.len().max(COLUMNS))?;
+        text.extend_from_slice(self.text.as_slice())?;
+        let ends = Vec::from_slice(alloc, self.ends.as_slice())?;
+        Ok(Records { text, ends })
     }
 
     #[tactic(auto, using(crate::proofs::Ends::as_many))]

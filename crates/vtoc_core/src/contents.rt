@@ -12,7 +12,7 @@ ghost use Rattle.vtoc_core.specs.Volumes.{AnswersWrite, LieBelow};
 use crate::entry::{Extent, SetEntry, SetKey};
 use crate::fault::VolumeFault;
 use arrayvec::ArrayVec;
-use set_core::records::DataRecord;
+use set_core::records::{DataRecord, Records};
 use std::collections::BTreeMap;
 use std::collections::btree_map::Range;
 
@@ -126,6 +126,20 @@ pub(crate) fn clear(sets: &mut Sets, key: &SetKey) -> bool
     match sets.get_mut(key) {
         Some(entry) => {
             entry.records.clear();
+            true
+        }
+        None => false,
+    }
+}
+
+/// Gives a set these records in place of its own, and tells whether there is such a set.
+pub(crate) fn put_records(sets: &mut Sets, key: &SetKey, records: Records) -> bool
+    ensures there { result ≡ is_some (map.get (sets_of sets.old.entries) key.now) }
+    ensures put { sets_of sets.new.entries ≡ changed (sets_of sets.old.entries) key.now (with_records (λ _. records)) }
+{
+    match sets.get_mut(key) {
+        Some(entry) => {
+            entry.records = records;
             true
         }
         None => false,

@@ -292,6 +292,20 @@ impl Volume {
         contents::write_first(&mut self.sets, key, columns)
     }
 
+    /// Gives a set these records in place of its own. It takes no memory. A refusal changes nothing.
+    pub fn put_records(&mut self, key: &SetKey, records: Records) -> Result<(), VolumeFault>
+        ensures ok { OnOk result (self.new ≡ record self.old { sets = changed self.old.sets key.now (with_records (λ _. records)) }) }
+        ensures missing { IsErr result ↔ (map.get self.old.sets key.now ≡ None) }
+        ensures fault { IfErr result (λ fault. fault ≡ VolumeFault.NameMissing) }
+        ensures err { OnErr result (self.new ≡ self.old) }
+    {
+        if contents::put_records(&mut self.sets, key, records) {
+            Ok(())
+        } else {
+            Err(VolumeFault::NameMissing)
+        }
+    }
+
     /// Takes all records of a set away. A refusal changes nothing.
     pub fn clear(&mut self, key: &SetKey) -> Result<(), VolumeFault>
         ensures ok { OnOk result (self.new ≡ record self.old { sets = changed self.old.sets key.now (with_records (λ _. [])) }) }

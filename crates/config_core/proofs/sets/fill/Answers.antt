@@ -1,10 +1,9 @@
-use Rattle.std.proofs.Common.{◌≡◌, ℕ, List, sym, subst, take}
-use Rattle.config_core.specs.Sets.{with_records_on}
-use Rattle.config_core.proofs.Filling.{front_more}
+use Rattle.std.proofs.Common.{[], refl}
+use Rattle.config_core.proofs.Filling.{filled, still_there}
 use Rattle.config_core.proofs.sets.fill.Goals as goal
 
-pub loop-at-preserved : goal.loop-at-preserved
-loop-at-preserved c = λ m extents was.
-    subst (λ (records : List (List ℕ)). c.append.new.mounted ≡ with_records_on m extents c.args.key.now records)
-    (sym (front_more c.args.records.now c.loop-at.at c.in-Some.record (sym c.in-Some.ensures)))
-    (c.in_ok-append.ensures.ok m extents (take c.loop-at.at c.args.records.now) (c.loop-at.invariant m extents was))
+pub returns-in-Ok : goal.returns-in-Ok
+returns-in-Ok c = λ m extents was. filled m extents c.args.key.now c.args.records c.args.mounted.now c.put_records.new.self was c.in-Ok.ensures.ok c.in-Ok.ensures.others
+
+pub returns-in-Err : goal.returns-in-Err
+returns-in-Err c = λ m extents was. absurd (still_there m extents c.args.key.now [] c.args.mounted.now was (c.in-Err.ensures.missing.0 refl))
