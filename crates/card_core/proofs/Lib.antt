@@ -1,4 +1,4 @@
-mod Lines
+mod Lending
 mod Operands
 mod Statements
 mod Words

@@ -5,10 +5,12 @@ ghost use Rattle.card_core.specs.Deck.{comment_cards, data_cards, with_data, wit
 ghost use Rattle.card_core.specs.Reading.{Begins};
 ghost use Rattle.card_core.specs.declared.data.Opens.TheVariants.{ToStatement};
 
-use crate::card::{is_marked, may_continue};
+use crate::card::is_marked;
 use crate::data::{Opens, data_count, data_of, is_early, opened_by, used_by_data};
 use crate::fault::CardFault;
 use crate::field::{Fields, fields_of};
+use crate::image::CardImage;
+use crate::images::CardImages;
 use crate::operand::operand_behind;
 use crate::read::ReadError;
 use crate::statement::{DataCard, Statement};
@@ -27,12 +29,12 @@ pub struct Begun {
 }
 
 /// How many cards at the front continue the comment of a statement that ends on the last card: one at most.
-fn comment_cards(last: &DataCard, cards: &[DataCard]) -> usize
+fn comment_cards(last: &DataCard, cards: &CardImages<'_, '_>) -> usize
     ensures count { result ≡ comment_cards last.now cards.now }
     ensures bound { result ≤ length cards.now }
 {
-    match cards {
-        [card, ..] if is_marked(last) && may_continue(card) => 1,
+    match cards.split_first() {
+        Some((card, _)) if is_marked(last) && card.may_continue() => 1,
         _ => 0,
     }
 }
@@ -44,7 +46,7 @@ fn with_data(
     fields: &Fields<'_>,
     operand: SmallText<22>,
     used: usize,
-    behind: &[DataCard],
+    behind: &CardImages<'_, '_>,
 ) -> Result<Begun, ReadError>
     requires { used + length behind.now < 2 ^ 64 }
     ensures begins { Begins result (with_data called fields.now.name.now fields.now.operation.now operand used behind.now) }
@@ -72,32 +74,31 @@ fn with_data(
 pub fn jcl_statement(
     alloc: Global,
     called: bool,
-    card: &DataCard,
-    cards: &[DataCard],
+    card: &CardImage<'_>,
+    cards: &CardImages<'_, '_>,
 ) -> Result<Begun, ReadError>
     ensures begins { Begins result (with_operand called card.now cards.now (operand_behind card.now cards.now)) }
     ensures bound { IfOk result (λ begun. begun.used ≤ length cards.now) }
 {
-    let fields = fields_of(card);
-    let operand = operand_behind(alloc, &fields, card, cards)?;
-    let (_, behind) = cards.split_at(operand.cards);
-    let used = operand.cards + comment_cards(&operand.last, behind);
-    let (_, behind) = cards.split_at(used);
-    with_data(alloc, called, &fields, operand.text, used, behind)
+    let card = card.filled();
+    let fields = fields_of(&card);
+    let operand = operand_behind(alloc, &fields, &card, cards)?;
+    let used = operand.cards + comment_cards(&operand.last, &cards.behind(operand.cards));
+    let behind = cards.behind(used);
+    with_data(alloc, called, &fields, operand.text, used, &behind)
 }
 
 /// The data that begin with this card, which no statement opens.
 fn loose_cards(
     alloc: Global,
-    card: &DataCard,
-    cards: &[DataCard],
+    card: &CardImage<'_>,
+    cards: &CardImages<'_, '_>,
 ) -> Result<Listed<DataCard>, AllocError>
     ensures { IfOk result (λ found. found ≡ card.now ∷ data_cards ToStatement cards.now) }
 {
-    let (data, _) = cards.split_at(data_count(Opens::ToStatement, cards));
     let mut found = Vec::new(alloc);
-    found.push(*card)?;
-    found.extend_from_slice(data)?;
+    found.push(card.filled())?;
+    cards.push_filled(data_count(Opens::ToStatement, cards), &mut found)?;
     Ok(Listed::new(found))
 }
 
@@ -105,8 +106,8 @@ fn loose_cards(
 pub fn loose(
     alloc: Global,
     called: bool,
-    card: &DataCard,
-    cards: &[DataCard],
+    card: &CardImage<'_>,
+    cards: &CardImages<'_, '_>,
 ) -> Result<Begun, ReadError>
     ensures begins { Begins result (loose called card.now cards.now) }
     ensures bound { IfOk result (λ begun. begun.used ≤ length cards.now) }

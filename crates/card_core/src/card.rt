@@ -1,16 +1,17 @@
 //! One card by its columns.
-ghost use Rattle.std.specs.Prelude.{◌≡◌, ◌≤◌, length, not, IfErr, OnOk, None, Some};
+ghost use Rattle.std.specs.Prelude.{◌≡◌, ◌≤◌, length, not};
 ghost use Rattle.std.specs.List.{list_any};
-ghost use Rattle.card_core.specs.Cards.{is_blank, is_printable, filled, columns, are_blank, is_jcl, is_delimiter, is_null, kind_of, line_fault, may_continue, is_marked};
+ghost use Rattle.card_core.specs.Cards.{is_blank, is_printable, filled, columns, are_blank, kind_of, line_fault, is_marked};
 ghost use Rattle.card_core.specs.Reading.{Images};
 
 use crate::fault::CardFault;
+use crate::image::CardImage;
 use crate::statement::DataCard;
 
 const COLUMNS: usize = 80;
 
 /// A card of blanks.
-pub(crate) const BLANKS: DataCard = [b' '; COLUMNS];
+const BLANKS: DataCard = [b' '; COLUMNS];
 
 /// What a card is.
 #[derive(Clone, Copy, PartialEq, Eq)]
@@ -39,7 +40,8 @@ fn is_printable(c: u8) -> bool
     0x20 <= c && c <= 0x7e
 }
 
-fn filled(line: &[u8]) -> DataCard
+/// The card of a line of at most 80 columns, filled with blanks.
+pub(crate) fn filled(line: &[u8]) -> DataCard
     requires { length line.now ≤ 80 }
     ensures { result ≡ filled line.now }
 {
@@ -48,40 +50,38 @@ fn filled(line: &[u8]) -> DataCard
     card
 }
 
-/// Whether some column of the card has a byte that is no printable character.
-fn has_bad_byte(card: &DataCard) -> bool
-    ensures { result ≡ list_any (λ c. not (is_printable c)) card.now }
+/// Whether some byte of the line is no printable character.
+fn has_bad_byte(line: &[u8]) -> bool
+    ensures { result ≡ list_any (λ c. not (is_printable c)) line.now }
 {
     let mut found = false;
-    for c in card.iter() {
+    for c in line.iter() {
         found |= !is_printable(*c);
     }
     found
 }
 
-/// Makes this card the line's, filled with blanks. After an `Err` it is of no use.
-pub(crate) fn fill(card: &mut DataCard, line: &[u8]) -> Result<(), CardFault>
-    ensures ok { OnOk result (line_fault line.now ≡ None) }
-    ensures card { OnOk result (card.new ≡ filled line.now) }
-    ensures err { IfErr result (λ fault. line_fault line.now ≡ Some fault) }
+/// The fault of a line.
+pub fn line_fault(line: &[u8]) -> Option<CardFault>
+    ensures { result ≡ line_fault line.now }
 {
     if line.len() > COLUMNS {
-        return Err(CardFault::LineTooLong);
+        return Some(CardFault::LineTooLong);
     }
-    *card = filled(line);
-    if has_bad_byte(card) {
-        return Err(CardFault::BadByte);
+    if has_bad_byte(line) {
+        return Some(CardFault::BadByte);
     }
-    Ok(())
+    None
 }
 
 /// The card of a line, filled with blanks.
 pub fn card_of(line: &[u8]) -> Result<DataCard, CardFault>
     ensures { Images result line.now }
 {
-    let mut card = BLANKS;
-    fill(&mut card, line)?;
-    Ok(card)
+    match line_fault(line) {
+        Some(fault) => Err(fault),
+        None => Ok(filled(line)),
+    }
 }
 
 /// The columns from the first to the last, which count from 1.
@@ -100,45 +100,11 @@ fn are_blank(text: &[u8]) -> bool
     text.iter().all(|c| is_blank(*c))
 }
 
-pub fn is_jcl(card: &DataCard) -> bool
-    ensures { result ≡ is_jcl card.now }
-{
-    card.starts_with(b"//")
-}
-
-pub fn is_delimiter(card: &DataCard) -> bool
-    ensures { result ≡ is_delimiter card.now }
-{
-    card.starts_with(b"/*")
-}
-
-fn is_null(card: &DataCard) -> bool
-    ensures { result ≡ is_null card.now }
-{
-    is_jcl(card) && are_blank(columns(card, 3, 71))
-}
-
+/// What a card is.
 pub fn kind_of(card: &DataCard) -> Kind
     ensures { result ≡ kind_of card.now }
 {
-    if card.starts_with(b"//*") {
-        Kind::Comment
-    } else if is_delimiter(card) {
-        Kind::Delimiter
-    } else if is_null(card) {
-        Kind::Null
-    } else if is_jcl(card) {
-        Kind::Jcl
-    } else {
-        Kind::Data
-    }
-}
-
-/// Whether the card may continue the one before it.
-pub fn may_continue(card: &DataCard) -> bool
-    ensures { result ≡ may_continue card.now }
-{
-    is_jcl(card) && are_blank(columns(card, 3, 3)) && !is_null(card)
+    CardImage::of_card(card).kind()
 }
 
 /// Whether column 72 says that a comment goes on.

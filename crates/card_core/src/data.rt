@@ -3,7 +3,8 @@ ghost use Rattle.std.specs.Prelude.{◌≡◌, ◌≤◌, ◌+◌, length, drop,
 ghost use Rattle.card_core.specs.Fields.{opens};
 ghost use Rattle.card_core.specs.Deck.{ends_data, data_cards, delimiters_at, used_by_data, data_of, is_early};
 
-use crate::card::{is_delimiter, is_jcl};
+use crate::image::CardImage;
+use crate::images::CardImages;
 use crate::statement::DataCard;
 use plain::listed::Listed;
 use std::alloc::{AllocError, Global};
@@ -33,40 +34,44 @@ pub fn opened_by(operation: &[u8], operand: &[u8]) -> Opens
     }
 }
 
-fn ends_data(opens: Opens, card: &DataCard) -> bool
+fn ends_data(opens: Opens, card: &CardImage<'_>) -> bool
     ensures { result ≡ ends_data opens card.now }
 {
     match opens {
         Opens::Nothing => true,
-        Opens::ToStatement => is_delimiter(card) || is_jcl(card),
-        Opens::ToDelimiter => is_delimiter(card),
+        Opens::ToStatement => card.is_delimiter() || card.is_jcl(),
+        Opens::ToDelimiter => card.is_delimiter(),
     }
 }
 
 /// How many of these cards are data.
-pub fn data_count(opens: Opens, cards: &[DataCard]) -> usize
+pub fn data_count(opens: Opens, cards: &CardImages<'_, '_>) -> usize
     ensures count { result ≡ length (data_cards opens cards.now) }
     ensures bound { result ≤ length cards.now }
 {
-    cards
-        .iter()
-        .take_while(|card| !ends_data(opens, card))
-        .count()
+    let mut rest = cards.behind(0);
+    while let Some((card, behind)) = rest.split_first() {
+        if ends_data(opens, &card) {
+            break;
+        }
+        rest = behind;
+    }
+    cards.len() - rest.len()
 }
 
 /// How many delimiters stand at the front, which end data: one at most.
-fn delimiters_at(cards: &[DataCard]) -> usize
+fn delimiters_at(cards: &CardImages<'_, '_>) -> usize
     ensures count { result ≡ delimiters_at cards.now }
     ensures bound { result ≤ length cards.now }
 {
-    match cards {
-        [card, ..] if is_delimiter(card) => 1,
+    match cards.split_first() {
+        Some((card, _)) if card.is_delimiter() => 1,
         _ => 0,
     }
 }
 
 /// How many of these cards the data take, with the delimiter that ends them.
-pub fn used_by_data(opens: Opens, cards: &[DataCard]) -> usize
+pub fn used_by_data(opens: Opens, cards: &CardImages<'_, '_>) -> usize
     ensures count { result ≡ used_by_data opens cards.now }
     ensures bound { result ≤ length cards.now }
 {
@@ -74,8 +79,7 @@ pub fn used_by_data(opens: Opens, cards: &[DataCard]) -> usize
         Opens::Nothing => 0,
         _ => {
             let count = data_count(opens, cards);
-            let (_, behind) = cards.split_at(count);
-            count + delimiters_at(behind)
+            count + delimiters_at(&cards.behind(count))
         }
     }
 }
@@ -84,15 +88,16 @@ pub fn used_by_data(opens: Opens, cards: &[DataCard]) -> usize
 pub fn data_of(
     alloc: Global,
     opens: Opens,
-    cards: &[DataCard],
+    cards: &CardImages<'_, '_>,
 ) -> Result<Option<Listed<DataCard>>, AllocError>
     ensures { IfOk result (λ found. found ≡ data_of opens cards.now) }
 {
     match opens {
         Opens::Nothing => Ok(None),
         _ => {
-            let (found, _) = cards.split_at(data_count(opens, cards));
-            Ok(Some(Listed::new(Vec::from_slice(alloc, found)?)))
+            let mut found = Vec::new(alloc);
+            cards.push_filled(data_count(opens, cards), &mut found)?;
+            Ok(Some(Listed::new(found)))
         }
     }
 }

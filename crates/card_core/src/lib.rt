@@ -7,6 +7,8 @@ pub mod card;
 pub mod data;
 pub mod fault;
 pub mod field;
+pub mod image;
+pub mod images;
 pub mod operand;
 pub mod read;
 pub mod statement;

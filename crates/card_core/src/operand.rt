@@ -3,9 +3,9 @@ ghost use Rattle.std.specs.Prelude.{◌≡◌, ◌≤◌, length, IfOk};
 ghost use Rattle.card_core.specs.Fields.{behind_operation, continued, operand_of, operand_behind, operation_of};
 ghost use Rattle.card_core.specs.Deck.{Gives};
 
-use crate::card::may_continue;
 use crate::fault::CardFault;
 use crate::field::{Fields, continuation_of, ends_with_comma, operand_text, resumes_outside};
+use crate::images::CardImages;
 use crate::read::ReadError;
 use crate::statement::DataCard;
 use plain::small::SmallText;
@@ -22,29 +22,32 @@ pub struct Operand {
 }
 
 /// The operand whose text so far ended with a comma.
-fn continued(before: Vec<u8>, cards: &[DataCard]) -> Result<Operand, ReadError>
+fn continued(before: Vec<u8>, cards: &CardImages<'_, '_>) -> Result<Operand, ReadError>
     ensures value { Gives (λ o. o) result (continued before.items cards.now) }
     ensures bound { IfOk result (λ o. o.cards ≤ length cards.now) }
 {
     let mut text = before;
-    for (at, card) in cards.iter().enumerate() {
-        if !may_continue(card) {
+    let mut rest = cards.behind(0);
+    while let Some((card, behind)) = rest.split_first() {
+        if !card.may_continue() {
             return Err(ReadError::Fault(CardFault::NotContinued));
         }
-        if resumes_outside(card) {
+        let card = card.filled();
+        if resumes_outside(&card) {
             return Err(ReadError::Fault(CardFault::ResumedOutside));
         }
-        let Some(piece) = operand_text(continuation_of(card)) else {
+        let Some(piece) = operand_text(continuation_of(&card)) else {
             return Err(ReadError::Fault(CardFault::OpenApostrophe));
         };
         text.extend_from_slice(piece)?;
         if !ends_with_comma(piece) {
             return Ok(Operand {
                 text: SmallText::new(text),
-                cards: at + 1,
-                last: *card,
+                cards: cards.len() - behind.len(),
+                last: card,
             });
         }
+        rest = behind;
     }
     Err(ReadError::Fault(CardFault::NotContinued))
 }
@@ -53,7 +56,7 @@ fn operand_of(
     alloc: Global,
     fields: &Fields<'_>,
     card: &DataCard,
-    cards: &[DataCard],
+    cards: &CardImages<'_, '_>,
 ) -> Result<Operand, ReadError>
     requires operation { fields.now.operation.now ≡ operation_of card.now }
     requires behind { fields.now.behind.now ≡ behind_operation card.now }
@@ -82,7 +85,7 @@ pub fn operand_behind(
     alloc: Global,
     fields: &Fields<'_>,
     card: &DataCard,
-    cards: &[DataCard],
+    cards: &CardImages<'_, '_>,
 ) -> Result<Operand, ReadError>
     requires operation { fields.now.operation.now ≡ operation_of card.now }
     requires behind { fields.now.behind.now ≡ behind_operation card.now }

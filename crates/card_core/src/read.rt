@@ -1,12 +1,14 @@
 //! Statements from cards.
 ghost use Rattle.std.specs.Prelude.{◌≡◌, ◌≤◌, ◌∷◌, ◌++◌, [], length, IfOk, OnOk, false};
 ghost use Rattle.card_core.specs.Deck.{Gives, statements_behind, statements_of};
-ghost use Rattle.card_core.specs.Reading.{cards_of, Passes};
+ghost use Rattle.card_core.specs.Reading.{Passes};
 
 use crate::begun::{Begun, jcl_statement, loose};
-use crate::card::{BLANKS, Kind, fill, kind_of};
+use crate::card::Kind;
 use crate::fault::CardFault;
-use crate::statement::{Card, DataCard, Statement};
+use crate::image::CardImage;
+use crate::images::CardImages;
+use crate::statement::{Card, Statement};
 use std::alloc::{AllocError, Global};
 
 /// Why no statements were read.
@@ -37,21 +39,6 @@ struct Place {
     used: usize,
 }
 
-/// The cards of these lines.
-fn cards_of(alloc: Global, lines: &[Card<'_>]) -> Result<Vec<DataCard>, ReadError>
-    ensures { Gives (λ v. v.items) result (cards_of lines.now) }
-{
-    let mut cards = Vec::with_capacity(alloc, lines.len())?;
-    for line in lines {
-        let mut card = BLANKS;
-        match fill(&mut card, line.as_slice()) {
-            Ok(()) => put(&mut cards, card)?,
-            Err(fault) => return Err(ReadError::Fault(fault)),
-        }
-    }
-    Ok(cards)
-}
-
 fn put<T: Drop>(out: &mut Vec<T>, item: T) -> Result<(), AllocError>
     ensures { OnOk result (out.new.items ≡ out.old.items ++ item ∷ []) }
 {
@@ -76,13 +63,13 @@ fn push_statement(
     alloc: Global,
     out: &mut Vec<Statement>,
     called: bool,
-    card: &DataCard,
-    cards: &[DataCard],
+    card: &CardImage<'_>,
+    cards: &CardImages<'_, '_>,
 ) -> Result<Place, ReadError>
     ensures passes { Passes result out.old.items out.new.items called card.now cards.now }
     ensures bound { IfOk result (λ place. place.used ≤ length cards.now) }
 {
-    let begun = match kind_of(card) {
+    let begun = match card.kind() {
         Kind::Comment | Kind::Delimiter => return Ok(Place { called, used: 0 }),
         Kind::Null => {
             return Ok(Place {
@@ -96,17 +83,16 @@ fn push_statement(
     Ok(put_begun(out, begun)?)
 }
 
-fn statements(alloc: Global, cards: &[DataCard]) -> Result<Vec<Statement>, ReadError>
-    ensures { Gives (λ v. v.items) result (statements_behind false 0 cards.now) }
+fn statements(alloc: Global, cards: CardImages<'_, '_>) -> Result<Vec<Statement>, ReadError>
+    ensures { Gives (λ v. v.items) result (statements_behind false 0 cards.entry) }
 {
-    let mut out = Vec::with_capacity(alloc, cards.len())?;
+    let mut out = Vec::new(alloc);
     let mut called = false;
     let mut rest = cards;
     while let Some((card, behind)) = rest.split_first() {
-        let place = push_statement(alloc, &mut out, called, card, behind)?;
+        let place = push_statement(alloc, &mut out, called, &card, &behind)?;
         called = place.called;
-        let (_, after) = behind.split_at(place.used);
-        rest = after;
+        rest = behind.behind(place.used);
     }
     Ok(out)
 }
@@ -115,6 +101,8 @@ fn statements(alloc: Global, cards: &[DataCard]) -> Result<Vec<Statement>, ReadE
 pub fn read_statements(alloc: Global, cards: &[Card<'_>]) -> Result<Vec<Statement>, ReadError>
     ensures { Gives (λ v. v.items) result (statements_of cards.now) }
 {
-    let cards = cards_of(alloc, cards)?;
-    statements(alloc, cards.as_slice())
+    match CardImages::of_lines(cards) {
+        Ok(cards) => statements(alloc, cards),
+        Err(fault) => Err(ReadError::Fault(fault)),
+    }
 }
