@@ -27,8 +27,7 @@ use mount_core::mounted::Mounted;
 use plain::lent::Lent;
 use plain::listed::Listed;
 use plain::short::Short;
-use plain::text::Text;
-use proc_library::library::{LibraryProcedure, ProcLibrary};
+use proc_library::library::ProcLibrary;
 use prog_core::library::ProgramLibrary;
 use session_input::statement::{ConfigStatement, MOST_GENERATIONS, MOST_REQUESTS, SetStatement};
 use shared_core::sums::volumes_are_laid_out;
@@ -94,17 +93,6 @@ impl Model for Config {
       programs = c.programs;
       initiators = c.initiators;
     }) };
-}
-
-/// The lines of a procedure, which outlive the text that lends them.
-fn copied(alloc: Global, lines: &[Lent<'_>]) -> Result<Listed<Text>, AllocError>
-    ensures { IfOk result (λ copies. copies ≡ lines.now) }
-{
-    let mut copies = Listed::empty(alloc);
-    for line in lines {
-        copies.push(Text::copy_of(alloc, line.as_slice())?)?;
-    }
-    Ok(copies)
 }
 
 /// Whether a set of the name stands on the volume of a serial.
@@ -290,9 +278,7 @@ impl Config {
         if let Some(fault) = self.procedure_fault(&name) {
             return Err(ConfigError::Refused(fault));
         }
-        let lines = copied(self.alloc, lines)?;
-        self.library
-            .add(self.alloc, LibraryProcedure { name, lines })?;
+        self.library.add(self.alloc, name, lines)?;
         Ok(())
     }
 

@@ -1,17 +1,16 @@
 -- A procedure of the library, and what its cards are, by its place among the entries.
-use Rattle.std.proofs.Common.{◌≡◌, ℕ, Bool, true, false, cond, List, [], ◌∷◌, ◌++◌, map, zero, suc, arith, Option, Some, None, Err, Result, refl, sym, ap}
+use Rattle.std.proofs.Common.{◌≡◌, ℕ, Bool, true, false, cond, List, [], ◌∷◌, ◌++◌, map, zero, suc, arith, Option, Some, Result, refl, sym, ap, ◌∙◌}
 use Rattle.std.specs.Option.{option_map}
 use Rattle.std.specs.Str.{bytes_eq}
-use Rattle.std.proofs.lemmas.List.Elements.{All-append}
+use Rattle.std.proofs.lemmas.List.Elements.{All-append, All-same}
+use Rattle.std.proofs.lemmas.List.{map-append}
 use Rattle.name_places.proofs.Named.{first_named}
 use Rattle.card_core.specs.declared.fault.CardFault.{CardFault}
 use Rattle.card_core.specs.declared.statement.Statement.{Statement}
-use Rattle.card_core.specs.Cards.{filled, first_line_fault}
-use Rattle.card_core.specs.declared.fault.CardFault.TheVariants.{DataBeforeExec}
-use Rattle.card_core.specs.Deck.{Statements, statements_behind, statements_of, unless}
+use Rattle.card_core.specs.Deck.{statements_of}
 use Rattle.proc_library.specs.declared.library.Entry.{Entry}
 use Rattle.proc_library.specs.declared.library.LibraryProcedure.{LibraryProcedure}
-use Rattle.proc_library.specs.Entries.{AreRead, BeginsWithData, data_fault, or_data}
+use Rattle.proc_library.specs.Entries.{AreRead}
 use Rattle.proc_library.specs.Libraries.{in_library, reading_in}
 
 pub named_is : (entries : List Entry) (name : List ℕ) →
@@ -42,10 +41,14 @@ read_more entries e read is = All-append (λ e. e.reading ≡ statements_of e.pr
     one e is zero d below = is
     one e is (suc k) d below = absurd (omega (arith, below))
 
--- cards that begin with data
-unless_data : (fault : Option CardFault) (statements : Statements) → statements ≡ Err DataBeforeExec → Err (or_data fault) ≡ unless fault statements
-unless_data (Some fault) statements is = refl
-unless_data None statements is = sym is
-
-pub data_read : (lines : List (List ℕ)) → BeginsWithData lines → Err (data_fault lines) ≡ statements_of lines
-data_read lines begins = unless_data (first_line_fault lines) (statements_behind false 0 (map filled lines)) begins
+pub kept_more : (entries new : List Entry) (names more : List (List ℕ)) (e : Entry) (name : List ℕ) → map (λ e. e.procedure.name) entries ≡ names → AreRead entries →
+    new ≡ entries ++ e ∷ [] → more ≡ names ++ name ∷ [] → e.procedure.name ≡ name → e.reading ≡ statements_of e.procedure.lines →
+    (map (λ e. e.procedure.name) new ≡ more) × AreRead new
+kept_more entries new names more e name named read new_is more_is name_is is = (
+  ap (λ all. map (λ e. e.procedure.name) all) new_is
+      ∙ map-append (λ e. e.procedure.name) entries (e ∷ [])
+      ∙ ap (λ all. all ++ e.procedure.name ∷ []) named
+      ∙ ap (λ one. names ++ one ∷ []) name_is
+      ∙ sym more_is,
+  All-same (λ e. e.reading ≡ statements_of e.procedure.lines) new (entries ++ e ∷ []) new_is (read_more entries e read is),
+)

@@ -1,11 +1,13 @@
 //! Procedures of the library.
-ghost use Rattle.std.specs.Prelude.{◌≡◌, ◌++◌, ◌∷◌, [], false, OnOk, OnErr};
+ghost use Rattle.std.specs.Prelude.{◌≡◌, ◌++◌, ◌∷◌, [], false, IfOk, OnOk, OnErr};
 ghost use Rattle.std.specs.Option.{option_copied};
+ghost use Rattle.card_core.specs.Deck.{statements_of};
 ghost use Rattle.proc_library.specs.Libraries.{has_procedure, in_library, reading_in};
 
 use crate::reading::{Reading, reading_of};
 use jname_core::name8::Name8;
 use name_places::places::NamePlaces;
+use plain::lent::Lent;
 use plain::listed::Listed;
 use plain::text::Text;
 use std::alloc::{AllocError, Global};
@@ -23,6 +25,26 @@ pub struct LibraryProcedure {
 struct Entry {
     procedure: LibraryProcedure,
     reading: Reading,
+}
+
+/// Lines that outlive those that lend them.
+fn copied(alloc: Global, lines: &[Lent<'_>]) -> Result<Listed<Text>, AllocError>
+    ensures { IfOk result (λ copies. copies ≡ lines.now) }
+{
+    let mut copies = Listed::empty(alloc);
+    for line in lines {
+        copies.push(Text::copy_of(alloc, line.as_slice())?)?;
+    }
+    Ok(copies)
+}
+
+/// Lines that outlive those that lend them, and what they are as cards.
+fn read_lines(alloc: Global, lines: &[Lent<'_>]) -> Result<(Listed<Text>, Reading), AllocError>
+    ensures lines { IfOk result (λ r. r.0 ≡ lines.now) }
+    ensures reading { IfOk result (λ r. r.1 ≡ statements_of r.0) }
+{
+    let reading = reading_of(alloc, lines)?;
+    Ok((copied(alloc, lines)?, reading))
 }
 
 /// The library in the order in which its procedures were added; one is found by its name without going through them all.
@@ -89,15 +111,16 @@ impl ProcLibrary {
         }
     }
 
-    /// Adds a procedure of a new name, and reads its cards. An `Err` changes nothing.
-    pub fn add(&mut self, alloc: Global, procedure: LibraryProcedure) -> Result<(), AllocError>
-        requires { has_procedure self.old procedure.name ≡ false }
-        ensures ok { OnOk result (self.new ≡ self.old ++ procedure ∷ []) }
+    /// Adds a procedure of a new name: its lines are kept, and its cards are read. An `Err` changes nothing.
+    pub fn add(&mut self, alloc: Global, name: Name8, lines: &[Lent<'_>]) -> Result<(), AllocError>
+        requires { has_procedure self.old name ≡ false }
+        ensures ok { OnOk result (self.new ≡ self.old ++ record { name = name; lines = lines.now } ∷ []) }
         ensures err { OnErr result (self.new ≡ self.old) }
     {
-        let reading = reading_of(alloc, procedure.lines.as_slice())?;
+        let (lines, reading) = read_lines(alloc, lines)?;
         self.list.reserve(1)?;
-        self.places.add(procedure.name.as_slice())?;
+        self.places.add(name.as_slice())?;
+        let procedure = LibraryProcedure { name, lines };
         let Ok(()) = self.list.push(Entry { procedure, reading }) else {
             unreachable!();
         };

@@ -4,14 +4,15 @@ use jcl_meaning::program::{Request, SoloProgram};
 use jcl_plan::outcome::Code;
 use jcl_refs::units::UnitNames;
 use jname_core::name8::{Name8, UnitName};
+use plain::lent::Lent;
 use plain::listed::Listed;
 use plain::text::Text;
-use proc_library::library::{LibraryProcedure, ProcLibrary};
+use proc_library::library::ProcLibrary;
 use row_table::desk::Line;
 use row_table::names::name8;
 use row_table::told::Told;
 use row_table::words::Words;
-use std::alloc::Global;
+use std::alloc::{AllocError, Global};
 use std::mem;
 
 /// Programs, procedures and units, and the requests and lines that no line took yet.
@@ -65,6 +66,15 @@ fn request(verb: CodedVerb, words: &mut Words<'_>) -> Option<Request> {
     }
 }
 
+/// Lines as a deck lends them.
+fn lent<'a>(alloc: Global, lines: &'a [Text]) -> Result<Vec<Lent<'a>>, AllocError> {
+    let mut cards = Vec::new(alloc);
+    for line in lines {
+        cards.push(Lent::new(line.as_slice()))?;
+    }
+    Ok(cards)
+}
+
 impl Coded {
     fn add_request(&mut self, verb: CodedVerb, line: &mut Line<'_>) {
         if let Some(request) = request(verb, &mut line.words) {
@@ -85,8 +95,10 @@ impl Coded {
 
     fn add_procedure(&mut self, alloc: Global, name: Name8, told: &mut Told) {
         let lines = mem::replace(&mut self.lines, Listed::empty(alloc));
-        if !self.library.has(&name) {
-            told.over(self.library.add(alloc, LibraryProcedure { name, lines }));
+        if !self.library.has(&name)
+            && let Some(lines) = told.got(lent(alloc, lines.as_slice()))
+        {
+            told.over(self.library.add(alloc, name, lines.as_slice()));
         }
     }
 

@@ -1,6 +1,0 @@
-use Rattle.std.proofs.Common.{◌≡◌, drop}
-use Rattle.card_core.specs.Cards.{first_line_fault}
-use Rattle.proc_library.proofs.reading.first_line_fault.Given as goal
-
-abbrev pub invariant-loop-line : goal.invariant-loop-line
-invariant-loop-line l = first_line_fault l.lines ≡ first_line_fault (drop l.line-index l.lines)
