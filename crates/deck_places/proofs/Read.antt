@@ -1,12 +1,13 @@
 -- Lines of which statements are made.
-use Rattle.std.proofs.Common.{◌≡◌, ◌∙◌, ℕ, true, false, List, None, Option, Some, Result, Ok, Err, ap, length, map, sym, subst}
+use Rattle.std.proofs.Common.{◌≡◌, ◌∙◌, ℕ, true, false, List, None, Option, Some, Result, Ok, Err, ap, length, map, refl, sym, subst}
 use Rattle.std.proofs.lemmas.Result.{IfOk-weaker}
 use Rattle.std.specs.Prelude.{IfOk, is_some}
 use Rattle.std.specs.declared.alloc.AllocError.{AllocError}
 use Rattle.card_core.specs.declared.fault.CardFault.{CardFault}
 use Rattle.card_core.specs.declared.statement.Statement.{Statement}
 use Rattle.card_core.specs.Cards.{filled, first_line_fault}
-use Rattle.card_core.specs.Deck.{statements_behind, statements_of, unless}
+use Rattle.card_core.specs.Deck.{Card, statements_behind, statements_of, unless}
+use Rattle.card_core.specs.Reading.{ok_unless}
 use Rattle.jcl_deck.specs.Decks.{start}
 use Rattle.jcl_job.specs.Jobs.{statements_in}
 use Rattle.jcl_plan.specs.declared.fault.Cause.{Cause}
@@ -56,3 +57,15 @@ marked lines cards own items statements k cause result read its meant none so re
       subst (λ s. IsMarkAmong (map filled lines) s k cause mark) same (subst (λ c. IsMarkAmong c own k cause mark) so m),
     ))
     (given (ap (read_from 0 start) same ∙ refused) (begun_on lines cards items read none so ∙ ap length (sym its)))
+
+-- lines that are cards, and a line that is none
+pub are_cards : (fault : Option CardFault) (bad : Option ℕ) (lines : List (List ℕ)) (cards : List Card) → is_some fault ≡ is_some bad →
+    Ok cards ≡ ok_unless fault (map filled lines) → (bad ≡ None) × (cards ≡ map filled lines)
+are_cards (Some fault) bad lines cards same is = absurd cc
+are_cards None (Some n) lines cards same is = absurd cc
+are_cards None None lines cards same is = (refl, cc)
+
+pub not_none : (fault : Option CardFault) (bad : Option ℕ) (lines : List (List ℕ)) (found : CardFault) → is_some fault ≡ is_some bad →
+    Err found ≡ ok_unless fault (map filled lines) → None ≡ bad → ⊥
+not_none (Some fault) bad lines found same is none = cc
+not_none None bad lines found same is none = cc

@@ -26,7 +26,7 @@ behind front walk = record { begun = front ++ walk.begun; refused = walk.refused
 
 -- lines are cards, or one of them is none
 abbrev pub AreLined : List (List ℕ) → Lined → Type 0
-AreLined lines (Cards cards) = (bad_line lines ≡ None) × (cards.items ≡ map filled lines)
+AreLined lines (Cards cards) = (bad_line lines ≡ None) × (cards ≡ map filled lines)
 AreLined lines (Bad n) = bad_line lines ≡ Some n
 
 -- what is noted at a card leads on as the walk does, whatever follows

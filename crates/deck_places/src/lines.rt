@@ -1,28 +1,40 @@
 //! The cards that lines are.
-ghost use Rattle.std.specs.Prelude.{IfOk};
+ghost use Rattle.std.specs.Prelude.{◌≡◌};
+ghost use Rattle.deck_places.specs.Cards.{bad_line};
 ghost use Rattle.deck_places.specs.Walks.{AreLined};
 
-use card_core::card::card_of;
-use card_core::statement::{Card, DataCard};
-use std::alloc::{AllocError, Global};
+use card_core::card::line_fault;
+use card_core::images::CardImages;
+use card_core::statement::Card;
 
 /// What lines are: cards, or the first of them that is none.
 #[derive(Drop)]
-pub(crate) enum Lined {
-    Cards(Vec<DataCard>),
+pub(crate) enum Lined<'a, 'b> {
+    Cards(CardImages<'a, 'b>),
     Bad(usize),
 }
 
-/// The cards that lines are.
-pub(crate) fn cards_of(alloc: Global, lines: &[Card<'_>]) -> Result<Lined, AllocError>
-    ensures { IfOk result (AreLined lines.now) }
+/// The first line that is no card.
+fn bad_line(lines: &[Card<'_>]) -> Option<usize>
+    ensures { result ≡ bad_line lines.now }
 {
-    let mut cards = Vec::new(alloc);
     for (n, line) in lines.iter().enumerate() {
-        match card_of(line.as_slice()) {
-            Ok(card) => cards.push(card)?,
-            Err(_) => return Ok(Lined::Bad(n)),
+        if line_fault(line.as_slice()).is_some() {
+            return Some(n);
         }
     }
-    Ok(Lined::Cards(cards))
+    None
+}
+
+/// The cards that lines are.
+pub(crate) fn cards_of<'a, 'b>(lines: &'a [Card<'b>]) -> Lined<'a, 'b>
+    ensures { AreLined lines.now result }
+{
+    match CardImages::of_lines(lines) {
+        Ok(cards) => Lined::Cards(cards),
+        Err(_) => match bad_line(lines) {
+            Some(n) => Lined::Bad(n),
+            None => unreachable!(),
+        },
+    }
 }

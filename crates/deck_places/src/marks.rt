@@ -15,6 +15,7 @@ use crate::lines::{Lined, cards_of};
 use crate::parts::{parts_of, refused_part, start_of};
 use crate::walk::walk_cards;
 use card_core::field::{continuation_of, ends_with_comma, fields_of, operand_text};
+use card_core::images::CardImages;
 use card_core::read::{ReadError as CardError, read_statements};
 use card_core::statement::{Card, DataCard, Statement};
 use jcl_deck::place::Place;
@@ -98,7 +99,7 @@ fn place_on(cards: &[DataCard], first: usize, place: usize) -> Result<Mark, Allo
 /// The mark of a statement that is refused behind these.
 fn mark_behind(
     alloc: Global,
-    cards: &[DataCard],
+    cards: &CardImages<'_, '_>,
     first: usize,
     place: Place,
     statement: &Statement,
@@ -110,14 +111,18 @@ fn mark_behind(
     let parts = parts_of(alloc, statement.operand.as_slice())?;
     match refused_part(alloc, place, statement, parts.as_slice(), cause)? {
         None => Ok(first_of(first)),
-        Some(n) => place_on(cards, first, start_of(parts.as_slice(), n)?),
+        Some(n) => {
+            let mut filled = Vec::new(alloc);
+            cards.push_filled(cards.len(), &mut filled)?;
+            place_on(filled.as_slice(), first, start_of(parts.as_slice(), n)?)
+        }
     }
 }
 
 /// The mark of these statements of these cards.
 fn mark_among(
     alloc: Global,
-    cards: &[DataCard],
+    cards: &CardImages<'_, '_>,
     statements: &[Statement],
     k: usize,
     cause: Cause,
@@ -154,8 +159,8 @@ pub fn statement_mark(
         Err(CardError::Fault(_)) => return Ok(first_of(0)),
         Err(CardError::Memory) => return Err(AllocError),
     };
-    match cards_of(alloc, lines)? {
-        Lined::Cards(cards) => mark_among(alloc, cards.as_slice(), statements.as_slice(), k, cause),
+    match cards_of(lines) {
+        Lined::Cards(cards) => mark_among(alloc, &cards, statements.as_slice(), k, cause),
         Lined::Bad(_) => Ok(first_of(0)),
     }
 }

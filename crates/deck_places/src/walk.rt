@@ -8,11 +8,13 @@ ghost use Rattle.deck_places.specs.Walks.{Fits, GoesWithin, LeadsOn, walked};
 ghost use Rattle.deck_places.specs.declared.walk.Step.TheVariants.{Refused};
 
 use crate::lines::{Lined, cards_of};
-use card_core::card::{Kind, is_marked, kind_of, may_continue};
+use card_core::card::{Kind, is_marked};
 use card_core::data::{Opens, data_of, is_early, opened_by, used_by_data};
 use card_core::field::{
     continuation_of, ends_with_comma, fields_of, operand_text, resumes_outside,
 };
+use card_core::image::CardImage;
+use card_core::images::CardImages;
 use card_core::operand::{Operand, operand_behind};
 use card_core::read::ReadError;
 use card_core::statement::{Card, DataCard};
@@ -58,23 +60,26 @@ fn goes_on(text: Option<&[u8]>) -> bool
 }
 
 /// How many cards behind its first an operand is refused, which ended with a comma there.
-fn continued_at(cards: &[DataCard]) -> usize
+fn continued_at(cards: &CardImages<'_, '_>) -> usize
     ensures at { result ≡ continued_at 0 cards.now }
     ensures bound { result ≤ length cards.now }
 {
-    for (n, card) in cards.iter().enumerate() {
-        if !may_continue(card) {
-            return n;
+    let mut rest = cards.behind(0);
+    while let Some((card, behind)) = rest.split_first() {
+        if !card.may_continue() {
+            break;
         }
-        if resumes_outside(card) || !goes_on(operand_text(continuation_of(card))) {
-            return n + 1;
+        let card = card.filled();
+        if resumes_outside(&card) || !goes_on(operand_text(continuation_of(&card))) {
+            return cards.len() - behind.len();
         }
+        rest = behind;
     }
-    cards.len()
+    cards.len() - rest.len()
 }
 
 /// How many cards behind its first a statement is refused for its operand.
-fn operand_at(card: &DataCard, cards: &[DataCard]) -> usize
+fn operand_at(card: &DataCard, cards: &CardImages<'_, '_>) -> usize
     ensures at { result ≡ operand_at card.now cards.now }
     ensures bound { result ≤ length cards.now }
 {
@@ -90,24 +95,23 @@ fn operand_at(card: &DataCard, cards: &[DataCard]) -> usize
 }
 
 /// How many cards at the front continue the comment of a statement that ends on the last card.
-fn comment_cards(last: &DataCard, cards: &[DataCard]) -> usize
+fn comment_cards(last: &DataCard, cards: &CardImages<'_, '_>) -> usize
     ensures count { result ≡ comment_cards last.now cards.now }
     ensures bound { result ≤ length cards.now }
 {
-    match cards {
-        [card, ..] if is_marked(last) && may_continue(card) => 1,
+    match cards.split_first() {
+        Some((card, _)) if is_marked(last) && card.may_continue() => 1,
         _ => 0,
     }
 }
 
 /// How many cards behind its first a statement takes before its data.
-fn used_before_data(cards: &[DataCard], operand: &Operand) -> usize
+fn used_before_data(cards: &CardImages<'_, '_>, operand: &Operand) -> usize
     requires { operand.now.cards ≤ length cards.now }
     ensures used { result ≡ used_before_data cards.now operand.now }
     ensures bound { result ≤ length cards.now }
 {
-    let (_, behind) = cards.split_at(operand.cards);
-    operand.cards + comment_cards(&operand.last, behind)
+    operand.cards + comment_cards(&operand.last, &cards.behind(operand.cards))
 }
 
 /// What begins with a card that has an operand.
@@ -115,7 +119,7 @@ fn begins_with(
     alloc: Global,
     called: bool,
     card: &DataCard,
-    cards: &[DataCard],
+    cards: &CardImages<'_, '_>,
     operand: &Operand,
 ) -> Result<Step, AllocError>
     requires { operand.now.cards ≤ length cards.now }
@@ -124,13 +128,13 @@ fn begins_with(
 {
     let operation = fields_of(card).operation;
     let used = used_before_data(cards, operand);
-    let (_, behind) = cards.split_at(used);
+    let behind = cards.behind(used);
     let opens = opened_by(operation, operand.text.as_slice());
-    let found = data_of(alloc, opens, behind)?;
+    let found = data_of(alloc, opens, &behind)?;
     if is_early(called, &found) {
         return Ok(Step::Refused(0));
     }
-    let used = used + used_by_data(opens, behind);
+    let used = used + used_by_data(opens, &behind);
     Ok(Step::Begins(called || operation == b"EXEC".as_slice(), used))
 }
 
@@ -138,16 +142,17 @@ fn begins_with(
 fn statement_step(
     alloc: Global,
     called: bool,
-    card: &DataCard,
-    cards: &[DataCard],
+    card: &CardImage<'_>,
+    cards: &CardImages<'_, '_>,
 ) -> Result<Step, AllocError>
     ensures step { IfOk result (λ step. step ≡ statement_by called card.now cards.now (operand_behind card.now cards.now)) }
     ensures bound { IfOk result (Fits (length cards.now)) }
 {
-    let fields = fields_of(card);
-    match operand_behind(alloc, &fields, card, cards) {
-        Ok(operand) => begins_with(alloc, called, card, cards, &operand),
-        Err(ReadError::Fault(_)) => Ok(Step::Refused(operand_at(card, cards))),
+    let card = card.filled();
+    let fields = fields_of(&card);
+    match operand_behind(alloc, &fields, &card, cards) {
+        Ok(operand) => begins_with(alloc, called, &card, cards, &operand),
+        Err(ReadError::Fault(_)) => Ok(Step::Refused(operand_at(&card, cards))),
         Err(ReadError::Memory) => Err(AllocError),
     }
 }
@@ -156,13 +161,13 @@ fn statement_step(
 fn step_of(
     alloc: Global,
     called: bool,
-    card: &DataCard,
-    cards: &[DataCard],
+    card: &CardImage<'_>,
+    cards: &CardImages<'_, '_>,
 ) -> Result<Step, AllocError>
     ensures step { IfOk result (λ step. step ≡ step_of called card.now cards.now) }
     ensures bound { IfOk result (Fits (length cards.now)) }
 {
-    match kind_of(card) {
+    match card.kind() {
         Kind::Comment | Kind::Delimiter => Ok(Step::Passed),
         Kind::Null => Ok(Step::Over),
         Kind::Jcl => statement_step(alloc, called, card, cards),
@@ -197,21 +202,20 @@ fn take_step(
 }
 
 /// The cards on which statements begin, and the card that is refused.
-pub fn walk_cards(alloc: Global, cards: &[DataCard]) -> Result<Walk, AllocError>
+pub fn walk_cards(alloc: Global, cards: &CardImages<'_, '_>) -> Result<Walk, AllocError>
     ensures { IfOk result (λ w. walked w ≡ walk_from false 0 0 cards.now) }
 {
     let mut begun = Vec::new(alloc);
     let mut called = false;
-    let mut rest = cards;
+    let mut rest = cards.behind(0);
     while let Some((card, behind)) = rest.split_first() {
         let at = cards.len() - rest.len();
-        let step = step_of(alloc, called, card, behind)?;
+        let step = step_of(alloc, called, &card, &behind)?;
         match take_step(&mut begun, called, at, step)? {
             Onward::Ends(refused) => return Ok(Walk { begun, refused }),
             Onward::Goes(calls, used) => {
                 called = calls;
-                let (_, after) = behind.split_at(used);
-                rest = after;
+                rest = behind.behind(used);
             }
         }
     }
@@ -225,8 +229,8 @@ pub fn walk_cards(alloc: Global, cards: &[DataCard]) -> Result<Walk, AllocError>
 pub fn walk_lines(alloc: Global, lines: &[Card<'_>]) -> Result<Walk, AllocError>
     ensures { IfOk result (λ w. walked w ≡ walk_of lines.now) }
 {
-    match cards_of(alloc, lines)? {
-        Lined::Cards(cards) => walk_cards(alloc, cards.as_slice()),
+    match cards_of(lines) {
+        Lined::Cards(cards) => walk_cards(alloc, &cards),
         Lined::Bad(n) => Ok(Walk {
             begun: Vec::new(alloc),
             refused: Some(n),
