@@ -105,9 +105,9 @@ fn dd_names(name: &[u8]) -> Result<(Option<Name8>, Option<Name8>), Cause>
     Ok((None, Some(dd)))
 }
 
-/// The fault of a DD's name.
+/// The fault of a DD's name, or of one of its two where it is qualified.
 #[tactic(auto, using(operand_core::proofs::Told::told_append))]
-fn dd_name_fault(name: &[u8]) -> Option<Cause>
+pub fn dd_name_fault(name: &[u8]) -> Option<Cause>
     ensures { result ≡ told (dd_name_faults name.now) }
 {
     if is_qualified(name) {
@@ -270,7 +270,7 @@ pub fn bare_dd() -> DdCard
     }
 }
 
-/// Reads a DD statement, with the data cards behind it, into a card that codes nothing. What the card holds counts where no fault is told.
+/// Reads a DD statement, with the data cards behind it, into a card that codes nothing. What the card holds counts where no fault is reported.
 pub fn read_dd(
     alloc: Global,
     name: &[u8],

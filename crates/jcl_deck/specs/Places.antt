@@ -33,6 +33,11 @@ Moves (Err Memory) place moved = Unit {0}
 abbrev pub GivesWith : {A : Type 0} → Option Cause → Result A ReadError → Result A ReadError → Type 0
 GivesWith {A} fault card result = (given : Result A Cause) → Gives card given → Gives result (with_fault given fault)
 
+-- of two faults, the first of which may be absent, the one that is told
+abbrev pub earliest : Option Cause → Cause → Cause
+earliest None fault = fault
+earliest (Some first) fault = lower first fault
+
 -- why no card was read, with one more fault, which may be absent
 abbrev pub error_with : ReadError → Option Cause → ReadError
 error_with Memory fault = Memory

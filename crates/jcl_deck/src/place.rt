@@ -4,7 +4,7 @@ ghost use Rattle.operand_core.specs.Faults.{or_fault, told, written_name_faults}
 ghost use Rattle.operand_core.specs.Keywords.{is_long};
 ghost use Rattle.jcl_deck.specs.Decks.{behind, dd_place_faults, ended_with, keeps, last_has_dd, not_first, outside, procedure_with, start};
 ghost use Rattle.jcl_deck.specs.Decks.{takes_dd, takes_exec, takes_job, takes_proc, within};
-ghost use Rattle.jcl_deck.specs.Places.{GivesWith, Moves, denoted, error_with, procedure_place_faults, with_dd, with_procedure, with_step};
+ghost use Rattle.jcl_deck.specs.Places.{GivesWith, Moves, denoted, earliest, error_with, procedure_place_faults, with_dd, with_procedure, with_step};
 
 use crate::dd_place::dd_place_fault;
 use crate::deck::{Deck, DeckStep, Procedure};
@@ -36,8 +36,18 @@ pub struct Place {
 /// The most procedures of a deck.
 const MOST_PROCEDURES: usize = 15;
 
+/// Of two faults, the first of which may be absent, the one that is reported.
+pub fn earliest(first: Option<Cause>, fault: Cause) -> Cause
+    ensures { result ≡ earliest first fault }
+{
+    match first {
+        None => fault,
+        Some(first) => lower(first, fault),
+    }
+}
+
 /// A card with one more fault of its statement, which may be absent.
-fn with_fault<A: Drop>(card: Result<A, ReadError>, fault: Option<Cause>) -> Result<A, ReadError>
+pub fn with_fault<A: Drop>(card: Result<A, ReadError>, fault: Option<Cause>) -> Result<A, ReadError>
     ensures { GivesWith fault card result }
 {
     match (card, fault) {
@@ -251,10 +261,7 @@ impl Place {
         ensures { Some result ≡ told (written_name_faults name.now ++ not_first (denoted self.now) ++ Cause.P StatementFault.UnknownOperation ∷ []) }
     {
         let unknown = Cause::P(StatementFault::UnknownOperation);
-        match earlier(written_name_fault(name), self.not_first()) {
-            None => unknown,
-            Some(fault) => lower(fault, unknown),
-        }
+        earliest(earlier(written_name_fault(name), self.not_first()), unknown)
     }
 
     fn take_outside(
