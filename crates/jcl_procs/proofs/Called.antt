@@ -25,10 +25,11 @@ use Rattle.jcl_cards.specs.DdCards.{dd_card, dd_name_faults, dd_with, has_data, 
 use Rattle.jcl_cards.specs.Dds.{is_data_word}
 use Rattle.jcl_cards.specs.Merging.{by_itself}
 use Rattle.jcl_deck.specs.Decks.{dd_place_faults, last_has_dd}
+use Rattle.jcl_deck.specs.Places.{earliest}
 use Rattle.jcl_procs.specs.declared.calls.Place as code
 use Rattle.jcl_procs.specs.declared.step.FlatStep.{FlatStep}
 use Rattle.jcl_procs.specs.Calls.{Call, Place, dd_faults, onto_last, read_with, steps_behind, steps_from}
-use Rattle.jcl_procs.specs.Calling.{Moves, behind, dd_faults_with, earliest, or_earliest}
+use Rattle.jcl_procs.specs.Calling.{Moves, behind, dd_faults_with, or_earliest}
 
 -- the last step
 pub one_more : (n : ℕ) → false ≡ nat_eq n 0 → n ≡ suc (n - 1)

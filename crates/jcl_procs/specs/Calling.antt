@@ -4,7 +4,7 @@ use Rattle.card_core.specs.declared.statement.Statement.{Statement}
 use Rattle.jcl_plan.specs.declared.fault.Cause.{Cause}
 use Rattle.jcl_plan.specs.declared.fault.Cause.TheVariants.{P}
 use Rattle.jcl_plan.specs.declared.fault.StatementFault.TheVariants.{CardsInProcedure, NoSuchProcedureStep, ProcedureCallsProcedure}
-use Rattle.operand_core.specs.Faults.{lower, when, written_name_faults}
+use Rattle.operand_core.specs.Faults.{when, written_name_faults}
 use Rattle.operand_core.specs.Qualified.{is_qualified}
 use Rattle.value_core.specs.declared.refusal.ReadError.{ReadError}
 use Rattle.value_core.specs.declared.refusal.ReadError.TheVariants.{Refused, Memory}
@@ -15,6 +15,7 @@ use Rattle.jcl_cards.specs.declared.exec.ExecCard.{ExecCard}
 use Rattle.jcl_cards.specs.DdCards.{dd_card, dd_name_faults, has_data}
 use Rattle.jcl_cards.specs.ExecCards.{exec_card}
 use Rattle.jcl_deck.specs.Decks.{dd_place_faults, operation_of}
+use Rattle.jcl_deck.specs.Places.{earliest}
 use Rattle.jcl_procs.specs.declared.calls.Caller.{Caller}
 use Rattle.jcl_procs.specs.declared.calls.Place as code
 use Rattle.jcl_procs.specs.declared.step.FlatStep.{FlatStep}
@@ -32,11 +33,6 @@ abbrev pub Moves : Result (Unit {0}) ReadError → code.Place → Result Place C
 Moves (Ok done) place moved = moved ≡ Ok (denoted place)
 Moves (Err (Refused fault)) place moved = moved ≡ Err fault
 Moves (Err Memory) place moved = Unit {0}
-
--- of two faults, the first of which may be absent, the one that is told
-abbrev pub earliest : Option Cause → Cause → Cause
-earliest None fault = fault
-earliest (Some first) fault = lower first fault
 
 -- a text, or of its fault and that of a name the one that is told
 abbrev pub or_earliest : Option Cause → Result (List ℕ) Cause → Result (List ℕ) Cause

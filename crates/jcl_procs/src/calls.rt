@@ -6,33 +6,32 @@ ghost use Rattle.operand_core.specs.Operands.{first_of, operand_of};
 ghost use Rattle.value_core.specs.Reads.{Gives, answer};
 ghost use Rattle.list_values.specs.Conditions.{no_condition};
 ghost use Rattle.jcl_symbols.specs.Substitutions.{substituted};
-ghost use Rattle.jcl_cards.specs.DdCards.{behind_period, dd_name_faults};
 ghost use Rattle.jcl_cards.specs.Dds.{is_data_word};
 ghost use Rattle.jcl_cards.specs.ExecCards as execs;
 ghost use Rattle.jcl_deck.specs.Decks.{dd_place_faults, last_has_dd};
-ghost use Rattle.jcl_deck.specs.Places.{GivesWith};
 ghost use Rattle.jcl_procs.specs.Calls.{calls, program_of, step_of, steps_of, steps_with, takes_dd, takes_exec};
-ghost use Rattle.jcl_procs.specs.Calling.{Moves, behind, TellsCalls, TellsData, call_of, dd_faults_with, dd_placed, dd_read, denoted, earliest};
+ghost use Rattle.jcl_procs.specs.Calling.{Moves, behind, TellsCalls, TellsData, call_of, dd_faults_with, dd_placed, dd_read, denoted};
 ghost use Rattle.jcl_procs.specs.Calling.{exec_placed, exec_read, or_earliest, with_dd, with_step};
 
 use crate::step::FlatStep;
 use boxed_core::Boxed;
 use card_core::statement::{DataCard, Statement};
-use jcl_cards::dd::{DdCard, dd_card, has_data};
+use jcl_cards::dd::{DdCard, dd_card, dd_name_fault, has_data};
 use jcl_cards::exec::{ExecCard, Runs, exec_card};
 use jcl_cards::merging::by_itself;
 use jcl_deck::dd_place::dd_place_fault;
 use jcl_deck::operation::{Operation, operation_of};
+use jcl_deck::place::{earliest, with_fault};
 use jcl_plan::fault::{Cause, StatementFault};
 use jcl_plan::plan::AfterAbend;
 use jcl_symbols::substitution::substituted;
 use jcl_symbols::symbol::Symbol;
 use jname_core::name8::Name8;
 use list_values::condition::{CodedTests, Condition, copied};
-use operand_core::fault::{earlier, lower, name_fault, when, written_name_fault};
+use operand_core::fault::{earlier, when, written_name_fault};
 use operand_core::keyword::has_key;
 use operand_core::operand::{first_of, operand_of};
-use operand_core::qualified::{head_len, head_of, is_qualified};
+use operand_core::qualified::is_qualified;
 use plain::listed::Listed;
 use plain::text::Text;
 use std::alloc::{AllocError, Global};
@@ -57,28 +56,6 @@ struct Place {
     /// A JOBLIB stands before the first step.
     job_library: bool,
     steps: Vec<FlatStep>,
-}
-
-/// Of two faults, the first of which may be absent, the one that is told.
-fn earliest(first: Option<Cause>, fault: Cause) -> Cause
-    ensures { result ≡ earliest first fault }
-{
-    match first {
-        None => fault,
-        Some(first) => lower(first, fault),
-    }
-}
-
-/// A card with one more fault of its statement, which may be absent.
-fn with_fault<A: Drop>(card: Result<A, ReadError>, fault: Option<Cause>) -> Result<A, ReadError>
-    ensures { GivesWith fault card result }
-{
-    match (card, fault) {
-        (Err(ReadError::Memory), _) => Err(ReadError::Memory),
-        (card, None) => card,
-        (Ok(_), Some(fault)) => Err(ReadError::Refused(fault)),
-        (Err(ReadError::Refused(own)), Some(other)) => Err(ReadError::Refused(lower(own, other))),
-    }
 }
 
 /// An operand with the values of symbols. Where it has a fault, that of the statement's name may be told.
@@ -190,29 +167,6 @@ fn step_of(alloc: Global, caller: &Caller<'_>, card: ExecCard) -> FlatStep
         program: program_of(card.runs),
         condition: condition_or_none(&card.condition),
         dds: Listed::empty(alloc),
-    }
-}
-
-/// What stands behind the first period.
-fn behind_period(name: &[u8]) -> &[u8]
-    ensures { result.now ≡ behind_period name.now }
-{
-    let (_, behind) = name.split_at(head_len(name));
-    match behind.split_first() {
-        Some((_, tail)) => tail,
-        None => behind,
-    }
-}
-
-/// The fault of a DD's name.
-#[tactic(auto, using(operand_core::proofs::Told::told_append))]
-fn dd_name_fault(name: &[u8]) -> Option<Cause>
-    ensures { result ≡ told (dd_name_faults name.now) }
-{
-    if is_qualified(name) {
-        earlier(name_fault(head_of(name)), name_fault(behind_period(name)))
-    } else {
-        written_name_fault(name)
     }
 }
 

@@ -8,8 +8,7 @@ ghost use Rattle.jcl_procs.specs.StepDds.{AreMembers, IsPlace, added, continues,
 ghost use Rattle.jcl_cards.specs.declared.dd.DdCard.{DdCard};
 
 use crate::step::FlatStep;
-use jcl_cards::coded::Coded;
-use jcl_cards::dd::DdCard;
+use jcl_cards::dd::{DdCard, bare_dd};
 use jcl_cards::merging::{by_itself, merged};
 use jcl_plan::fault::{Cause, StatementFault};
 use jname_core::name8::Name8;
@@ -91,27 +90,6 @@ fn is_of_name(name: Option<Name8>, dd: &DdCard) -> bool
     }
 }
 
-/// A DD that codes nothing.
-fn no_dd() -> DdCard {
-    DdCard {
-        qualifier: None,
-        name: None,
-        word: None,
-        set_name: Coded::NotGiven,
-        disposition: Coded::NotGiven,
-        unit: Coded::NotGiven,
-        volume: Coded::NotGiven,
-        space: Coded::NotGiven,
-        sysout: Coded::NotGiven,
-        dd_name: Coded::NotGiven,
-        label: Coded::NotGiven,
-        control_blocks: Coded::NotGiven,
-        character_set: Coded::NotGiven,
-        forms_control: Coded::NotGiven,
-        output_limit: Coded::NotGiven,
-    }
-}
-
 /// Puts a DD in the place of another.
 fn put_dd(dds: &mut [DdCard], n: usize, dd: DdCard)
     requires { n < length dds.old }
@@ -154,7 +132,7 @@ fn take_dd(dds: &mut [DdCard], n: usize) -> DdCard
     ensures len { length dds.new ≡ length dds.old }
     ensures others { (dd : DdCard) → with_dd dds.new n dd ≡ with_dd dds.old n dd }
 {
-    replace(&mut dds[n], no_dd())
+    replace(&mut dds[n], bare_dd())
 }
 
 /// A DD of a step merged with its override.
