@@ -6,7 +6,7 @@ ghost use Rattle.cb_meaning.specs.Readings.{name_read};
 ghost use Rattle.cb_meaning.specs.Writable.{IsName};
 
 use cb_walk::texts::{is_blank, trimmed};
-use jname_core::ds_name::{DsName, faults_are_exact, read_base, read_ds_name};
+use jname_core::ds_name::DsName;
 use jname_core::name8::Name8;
 use jname_core::serial::Serial;
 
@@ -15,11 +15,7 @@ pub(crate) fn name8(text: &[u8]) -> Name8
     requires { IsName8 (trimmed text.now) }
     ensures { result ≡ trimmed text.now }
 {
-    faults_are_exact();
-    match Name8::read(trimmed(text)) {
-        Ok(name) => name,
-        Err(_) => unreachable!(),
-    }
+    Name8::of(trimmed(text))
 }
 
 /// A name, or none of a blank field.
@@ -39,11 +35,7 @@ pub(crate) fn ds_name(text: &[u8]) -> DsName
     requires { IsDsNameWithin 44 (trimmed text.now) }
     ensures { result ≡ trimmed text.now }
 {
-    faults_are_exact();
-    match read_ds_name(trimmed(text)) {
-        Ok(name) => name,
-        Err(_) => unreachable!(),
-    }
+    DsName::of(trimmed(text))
 }
 
 /// The base of a group, of a field that holds one.
@@ -51,11 +43,7 @@ pub(crate) fn base(text: &[u8]) -> DsName
     requires { IsDsNameWithin 35 (trimmed text.now) }
     ensures { result ≡ trimmed text.now }
 {
-    faults_are_exact();
-    match read_base(trimmed(text)) {
-        Ok(name) => name,
-        Err(_) => unreachable!(),
-    }
+    DsName::of_base(trimmed(text))
 }
 
 /// The serial of a field that holds one.
@@ -63,8 +51,5 @@ pub(crate) fn serial(text: &[u8]) -> Serial
     requires { IsSerial (trimmed text.now) }
     ensures { result ≡ trimmed text.now }
 {
-    match Serial::read(trimmed(text)) {
-        Some(serial) => serial,
-        None => unreachable!(),
-    }
+    Serial::of(trimmed(text))
 }

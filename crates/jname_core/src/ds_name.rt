@@ -193,13 +193,29 @@ fn read_within(text: &[u8], limit: usize) -> Result<DsName, NameFault>
 {
     match ds_name_fault(text, limit) {
         Some(fault) => Err(fault),
-        None => Ok(DsName {
-            text: Short::new(text),
-        }),
+        None => Ok(DsName::of(text)),
     }
 }
 
 impl DsName {
+    /// The data set name that the text is known to be, with no look at it.
+    pub fn of(text: &[u8]) -> DsName
+        requires { IsDsNameWithin 44 text.now }
+        ensures { result ≡ text.now }
+    {
+        DsName {
+            text: Short::new(text),
+        }
+    }
+
+    /// The base of a group that the text is known to be, with no look at it.
+    pub fn of_base(base: &[u8]) -> DsName
+        requires { IsDsNameWithin 35 base.now }
+        ensures { result ≡ base.now }
+    {
+        DsName::of(base)
+    }
+
     pub fn as_slice(&self) -> &[u8]
         ensures value { result.now ≡ self.now }
         ensures name { IsDotted 44 self.now }

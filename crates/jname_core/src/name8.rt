@@ -115,9 +115,17 @@ impl Name8 {
     {
         match name8_fault(text) {
             Some(fault) => Err(fault),
-            None => Ok(Name8 {
-                text: Short::new(text),
-            }),
+            None => Ok(Name8::of(text)),
+        }
+    }
+
+    /// The name that the text is known to be, with no look at it.
+    pub fn of(text: &[u8]) -> Name8
+        requires { IsName8 text.now }
+        ensures { result ≡ text.now }
+    {
+        Name8 {
+            text: Short::new(text),
         }
     }
 

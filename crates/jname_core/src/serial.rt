@@ -42,9 +42,17 @@ impl Serial {
         if is_no_serial(text) {
             None
         } else {
-            Some(Serial {
-                text: Short::new(text),
-            })
+            Some(Serial::of(text))
+        }
+    }
+
+    /// The serial that the text is known to be, with no look at it.
+    pub fn of(text: &[u8]) -> Serial
+        requires { IsSerial text.now }
+        ensures { result ≡ text.now }
+    {
+        Serial {
+            text: Short::new(text),
         }
     }
 
