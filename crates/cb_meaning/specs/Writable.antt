@@ -16,13 +16,14 @@ use Rattle.jcl_plan.specs.declared.plan.Space.{Space}
 use Rattle.jcl_plan.specs.declared.plan.StepPlan.{StepPlan}
 use Rattle.jcl_plan.specs.declared.plan.Test.{Test}
 use Rattle.jcl_plan.specs.declared.plan.VolumePlan.{VolumePlan}
+use Rattle.jcl_plan.specs.declared.plan.TheConstants.{MOST_DDS, MOST_TRACKS}
 use Rattle.jcl_plan.specs.declared.plan.VolumePlan.TheVariants as volume
 
 abbrev pub most_dds : ℕ
-most_dds = 64
+most_dds = MOST_DDS
 
 abbrev pub most_tracks : ℕ
-most_tracks = 4000
+most_tracks = MOST_TRACKS
 
 abbrev pub IsName : Option (List ℕ) → Type 0
 IsName None = Unit {0}

@@ -18,7 +18,8 @@ use Rattle.vtoc_core.specs.Extents.{free_extents, planned}
 use Rattle.vtoc_core.specs.Volumes.{first_tracks, marked}
 use Rattle.vtoc_core.specs.declared.volume.Track.TheVariants.{InSet}
 use Rattle.mount_core.specs.Mounts.{MountedState, holds}
-use Rattle.machine_meaning.specs.declared.config.TheConstants.{LAST_INITIATOR, MOST_TRACKS, MOST_UNITS, MOST_VOLUMES}
+use Rattle.jcl_plan.specs.declared.plan.TheConstants.{MOST_TRACKS}
+use Rattle.machine_meaning.specs.declared.config.TheConstants.{LAST_INITIATOR, MOST_UNITS, MOST_VOLUMES}
 use Rattle.machine_meaning.specs.declared.config.ConfigFault.{ConfigFault}
 use Rattle.machine_meaning.specs.declared.config.ConfigFault.TheVariants.{BadValue, DefinedTwice}
 use Rattle.machine_meaning.specs.declared.config.ConfiguredInitiator.{ConfiguredInitiator}

@@ -14,14 +14,14 @@ use crate::sets::{enter_set, has_room, place_of};
 use crate::units::Units;
 use cat_core::catalog::Catalog;
 use extent_core::extent::Extent;
-use jcl_plan::plan::RECORDS_A_TRACK;
+use jcl_plan::plan::{MOST_TRACKS, RECORDS_A_TRACK};
 use jcl_refs::units::UnitNames;
 use jname_core::ds_name::{DsName, MOST_OF_A_BASE};
 use jname_core::name8::{Name8, UnitName};
 use jname_core::serial::Serial;
 use kept_requests::requests::{Requests, SharedRequests};
 use machine_meaning::config::{
-    ConfigFault, ConfiguredInitiator, LAST_INITIATOR, MOST_TRACKS, MOST_UNITS, MOST_VOLUMES,
+    ConfigFault, ConfiguredInitiator, LAST_INITIATOR, MOST_UNITS, MOST_VOLUMES,
 };
 use mount_core::mounted::Mounted;
 use plain::lent::Lent;

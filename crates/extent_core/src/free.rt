@@ -1,5 +1,6 @@
 //! The free extents of a volume.
 ghost use Rattle.std.specs.Prelude.{◌≡◌, ◌≤◌, ◌==◌, false, true, find, length, replicate, Contains, IfOk};
+ghost use Rattle.jcl_plan.specs.declared.plan.TheConstants.{MOST_TRACKS};
 ghost use Rattle.extent_core.specs.Extents.{AreApart, IsTaken, first_of, free_extents, largest_of, marked};
 ghost use Rattle.extent_core.specs.declared.extent.Extent.{Extent};
 
@@ -34,7 +35,7 @@ impl Model for FreeExtents {
 impl FreeExtents {
     /// A volume of so many tracks of which none is free. No other call takes memory.
     pub fn new(alloc: Global, tracks: u16) -> Result<FreeExtents, AllocError>
-        requires { tracks ≤ 4000 }
+        requires { tracks ≤ MOST_TRACKS }
         ensures { IfOk result (λ f. f ≡ replicate tracks false) }
     {
         let count = usize::from(tracks);

@@ -16,6 +16,18 @@ pub type Record = [u8; 80];
 /// How many records a track holds. (This profile)
 pub const RECORDS_A_TRACK: usize = 32;
 
+/// The most steps of a job. (This profile)
+pub const MOST_STEPS: usize = 32;
+
+/// The most DDs of a step. (This profile)
+pub const MOST_DDS: usize = 64;
+
+/// The most data set names that a job holds. (This profile)
+pub const MOST_NAMES: usize = 255;
+
+/// The most tracks of a volume, and so of a space. (This profile)
+pub const MOST_TRACKS: u16 = 4_000;
+
 /// How a test compares its code with a completion code. (COND parameter)
 #[derive(Clone, Copy, PartialEq, Eq)]
 pub enum Operator {

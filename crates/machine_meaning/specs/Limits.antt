@@ -1,10 +1,15 @@
 -- The limits of the machine, as numbers. (This profile)
 use Rattle.std.specs.Prelude.{◌≡◌}
-use Rattle.machine_meaning.specs.declared.config.TheConstants.{LAST_INITIATOR, MOST_TRACKS, MOST_UNITS, MOST_VOLUMES}
+use Rattle.jcl_plan.specs.declared.plan.TheConstants.{MOST_DDS, MOST_NAMES, MOST_STEPS, MOST_TRACKS}
+use Rattle.machine_meaning.specs.declared.config.TheConstants.{LAST_INITIATOR, MOST_UNITS, MOST_VOLUMES}
 use Rattle.machine_meaning.specs.declared.machine.TheConstants.{MOST_EVENTS, MOST_JOBS}
 
--- 16 volumes of 4,000 tracks each at most, 65,535 unit names, initiators 1 to 15, 65,535 events, job numbers to 9,999
+-- Jobs of 32 steps, 64 DDs a step and 255 data set names at most; 16 volumes of 4,000 tracks each, 65,535 unit names, initiators 1 to 15, 65,535
+-- events, job numbers to 9,999.
 pub record AreThoseOfTheProfile : Type 0 where
+  pub steps : MOST_STEPS ≡ 32
+  pub dds : MOST_DDS ≡ 64
+  pub names : MOST_NAMES ≡ 255
   pub volumes : MOST_VOLUMES ≡ 16
   pub tracks : MOST_TRACKS ≡ 4000
   pub units : MOST_UNITS ≡ 65535

@@ -7,9 +7,6 @@ use plain::short::Short;
 /// The most volumes.
 pub const MOST_VOLUMES: usize = 16;
 
-/// The most tracks of a volume.
-pub const MOST_TRACKS: u16 = 4_000;
-
 /// The most unit names.
 pub const MOST_UNITS: usize = 65_535;
 

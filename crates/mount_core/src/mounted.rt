@@ -1,6 +1,7 @@
 //! A mounted volume.
 ghost use Rattle.std.specs.Prelude.{◌≡◌, ◌≢◌, ℕ, ◌+◌, ◌==◌, if◌then◌else◌, length, ◌≤◌, ◌<◌, ◌↔◌, ◌++◌, ◌∷◌, [], List, IsErr, false, true, Some, None, Err, IfErr, IfNone, IfOk, IfSome, IsSome, OnErr, OnOk};
 ghost use Rattle.std.specs.FinMap as map;
+ghost use Rattle.jcl_plan.specs.declared.plan.TheConstants.{MOST_TRACKS};
 ghost use Rattle.extent_core.specs.declared.extent.Extent.{Extent};
 ghost use Rattle.vtoc_core.specs.Entries.{changed, with_extents, with_records};
 ghost use Rattle.vtoc_core.specs.Extents.{five_largest, free_extents, kept_front, past_front, planned, tracks_in};
@@ -51,7 +52,7 @@ impl Mounted {
         tracks: u16,
         unusable: &[Extent],
     ) -> Result<Mounted, AllocError>
-        requires { tracks ≤ 4000 }
+        requires { tracks ≤ MOST_TRACKS }
         ensures { IfOk result (λ m. m ≡ record { serial = serial; volume = record { tracks = first_tracks tracks unusable.now; sets = map.empty }; kept = map.empty }) }
     {
         let volume = Volume::new(alloc, tracks, unusable)?;

@@ -7,6 +7,7 @@ use Rattle.jcl_plan.specs.declared.fault.Cause.{Cause}
 use Rattle.jcl_plan.specs.declared.fault.Cause.TheVariants.{P}
 use Rattle.jcl_plan.specs.declared.fault.StatementFault.TheVariants.{BadValue, LeftOut}
 use Rattle.jcl_plan.specs.declared.plan.Space.{Space}
+use Rattle.jcl_plan.specs.declared.plan.TheConstants.{MOST_TRACKS}
 use Rattle.operand_core.specs.Faults.{when}
 use Rattle.operand_core.specs.Subparameters.{first_place, inside, is_wrapped, subparameters_of}
 use Rattle.operand_core.specs.Operands.{places_of}
@@ -15,7 +16,7 @@ use Rattle.value_core.specs.declared.space.SpaceUnit.TheVariants.{Tracks, Cylind
 use Rattle.value_core.specs.Reads.{Read, bad, good}
 
 abbrev pub most_tracks : ℕ
-most_tracks = 4000
+most_tracks = MOST_TRACKS
 
 abbrev pub bytes_a_track : ℕ
 bytes_a_track = 7294

@@ -9,14 +9,11 @@ ghost use Rattle.value_core.specs.Spaces.{IsUnit, directory_faults, further, fur
 use crate::decimal::capped;
 use crate::reads::both;
 use jcl_plan::fault::{Cause, StatementFault};
-use jcl_plan::plan::Space;
+use jcl_plan::plan::{MOST_TRACKS, Space};
 use jname_core::decimal::number_within;
 use operand_core::fault::{earlier, when};
 use operand_core::places::Places;
 use operand_core::subparameter::{inside, is_wrapped};
-
-/// The most tracks that are asked for at once.
-const MOST_TRACKS: u64 = 4000;
 
 /// How many bytes fill a track.
 const BYTES_A_TRACK: u64 = 7294;
@@ -64,7 +61,7 @@ fn quantity(unit: SpaceUnit, text: &[u8]) -> Option<u16>
     ensures { (name : List ℕ) → IsUnit name unit → result ≡ quantity_in name text.now }
 {
     let tracks = tracks_in(unit, capped(text)?);
-    if tracks <= MOST_TRACKS {
+    if tracks <= u64::from(MOST_TRACKS) {
         Some(tracks as u16)
     } else {
         None

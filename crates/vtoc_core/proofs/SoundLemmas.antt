@@ -5,6 +5,7 @@ use Rattle.std.specs.List.{flat_map, slice_get}
 use Rattle.std.proofs.lemmas.Bool.{cases_Bool, cases_lt}
 use Rattle.std.proofs.lemmas.List.{get_or-replicate, length-replicate}
 use Rattle.std.proofs.lemmas.Option.{get_or_from_slice_get, slice_get_within, same_Some}
+use Rattle.jcl_plan.specs.declared.plan.TheConstants.{MOST_TRACKS}
 use Rattle.extent_core.specs.declared.extent.Extent.{Extent}
 use Rattle.vtoc_core.specs.declared.entry.SetEntry.{SetEntry}
 use Rattle.vtoc_core.specs.declared.entry.SetKey.{SetKey}
@@ -129,7 +130,7 @@ nothing_of_empty = ap (λ es. flat_map (λ (s : SetKey × SetEntry). s.1.extents
 none_of_empty : (k : ℕ) → times_in k (extents_of_all empty) ≡ 0
 none_of_empty k = ap (times_in k) nothing_of_empty
 
-pub sound_first : (n : ℕ) (es : List Extent) → n ≤ 4000 → IsSoundVolume (record { tracks = first_tracks n es; sets = empty })
+pub sound_first : (n : ℕ) (es : List Extent) → n ≤ MOST_TRACKS → IsSoundVolume (record { tracks = first_tracks n es; sets = empty })
 sound_first n es l = record {
   in_sets = record {
     kinds = λ k m. absurd (omega (arith, none_of_empty k));
@@ -211,7 +212,7 @@ past_tracks v n key e h s =
     }
 
 -- and lie on the volume
-pub set_below : (v : VolumeState) (key : SetKey) (e : SetEntry) (k : ℕ) → get v.sets key ≡ Some e → 0 < times_in k e.extents.items → IsSoundVolume v → k < 4000
+pub set_below : (v : VolumeState) (key : SetKey) (e : SetEntry) (k : ℕ) → get v.sets key ≡ Some e → 0 < times_in k e.extents.items → IsSoundVolume v → k < MOST_TRACKS
 set_below v key e k h l s =
     let a : AreOf InSet v.tracks e.extents.items = set_tracks v key e h s in
     omega (arith, slice_get_within v.tracks k InSet (a.kinds k l), s.size)

@@ -1,5 +1,6 @@
 -- What a table of tracks keeps beside them once some are marked.
 use Rattle.std.proofs.Common.{◌≡◌, ◌≢◌, ℕ, ◌≤◌, true, false, Bool, List, length, Some, None, ap, sym, ◌∙◌, subst, arith}
+use Rattle.jcl_plan.specs.declared.plan.TheConstants.{MOST_TRACKS}
 use Rattle.extent_core.specs.declared.extent.Extent.{Extent}
 use Rattle.vtoc_core.specs.declared.volume.Track.{Track}
 use Rattle.vtoc_core.specs.declared.volume.Track.TheVariants.{Free}
@@ -13,10 +14,10 @@ use Rattle.vtoc_core.proofs.KindLemmas.{are_of-marked, marked_back}
 use Rattle.vtoc_core.proofs.MarkLemmas.{length-marked}
 use Rattle.vtoc_core.proofs.PlanLemmas.{IsPlan, planned_is, planned_refused, planned_some}
 
-pub table_kept : (to : Track) (es : List Extent) (ts us ws : List Track) (counts : TrackCounts) (free : List Bool) → us ≡ marked to es ts → ws ≡ marked to es ts → length ts ≤ 4000 →
-    Counted counts ws → free ≡ are_free (marked to es ts) → Counted counts us × (length us ≤ 4000) × (free ≡ are_free us)
+pub table_kept : (to : Track) (es : List Extent) (ts us ws : List Track) (counts : TrackCounts) (free : List Bool) → us ≡ marked to es ts → ws ≡ marked to es ts → length ts ≤ MOST_TRACKS →
+    Counted counts ws → free ≡ are_free (marked to es ts) → Counted counts us × (length us ≤ MOST_TRACKS) × (free ≡ are_free us)
 table_kept to es ts us ws counts free p q l c f =
-    subst (λ (xs : List Track). Counted counts xs × (length xs ≤ 4000) × (free ≡ are_free xs)) (sym p)
+    subst (λ (xs : List Track). Counted counts xs × (length xs ≤ MOST_TRACKS) × (free ≡ are_free xs)) (sym p)
     (subst (Counted counts) q c, omega (arith, length-marked to es ts), f)
 
 -- where they are free, once some are free and once some are no longer

@@ -3,6 +3,7 @@ use Rattle.std.specs.Prelude.{◌≡◌, ◌≢◌, ◌≤◌, ◌<◌, ℕ, ◌
 use Rattle.std.specs.Coded.{Coded, code_by, coded×, coded_bool, coded_list}
 use Rattle.std.specs.FinMap.{entries, get}
 use Rattle.std.specs.List.{list_any, flat_map}
+use Rattle.jcl_plan.specs.declared.plan.TheConstants.{MOST_TRACKS}
 use Rattle.extent_core.specs.declared.extent.Extent.{Extent}
 use Rattle.extent_core.specs.Extents.{is_in}
 use Rattle.vtoc_core.specs.declared.entry.SetEntry.{SetEntry}
@@ -138,7 +139,7 @@ extents_of_all sets = flat_map (λ s. s.1.extents.items) (entries sets)
 pub record IsSoundVolume (v : VolumeState) : Type 0 where
   pub in_sets : AreOf InSet v.tracks (extents_of_all v.sets)
   pub no_others : (track : ℕ) → slice_get v.tracks track ≡ Some InSet → 0 < times_in track (extents_of_all v.sets)
-  pub size : length v.tracks ≤ 4000
+  pub size : length v.tracks ≤ MOST_TRACKS
 
 -- no track lies in an extent of both lists
 abbrev pub LieApart : List Extent → List Extent → Type 0

@@ -1,5 +1,6 @@
 //! The search for space: which free extents are taken for a number of tracks.
 ghost use Rattle.std.specs.Prelude.{◌≡◌, ◌≤◌, [], List, Bool, Some, None, IfOk, IsTrue, IsFalse, MatchOption, false, true, length};
+ghost use Rattle.jcl_plan.specs.declared.plan.TheConstants.{MOST_TRACKS};
 ghost use Rattle.extent_core.specs.Extents.{free_extents};
 ghost use Rattle.vtoc_core.specs.Extents.{are_free, is_free_track, largest_taken, planned};
 ghost use Rattle.vtoc_core.specs.Searches.{TakenInTurn, WereTaken, marked_each};
@@ -23,7 +24,7 @@ fn is_free(track: Track) -> bool
 
 /// Where tracks are free.
 pub(crate) fn free_among(alloc: Global, tracks: &[Track]) -> Result<FreeExtents, AllocError>
-    requires { length tracks.now ≤ 4000 }
+    requires { length tracks.now ≤ MOST_TRACKS }
     ensures { IfOk result (λ free. free ≡ are_free tracks.now) }
 {
     let mut free = FreeExtents::new(alloc, tracks.len() as u16)?;

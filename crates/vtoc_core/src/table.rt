@@ -1,5 +1,6 @@
 //! The tracks of a volume. Where they are free, and how many are of each kind, is kept beside them.
 ghost use Rattle.std.specs.Prelude.{◌≡◌, ◌≢◌, ◌≤◌, ◌+◌, ◌-◌, IfOk, MatchOption, length, if◌then◌else◌};
+ghost use Rattle.jcl_plan.specs.declared.plan.TheConstants.{MOST_TRACKS};
 ghost use Rattle.vtoc_core.specs.Extents.{tracks_in};
 ghost use Rattle.vtoc_core.specs.Volumes.{AreOf, Counted, IsSpace, LacksSpace, Moves, count_in, first_tracks, is_kind, marked};
 ghost use Rattle.vtoc_core.specs.declared.volume.Track.{Track};
@@ -43,8 +44,8 @@ fn fewer(counts: TrackCounts, kind: Track, tracks: usize) -> TrackCounts
 
 /// The counts with so many tracks of a kind more.
 fn more(counts: TrackCounts, kind: Track, tracks: usize) -> TrackCounts
-    requires few { tracks ≤ 4000 }
-    requires counted { count_in counts kind ≤ 4000 }
+    requires few { tracks ≤ MOST_TRACKS }
+    requires counted { count_in counts kind ≤ MOST_TRACKS }
     ensures { (other : Track) → count_in result other ≡ count_in counts other + (if is_kind other kind then tracks else 0) }
 {
     let mut all = counts;
@@ -60,8 +61,8 @@ fn more(counts: TrackCounts, kind: Track, tracks: usize) -> TrackCounts
 /// The counts once so many tracks of one kind are of another.
 fn shifted(counts: TrackCounts, from: Track, to: Track, tracks: usize) -> TrackCounts
     requires there { tracks ≤ count_in counts from }
-    requires few { tracks ≤ 4000 }
-    requires counted { (kind : Track) → count_in counts kind ≤ 4000 }
+    requires few { tracks ≤ MOST_TRACKS }
+    requires counted { (kind : Track) → count_in counts kind ≤ MOST_TRACKS }
     ensures { (other : Track) → count_in result other ≡ count_in counts other - (if is_kind other from then tracks else 0) + (if is_kind other to then tracks else 0) }
 {
     more(fewer(counts, from, tracks), to, tracks)
@@ -76,7 +77,7 @@ fn change(
     extents: &[Extent],
 ) -> TrackCounts
     requires few { length extents.now ≤ 16 }
-    requires size { length tracks.old ≤ 4000 }
+    requires size { length tracks.old ≤ MOST_TRACKS }
     requires counted { Counted counts tracks.old }
     requires kinds { AreOf from tracks.old extents.now }
     requires apart { from ≢ to }
@@ -97,6 +98,7 @@ pub(crate) struct TrackTable {
 
 impl Model for TrackTable {
     ghost use Rattle.std.specs.Prelude.{List, ◌≡◌, ◌≤◌, length};
+    ghost use Rattle.jcl_plan.specs.declared.plan.TheConstants.{MOST_TRACKS};
     ghost use Rattle.vtoc_core.specs.Extents.{are_free};
     ghost use Rattle.vtoc_core.specs.Volumes.{Counted};
     ghost use Rattle.vtoc_core.specs.declared.volume.Track.{Track};
@@ -105,7 +107,7 @@ impl Model for TrackTable {
 
     ghost view = { λ t. t.tracks.items };
 
-    ghost invariant = { λ t. Counted t.counts t.tracks.items × (length t.tracks.items ≤ 4000) × (t.free ≡ are_free t.tracks.items) };
+    ghost invariant = { λ t. Counted t.counts t.tracks.items × (length t.tracks.items ≤ MOST_TRACKS) × (t.free ≡ are_free t.tracks.items) };
 }
 
 impl TrackTable {
@@ -115,7 +117,7 @@ impl TrackTable {
         tracks: u16,
         unusable: &[Extent],
     ) -> Result<TrackTable, AllocError>
-        requires { tracks ≤ 4000 }
+        requires { tracks ≤ MOST_TRACKS }
         ensures { IfOk result (λ t. t ≡ first_tracks tracks unusable.now) }
     {
         let mut all = vec![in alloc; Track::Free; usize::from(tracks)]?;
@@ -131,7 +133,7 @@ impl TrackTable {
 
     pub(crate) fn counts(&self) -> TrackCounts
         ensures counted { Counted result self.now }
-        ensures size { length self.now ≤ 4000 }
+        ensures size { length self.now ≤ MOST_TRACKS }
     {
         let _ = &self.tracks;
         self.counts

@@ -4,6 +4,7 @@ ghost use Rattle.std.specs.FinMap as map;
 ghost use Rattle.std.specs.Option.{option_copied};
 ghost use Rattle.std.specs.Ordering.{is_gt};
 ghost use Rattle.std.specs.declared.ops.Bound.TheVariants.{Excluded, Included, Unbounded};
+ghost use Rattle.jcl_plan.specs.declared.plan.TheConstants.{MOST_TRACKS};
 ghost use Rattle.vtoc_core.specs.Entries.{LacksRecords, changed, key_cmp, set_among, set_within, with_extents, with_records};
 ghost use Rattle.vtoc_core.specs.Extents.{five_largest, free_extents, is_free_track, kept_front, past_front, planned, tracks_in};
 ghost use Rattle.vtoc_core.specs.Volumes.{AnswersGrow, AnswersMake, AnswersWrite, AreOf, IsAside, IsSoundVolume, Moves, count_of, first_tracks, marked, tracks_past};
@@ -69,7 +70,7 @@ impl Model for Volume {
 impl Volume {
     /// A volume of 1 to 4,000 tracks without a set. The tracks of these extents are never free.
     pub fn new(alloc: Global, tracks: u16, unusable: &[Extent]) -> Result<Volume, AllocError>
-        requires { tracks ≤ 4000 }
+        requires { tracks ≤ MOST_TRACKS }
         ensures { IfOk result (λ v. v ≡ record { tracks = first_tracks tracks unusable.now; sets = map.empty }) }
     {
         Ok(Volume {

@@ -1,5 +1,6 @@
 use Rattle.std.proofs.Common.{◌≡◌, ◌<◌, ℕ, List, Some, ap, sym, subst, ◌∙◌, arith}
 use Rattle.std.specs.FinMap.{get, insert}
+use Rattle.jcl_plan.specs.declared.plan.TheConstants.{MOST_TRACKS}
 use Rattle.extent_core.specs.declared.extent.Extent.{Extent}
 use Rattle.vtoc_core.specs.declared.entry.SetEntry.{SetEntry}
 use Rattle.vtoc_core.specs.declared.volume.Track.TheVariants.{Free, InSet}
@@ -15,7 +16,7 @@ pub cut-kept-requires-clause-below : goal.cut-kept-requires-clause-below
 cut-kept-requires-clause-below c = λ k l.
     let v : VolumeState = record { tracks = c.self.inside.tracks; sets = sets_of c.self.inside.sets.entries } in
     let m : 0 < times_in k c.in-Some.entry.now.extents.items = subst (λ es. 0 < times_in k es) c.as_slice.ensures.value l in
-    let b : k < 4000 = set_below v c.args.key.now c.in-Some.entry.now k (sym c.in-Some.ensures) m c.self.invariant in
+    let b : k < MOST_TRACKS = set_below v c.args.key.now c.in-Some.entry.now k (sym c.in-Some.ensures) m c.self.invariant in
     omega arith
 
 pub set_free-requires-clause-kinds : goal.set_free-requires-clause-kinds
