@@ -1,35 +1,34 @@
 //! The cards of a DD.
-ghost use Rattle.std.specs.Prelude.{◌≡◌, ◌+◌, ◌≤◌, ◌++◌, IfOk, OnOk};
-ghost use Rattle.cb_meaning.specs.declared.layout.TheConstants.{RECORD_BYTES};
-ghost use Rattle.cb_meaning.specs.Fields.{part};
+ghost use Rattle.std.specs.Prelude.{◌≡◌, ◌+◌, ◌++◌, IfOk, OnOk, length};
 ghost use Rattle.cb_meaning.specs.Readings.{cards_of_record};
 ghost use Rattle.cb_read.specs.Chains.{cards_from};
+ghost use Rattle.cb_read.specs.Kinds.{AreCards};
 
-use cb_meaning::layout::Field;
 use cb_queue::store::RecordStore;
+use cb_records::cards::CardsView;
 use cb_records::rec::Rec;
 use cb_walk::arrival::bring;
 use jcl_plan::plan::Record;
 use plain::listed::Listed;
 use std::alloc::{AllocError, Global};
 
-/// The card that begins at a byte.
-fn card(r: &Rec, at: u8) -> Record
-    requires { at + 80 ≤ RECORD_BYTES }
-    ensures { result ≡ part r.now at 80 }
+/// A card of its own.
+fn card(text: &[u8]) -> Record
+    requires { length text.now ≡ 80 }
+    ensures { result ≡ text.now }
 {
     let mut card = [0; 80];
-    card.copy_from_slice(r.text(Field { at, width: 80 }));
+    card.copy_from_slice(text);
     card
 }
 
 /// Adds the cards of one record.
-fn add_cards(cards: &mut Listed<Record>, r: &Rec) -> Result<(), AllocError>
-    ensures { OnOk result (cards.new ≡ cards.old ++ cards_of_record r.now) }
+fn add_cards(cards: &mut Listed<Record>, r: &CardsView<'_>) -> Result<(), AllocError>
+    ensures { OnOk result (cards.new ≡ cards.old ++ cards_of_record r.now.bytes.now) }
 {
-    cards.push(card(r, 16))?;
-    if r.byte(10) == 2 {
-        cards.push(card(r, 96))?;
+    cards.push(card(r.first()))?;
+    if r.count() == 2 {
+        cards.push(card(r.second()))?;
     }
     Ok(())
 }
@@ -40,6 +39,7 @@ pub(crate) fn cards_read<S: RecordStore>(
     store: &S,
     first: u32,
 ) -> Result<Listed<Record>, AllocError>
+    requires { AreCards (S.queue store.now) ((S.queue store.now).layout.most_records + 1) first }
     ensures { IfOk result (λ cards. cards ≡ cards_from (S.queue store.now) first) }
 {
     let layout = store.layout();
@@ -52,8 +52,9 @@ pub(crate) fn cards_read<S: RecordStore>(
             return Ok(cards);
         }
         bring(store, n, &mut r);
-        add_cards(&mut cards, &r)?;
-        n = r.number(layout.next_cards);
+        let view = CardsView { bytes: &r, layout };
+        add_cards(&mut cards, &view)?;
+        n = view.next();
         left -= 1;
     }
     Ok(cards)

@@ -1,44 +1,58 @@
 //! The DDs of a step.
-ghost use Rattle.std.specs.Prelude.{◌≡◌, All, IfOk};
+ghost use Rattle.std.specs.Prelude.{◌≡◌, ◌+◌, All, IfOk};
 ghost use Rattle.cb_read.specs.Chains.{dd_of, dds_from, kind_of};
+ghost use Rattle.cb_read.specs.Kinds.{AreDds, IsBelowOfKind};
 ghost use Rattle.cb_read.specs.Ranges.{IsDdInRange, IsKindInRange};
 
 use crate::cards::cards_read;
 use crate::names::name_read;
 use crate::records::record;
 use crate::set::set_read;
-use cb_meaning::layout::Field;
 use cb_queue::store::RecordStore;
+use cb_records::jfcb::JfcbView;
 use cb_records::rec::Rec;
+use cb_records::siot::{SiotView, has_cards, is_set, is_sysout};
 use cb_walk::arrival::bring;
 use jcl_plan::plan::{DdKind, DdPlan};
 use plain::listed::Listed;
 use std::alloc::{AllocError, Global};
 
 /// What a DD is, by its SIOT.
-fn kind_read<S: RecordStore>(alloc: Global, store: &S, s: &Rec) -> Result<DdKind, AllocError>
-    requires { IsKindInRange (kind_of (S.queue store.now) s.now) }
-    ensures { IfOk result (λ kind. kind ≡ kind_of (S.queue store.now) s.now) }
+fn kind_read<S: RecordStore>(
+    alloc: Global,
+    store: &S,
+    s: &SiotView<'_>,
+) -> Result<DdKind, AllocError>
+    requires layout { s.now.layout.now ≡ (S.queue store.now).layout }
+    requires range { IsKindInRange (kind_of (S.queue store.now) s.now.bytes.now) }
+    requires kinds { IsBelowOfKind (S.queue store.now) s.now.bytes.now }
+    ensures { IfOk result (λ kind. kind ≡ kind_of (S.queue store.now) s.now.bytes.now) }
 {
-    let below = s.number(store.layout().below);
-    if s.byte(12) == 1 {
-        Ok(DdKind::Set(set_read(s, &record(store, below))))
-    } else if s.byte(12) == 3 {
-        Ok(DdKind::Sysout(s.byte(25)))
-    } else if s.byte(12) == 4 {
-        Ok(DdKind::Cards(cards_read(alloc, store, below)?))
+    if is_set(s.bytes) {
+        let bytes = record(store, s.below());
+        let jfcb = JfcbView {
+            bytes: &bytes,
+            layout: s.layout,
+        };
+        Ok(DdKind::Set(set_read(s, &jfcb)))
+    } else if is_sysout(s.bytes) {
+        Ok(DdKind::Sysout(s.class()))
+    } else if has_cards(s.bytes) {
+        Ok(DdKind::Cards(cards_read(alloc, store, s.below())?))
     } else {
         Ok(DdKind::Dummy)
     }
 }
 
 /// A DD, of its SIOT.
-fn dd_read<S: RecordStore>(alloc: Global, store: &S, s: &Rec) -> Result<DdPlan, AllocError>
-    requires { IsDdInRange (dd_of (S.queue store.now) s.now) }
-    ensures { IfOk result (λ dd. dd ≡ dd_of (S.queue store.now) s.now) }
+fn dd_read<S: RecordStore>(alloc: Global, store: &S, s: &SiotView<'_>) -> Result<DdPlan, AllocError>
+    requires layout { s.now.layout.now ≡ (S.queue store.now).layout }
+    requires range { IsDdInRange (dd_of (S.queue store.now) s.now.bytes.now) }
+    requires kinds { IsBelowOfKind (S.queue store.now) s.now.bytes.now }
+    ensures { IfOk result (λ dd. dd ≡ dd_of (S.queue store.now) s.now.bytes.now) }
 {
     Ok(DdPlan {
-        name: name_read(s.text(Field { at: 16, width: 8 })),
+        name: name_read(s.name()),
         kind: kind_read(alloc, store, s)?,
     })
 }
@@ -49,7 +63,8 @@ pub(crate) fn dds_read<S: RecordStore>(
     store: &S,
     first: u32,
 ) -> Result<Listed<DdPlan>, AllocError>
-    requires { All IsDdInRange (dds_from (S.queue store.now) first) }
+    requires range { All IsDdInRange (dds_from (S.queue store.now) first) }
+    requires kinds { AreDds (S.queue store.now) ((S.queue store.now).layout.most_records + 1) first }
     ensures { IfOk result (λ dds. dds ≡ dds_from (S.queue store.now) first) }
 {
     let layout = store.layout();
@@ -62,8 +77,9 @@ pub(crate) fn dds_read<S: RecordStore>(
             return Ok(dds);
         }
         bring(store, n, &mut r);
-        dds.push(dd_read(alloc, store, &r)?)?;
-        n = r.number(layout.next_dd);
+        let view = SiotView { bytes: &r, layout };
+        dds.push(dd_read(alloc, store, &view)?)?;
+        n = view.next();
         left -= 1;
     }
     Ok(dds)

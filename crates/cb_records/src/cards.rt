@@ -1,11 +1,23 @@
 //! A record of one card or two.
-ghost use Rattle.std.specs.Prelude.{◌≡◌, ◌≢◌, MatchOption};
+ghost use Rattle.std.specs.Prelude.{◌≡◌, ◌≢◌, MatchOption, length};
 ghost use Rattle.cb_meaning.specs.Fields.{byte_at, number_at, part};
 ghost use Rattle.cb_meaning.specs.Spelled.{card_record};
 ghost use Rattle.cb_records.specs.Writes.{FitsRecord};
 
 use crate::rec::Rec;
 use cb_meaning::layout::{Field, Layout};
+
+/// How many cards there are.
+pub const COUNT: u8 = 10;
+
+/// Both cards.
+pub const CARDS: Field = Field { at: 16, width: 160 };
+
+/// The first card.
+pub const FIRST: Field = Field { at: 16, width: 80 };
+
+/// The second card.
+pub const SECOND: Field = Field { at: 96, width: 80 };
 
 /// A record of cards, read by a layout.
 #[derive(Clone, Copy)]
@@ -40,20 +52,22 @@ impl<'a> CardsView<'a> {
     pub fn count(&self) -> u8
         ensures { result ≡ byte_at self.now.bytes.now 10 }
     {
-        self.bytes.byte(10)
+        self.bytes.byte(COUNT)
     }
 
     /// The first card.
     pub fn first(&self) -> &'a [u8]
-        ensures { result.now ≡ part self.now.bytes.now 16 80 }
+        ensures value { result.now ≡ part self.now.bytes.now 16 80 }
+        ensures size { length result.now ≡ 80 }
     {
-        self.bytes.text(Field { at: 16, width: 80 })
+        self.bytes.text(FIRST)
     }
 
     /// The second card, zeros where there is none.
     pub fn second(&self) -> &'a [u8]
-        ensures { result.now ≡ part self.now.bytes.now 96 80 }
+        ensures value { result.now ≡ part self.now.bytes.now 96 80 }
+        ensures size { length result.now ≡ 80 }
     {
-        self.bytes.text(Field { at: 96, width: 80 })
+        self.bytes.text(SECOND)
     }
 }

@@ -6,6 +6,15 @@ ghost use Rattle.cb_records.specs.Writes.{ChangesOnly, HoldsNumber, IsWithin};
 use cb_meaning::layout::{Field, RECORD_BYTES};
 use std::marker::Model;
 
+/// The kind of a record.
+pub const KIND: u8 = 0;
+
+/// The number of the job that owns it.
+pub const OWNER: Field = Field { at: 2, width: 2 };
+
+/// The status of a job, a step or a DD, which is the scheduler's own.
+pub const STATUS: Field = Field { at: 168, width: 8 };
+
 /// A record, which a contract sees as its bytes.
 #[derive(Clone, Copy)]
 pub struct Rec {
@@ -107,14 +116,14 @@ impl Rec {
     pub fn kind(&self) -> u8
         ensures { result ≡ byte_at self.now 0 }
     {
-        self.byte(0)
+        self.byte(KIND)
     }
 
     /// The number of the job that owns the record, 0 of a free one.
     pub fn owner(&self) -> u16
         ensures { result ≡ number_at self.now (field 2 2) }
     {
-        self.short(2)
+        self.short(OWNER.at)
     }
 
     /// Writes one byte.

@@ -1,11 +1,29 @@
 //! The record of a step: SCT.
-ghost use Rattle.std.specs.Prelude.{◌≡◌, ◌≢◌, MatchOption, ◌+◌, ◌*◌, ◌<◌};
+ghost use Rattle.std.specs.Prelude.{◌≡◌, ◌≢◌, MatchOption, length, ◌+◌, ◌*◌, ◌<◌};
 ghost use Rattle.cb_meaning.specs.Fields.{byte_at, field, number_at, part};
 ghost use Rattle.cb_meaning.specs.Spelled.{sct};
 ghost use Rattle.cb_records.specs.Writes.{FitsRecord};
 
-use crate::rec::Rec;
+use crate::rec::{Rec, STATUS};
 use cb_meaning::layout::{Field, Layout};
+
+/// Whether the step runs after an ABEND.
+pub const AFTER_ABEND: u8 = 14;
+
+/// How many tests the step has.
+pub const TEST_COUNT: u8 = 15;
+
+/// The name of the step.
+pub const NAME: Field = Field { at: 16, width: 8 };
+
+/// The name of the procedure's step.
+pub const PROCEDURE_STEP: Field = Field { at: 24, width: 8 };
+
+/// The name of the program.
+pub const PROGRAM: Field = Field { at: 32, width: 8 };
+
+/// Its tests, of five bytes each.
+pub const TESTS: Field = Field { at: 40, width: 40 };
 
 /// A record that is an SCT, read by a layout.
 #[derive(Clone, Copy)]
@@ -54,35 +72,43 @@ impl<'a> SctView<'a> {
     pub fn after_abend(&self) -> u8
         ensures { result ≡ byte_at self.now.bytes.now 14 }
     {
-        self.bytes.byte(14)
+        self.bytes.byte(AFTER_ABEND)
     }
 
     /// How many tests the step has.
     pub fn test_count(&self) -> u8
         ensures { result ≡ byte_at self.now.bytes.now 15 }
     {
-        self.bytes.byte(15)
+        self.bytes.byte(TEST_COUNT)
     }
 
     /// The name of the step, with blanks behind it.
     pub fn name(&self) -> &'a [u8]
         ensures { result.now ≡ part self.now.bytes.now 16 8 }
     {
-        self.bytes.text(Field { at: 16, width: 8 })
+        self.bytes.text(NAME)
     }
 
     /// The name of the procedure's step, with blanks behind it.
     pub fn procedure_step(&self) -> &'a [u8]
         ensures { result.now ≡ part self.now.bytes.now 24 8 }
     {
-        self.bytes.text(Field { at: 24, width: 8 })
+        self.bytes.text(PROCEDURE_STEP)
     }
 
     /// The name of the program, with blanks behind it.
     pub fn program(&self) -> &'a [u8]
         ensures { result.now ≡ part self.now.bytes.now 32 8 }
     {
-        self.bytes.text(Field { at: 32, width: 8 })
+        self.bytes.text(PROGRAM)
+    }
+
+    /// The tests, of five bytes each.
+    pub fn tests(&self) -> &'a [u8]
+        ensures value { result.now ≡ part self.now.bytes.now 40 40 }
+        ensures size { length result.now ≡ 40 }
+    {
+        self.bytes.text(TESTS)
     }
 
     /// The operator of a test, by its number; the tests count from 0.
@@ -113,6 +139,6 @@ impl<'a> SctView<'a> {
     pub fn status_bytes(&self) -> &'a [u8]
         ensures { result.now ≡ part self.now.bytes.now 168 8 }
     {
-        self.bytes.text(Field { at: 168, width: 8 })
+        self.bytes.text(STATUS)
     }
 }

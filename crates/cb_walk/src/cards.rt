@@ -8,6 +8,7 @@ ghost use Rattle.cb_meaning.specs.Walks.{are_printable, card_faults, lowest};
 use crate::fields::{field, is_zero_but};
 use crate::texts::{are_printable, is_zero};
 use cb_meaning::layout::{Field, Layout};
+use cb_records::cards;
 use cb_records::rec::Rec;
 
 fn card_fields(layout: &Layout) -> [Field; 6]
@@ -18,8 +19,8 @@ fn card_fields(layout: &Layout) -> [Field; 6]
         field(2, 2),
         layout.link,
         layout.next_cards,
-        field(10, 1),
-        field(16, 160),
+        field(cards::COUNT, 1),
+        cards::CARDS,
     ]
 }
 
@@ -27,14 +28,15 @@ fn card_fields(layout: &Layout) -> [Field; 6]
 fn is_second_bad(r: &Rec) -> bool
     ensures { result ≡ (byte_at r.now 10 == 2 && not (are_printable (part r.now 96 80)) || (byte_at r.now 10 == 1 && not (list_all (λ b. b == 0) (part r.now 96 80)))) }
 {
-    let second = r.text(Field { at: 96, width: 80 });
-    r.byte(10) == 2 && !are_printable(second) || r.byte(10) == 1 && !is_zero(second)
+    let second = r.text(cards::SECOND);
+    r.byte(cards::COUNT) == 2 && !are_printable(second)
+        || r.byte(cards::COUNT) == 1 && !is_zero(second)
 }
 
 fn are_cards_bad(r: &Rec) -> bool
     ensures { result ≡ (nat_lt (byte_at r.now 10) 1 || nat_lt 2 (byte_at r.now 10) || not (are_printable (part r.now 16 80))) }
 {
-    r.byte(10) < 1 || r.byte(10) > 2 || !are_printable(r.text(Field { at: 16, width: 80 }))
+    r.byte(cards::COUNT) < 1 || r.byte(cards::COUNT) > 2 || !are_printable(r.text(cards::FIRST))
 }
 
 /// The number of the fault of a record of cards, or none.

@@ -9,12 +9,11 @@ use crate::fields::{field, is_zero_but};
 use crate::sets::is_earlier_set;
 use crate::texts::{is_blank, is_name};
 use cb_meaning::layout::{Field, Layout};
-use cb_records::rec::Rec;
+use cb_records::rec::{Rec, STATUS};
+use cb_records::siot::{self, continues, has_cards, has_space, is_set, is_sysout, releases};
+use jcl_plan::plan::MOST_TRACKS;
 use jname_core::character::is_letter_or_digit;
 use plain::listed::Listed;
-
-/// The most tracks of a space.
-const MOST_TRACKS: u16 = 4000;
 
 /// The lowest number of those that hold.
 fn lowest_of_dd(name: bool, words: bool, volume: bool, other: bool) -> Option<u8>
@@ -33,48 +32,10 @@ fn lowest_of_dd(name: bool, words: bool, volume: bool, other: bool) -> Option<u8
     }
 }
 
-/// Whether it is of a set.
-pub(crate) fn is_set(r: &Rec) -> bool
-    ensures { result ≡ is_set r.now }
-{
-    r.byte(12) == 1
-}
-
-fn is_sysout(r: &Rec) -> bool
-    ensures { result ≡ is_sysout r.now }
-{
-    r.byte(12) == 3
-}
-
-/// Whether cards stand below it.
-pub(crate) fn has_cards(r: &Rec) -> bool
-    ensures { result ≡ has_cards r.now }
-{
-    r.byte(12) == 4
-}
-
 fn is_known_kind(r: &Rec) -> bool
     ensures { result ≡ is_known_kind r.now }
 {
-    1 <= r.byte(12) && r.byte(12) <= 4
-}
-
-fn continues(r: &Rec) -> bool
-    ensures { result ≡ continues r.now }
-{
-    r.byte(24) & 1 == 1
-}
-
-fn has_space(r: &Rec) -> bool
-    ensures { result ≡ has_space r.now }
-{
-    r.byte(24) & 4 == 4
-}
-
-fn releases(r: &Rec) -> bool
-    ensures { result ≡ releases r.now }
-{
-    r.byte(24) & 2 == 2
+    1 <= r.byte(siot::KIND) && r.byte(siot::KIND) <= 4
 }
 
 /// A field, or where it is not used one of no bytes.
@@ -97,12 +58,12 @@ fn siot_fields(layout: &Layout, r: &Rec) -> [Field; 15]
         layout.next_dd,
         field(12, 1),
         field(16, 9),
-        field(168, 8),
+        STATUS,
         field_if(set, layout.below),
         field_if(set, field(13, 3)),
         field_if(set, field(28, 1)),
         field_if(set, field(34, 6)),
-        field_if(set && r.byte(28) == 3, field(30, 4)),
+        field_if(set && r.byte(siot::VOLUME) == 3, field(30, 4)),
         field_if(is_sysout(r), field(25, 1)),
         field_if(cards, layout.below),
         field_if(cards, layout.cards),
@@ -119,7 +80,7 @@ fn is_rest_zero(layout: &Layout, r: &Rec) -> bool
 fn is_name_bad(r: &Rec) -> bool
     ensures { result ≡ (if continues r.now then not (is_blank (part r.now 16 8)) else not (is_name (part r.now 16 8))) }
 {
-    let name = r.text(Field { at: 16, width: 8 });
+    let name = r.text(siot::NAME);
     if continues(r) {
         !is_blank(name)
     } else {
@@ -130,31 +91,43 @@ fn is_name_bad(r: &Rec) -> bool
 fn set_words_bad(r: &Rec) -> bool
     ensures { result ≡ set_words_bad r.now }
 {
-    r.byte(13) < 1 || r.byte(13) > 4 || r.byte(14) > 5 || r.byte(15) > 5 || r.byte(15) == 3
+    r.byte(siot::DISPOSITION_STATUS) < 1
+        || r.byte(siot::DISPOSITION_STATUS) > 4
+        || r.byte(siot::NORMAL) > 5
+        || r.byte(siot::CONDITIONAL) > 5
+        || r.byte(siot::CONDITIONAL) == 3
 }
 
 /// Whether space stands in an SIOT that has no SPACE.
 fn has_stray_space(r: &Rec) -> bool
     ensures { result ≡ (not (has_space r.now) && (releases r.now || nat_lt 0 (number_at r.now (field 34 2)) || nat_lt 0 (number_at r.now (field 36 2)))) }
 {
-    !has_space(r) && (releases(r) || r.short(34) > 0 || r.short(36) > 0)
+    !has_space(r)
+        && (releases(r) || r.short(siot::PRIMARY.at) > 0 || r.short(siot::SECONDARY.at) > 0)
 }
 
 fn set_numbers_bad(units: u16, r: &Rec) -> bool
     ensures { result ≡ set_numbers_bad units r.now }
 {
-    r.short(34) > MOST_TRACKS
-        || r.short(36) > MOST_TRACKS
+    r.short(siot::PRIMARY.at) > MOST_TRACKS
+        || r.short(siot::SECONDARY.at) > MOST_TRACKS
         || has_stray_space(r)
-        || r.short(38) > units
-        || r.byte(28) > 3
+        || r.short(siot::UNITS.at) > units
+        || r.byte(siot::VOLUME) > 3
 }
 
 /// Whether VOL refers to a DD that is no earlier set.
 fn is_volume_forward(steps: &[Listed<bool>], dds: &[bool], r: &Rec) -> bool
     ensures { result ≡ (is_set r.now && byte_at r.now 28 == 3 && not (is_earlier_set (with_dds steps.now dds.now) (length steps.now + 1) (length dds.now + 1) (number_at r.now (field 30 2)) (number_at r.now (field 32 2)))) }
 {
-    is_set(r) && r.byte(28) == 3 && !is_earlier_set(steps, dds, r.short(30), r.short(32))
+    is_set(r)
+        && r.byte(siot::VOLUME) == 3
+        && !is_earlier_set(
+            steps,
+            dds,
+            r.short(siot::VOLUME_STEP.at),
+            r.short(siot::VOLUME_DD.at),
+        )
 }
 
 /// Whether one that is no set has SPACE, or the release of space.
@@ -167,10 +140,10 @@ fn is_space_stray(r: &Rec) -> bool
 fn are_numbers_bad(units: u16, first: bool, r: &Rec) -> bool
     ensures { result ≡ (nat_lt 7 (byte_at r.now 24) || (continues r.now && first) || (is_set r.now && set_numbers_bad units r.now) || (is_sysout r.now && not (is_letter_or_digit (byte_at r.now 25)))) }
 {
-    r.byte(24) > 7
+    r.byte(siot::MARKS) > 7
         || continues(r) && first
         || is_set(r) && set_numbers_bad(units, r)
-        || is_sysout(r) && !is_letter_or_digit(r.byte(25))
+        || is_sysout(r) && !is_letter_or_digit(r.byte(siot::CLASS))
 }
 
 fn are_words_bad(r: &Rec) -> bool

@@ -9,7 +9,8 @@ use crate::fields::{field, is_zero_but};
 use crate::parts::{are_zero_behind, tests_are_bad};
 use crate::texts::is_name;
 use cb_meaning::layout::{Field, Layout};
-use cb_records::rec::Rec;
+use cb_records::jct;
+use cb_records::rec::{Rec, STATUS};
 use jname_core::character::{is_job_class, is_letter_or_digit};
 
 fn jct_fields(layout: &Layout) -> [Field; 9]
@@ -23,8 +24,8 @@ fn jct_fields(layout: &Layout) -> [Field; 9]
         layout.first_step,
         layout.steps,
         field(16, 9),
-        field(26, 24),
-        field(168, 8),
+        jct::TESTS,
+        STATUS,
     ]
 }
 
@@ -48,22 +49,24 @@ fn lowest_of_job(name: bool, tests: bool, layout: bool, other: bool) -> Option<u
 fn are_classes_bad(r: &Rec) -> bool
     ensures { result ≡ (not (is_job_class (byte_at r.now 9)) || nat_lt 13 (byte_at r.now 10) || not (is_letter_or_digit (byte_at r.now 11))) }
 {
-    !is_job_class(r.byte(9)) || r.byte(10) > 13 || !is_letter_or_digit(r.byte(11))
+    !is_job_class(r.byte(jct::CLASS))
+        || r.byte(jct::PRIORITY) > 13
+        || !is_letter_or_digit(r.byte(jct::MESSAGE_CLASS))
 }
 
 /// The number of the first fault of a JCT, or none.
 pub(crate) fn jct_fault(layout: &Layout, r: &Rec) -> Option<u8>
     ensures { result ≡ lowest (jct_faults layout.now r.now) }
 {
-    let tests = r.text(Field { at: 26, width: 24 });
-    let count = r.byte(24);
+    let tests = r.text(jct::TESTS);
+    let count = r.byte(jct::TEST_COUNT);
     let other = are_classes_bad(r)
         || !are_zero_behind(tests, 3, 8, usize::from(count))
         || !is_zero_but(&jct_fields(layout), r);
     lowest_of_job(
-        !is_name(r.text(Field { at: 16, width: 8 })),
+        !is_name(r.text(jct::NAME)),
         tests_are_bad(tests, 3, count),
-        r.byte(8) != layout.number,
+        r.byte(jct::LAYOUT) != layout.number,
         other,
     )
 }

@@ -13,7 +13,9 @@ use crate::texts::{
     is_base, is_blank, is_ds_name, is_name, is_no_generation, is_no_plain_name, is_serial, is_zero,
 };
 use cb_meaning::layout::{Field, Layout};
+use cb_records::jfcb;
 use cb_records::rec::Rec;
+use cb_records::siot::VOLUME;
 use plain::listed::Listed;
 
 fn jfcb_fields(layout: &Layout) -> [Field; 4]
@@ -40,32 +42,33 @@ fn lowest_of_set(names: bool, forward: bool, other: bool) -> Option<u8>
 fn is_relative(r: &Rec) -> bool
     ensures { result ≡ is_relative r.now }
 {
-    r.byte(8) == 3
+    r.byte(jfcb::KEY_KIND) == 3
 }
 
 /// Whether the name is none of a permanent set.
 fn is_named_badly(r: &Rec) -> bool
     ensures { result ≡ ((byte_at r.now 8 == 1 && (not (is_ds_name 44 (part r.now 12 44)) || has_generation_form (trimmed (part r.now 12 44)))) || (byte_at r.now 8 == 2 && not (is_ds_name 44 (part r.now 12 44) && has_generation_form (trimmed (part r.now 12 44))))) }
 {
-    let name = r.text(Field { at: 12, width: 44 });
-    r.byte(8) == 1 && is_no_plain_name(name) || r.byte(8) == 2 && is_no_generation(name)
+    let name = r.text(jfcb::NAME);
+    r.byte(jfcb::KEY_KIND) == 1 && is_no_plain_name(name)
+        || r.byte(jfcb::KEY_KIND) == 2 && is_no_generation(name)
 }
 
 fn set_name_bad(r: &Rec) -> bool
     ensures { result ≡ set_name_bad r.now }
 {
     is_named_badly(r)
-        || is_relative(r) && !is_base(r.text(Field { at: 12, width: 44 }))
-        || r.byte(8) == 4 && !is_name(r.text(Field { at: 12, width: 44 }))
-        || r.byte(8) == 5 && !is_blank(r.text(Field { at: 16, width: 40 }))
+        || is_relative(r) && !is_base(r.text(jfcb::NAME))
+        || r.byte(jfcb::KEY_KIND) == 4 && !is_name(r.text(jfcb::NAME))
+        || r.byte(jfcb::KEY_KIND) == 5 && !is_blank(r.text(jfcb::BEHIND_UNNAMED))
 }
 
 /// Whether the serial is none, or stands where none is coded. The SIOT says how the volume is found.
 fn is_serial_bad(siot: &Rec, r: &Rec) -> bool
     ensures { result ≡ (if byte_at siot.now 28 == 1 then not (is_serial (part r.now 56 6)) else not (is_blank (part r.now 56 6))) }
 {
-    let serial = r.text(Field { at: 56, width: 6 });
-    if siot.byte(28) == 1 {
+    let serial = r.text(jfcb::SERIAL);
+    if siot.byte(VOLUME) == 1 {
         !is_serial(serial)
     } else {
         !is_blank(serial)
@@ -76,8 +79,8 @@ fn is_serial_bad(siot: &Rec, r: &Rec) -> bool
 fn is_reference_bad(siot: &Rec, r: &Rec) -> bool
     ensures { result ≡ (if byte_at siot.now 28 == 2 then not (is_ds_name 44 (part r.now 62 44)) else not (is_blank (part r.now 62 44))) }
 {
-    let name = r.text(Field { at: 62, width: 44 });
-    if siot.byte(28) == 2 {
+    let name = r.text(jfcb::VOLUME_NAME);
+    if siot.byte(VOLUME) == 2 {
         !is_ds_name(name)
     } else {
         !is_blank(name)
@@ -94,22 +97,26 @@ fn is_this_dd(steps: &[Listed<bool>], dds: &[bool], step: u16, dd: u16) -> bool
 fn stems_forward(steps: &[Listed<bool>], dds: &[bool], r: &Rec) -> bool
     ensures { result ≡ stems_forward (with_dds steps.now dds.now) (length steps.now + 1) (length dds.now + 1) r.now }
 {
-    let step = r.short(12);
-    let dd = r.short(14);
-    r.byte(8) == 5 && !(is_this_dd(steps, dds, step, dd) || is_earlier_set(steps, dds, step, dd))
+    let step = r.short(jfcb::UNNAMED_STEP.at);
+    let dd = r.short(jfcb::UNNAMED_DD.at);
+    r.byte(jfcb::KEY_KIND) == 5
+        && !(is_this_dd(steps, dds, step, dd) || is_earlier_set(steps, dds, step, dd))
 }
 
 fn is_amount_bad(r: &Rec) -> bool
     ensures { result ≡ ((is_relative r.now && (nat_lt 1 (byte_at r.now 9) || nat_lt 255 (number_at r.now (field 10 2)))) || (not (is_relative r.now) && not (list_all (λ b. b == 0) (part r.now 9 3)))) }
 {
-    is_relative(r) && (r.byte(9) > 1 || r.short(10) > 255)
-        || !is_relative(r) && !is_zero(r.text(Field { at: 9, width: 3 }))
+    is_relative(r) && (r.byte(jfcb::SIGN) > 1 || r.short(jfcb::AMOUNT.at) > 255)
+        || !is_relative(r) && !is_zero(r.text(jfcb::RELATIVE))
 }
 
 fn is_rest_bad(layout: &Layout, r: &Rec) -> bool
     ensures { result ≡ (nat_lt (byte_at r.now 8) 1 || nat_lt 5 (byte_at r.now 8) || (is_relative r.now && (nat_lt 1 (byte_at r.now 9) || nat_lt 255 (number_at r.now (field 10 2)))) || (not (is_relative r.now) && not (list_all (λ b. b == 0) (part r.now 9 3))) || not (is_zero_but (jfcb_fields layout.now) r.now)) }
 {
-    r.byte(8) < 1 || r.byte(8) > 5 || is_amount_bad(r) || !is_zero_but(&jfcb_fields(layout), r)
+    r.byte(jfcb::KEY_KIND) < 1
+        || r.byte(jfcb::KEY_KIND) > 5
+        || is_amount_bad(r)
+        || !is_zero_but(&jfcb_fields(layout), r)
 }
 
 fn are_names_bad(siot: &Rec, r: &Rec) -> bool

@@ -9,7 +9,8 @@ use crate::fields::{field, is_zero_but};
 use crate::parts::{any_looks_forward, are_zero_behind, tests_are_bad};
 use crate::texts::{is_name, is_name_or_blank};
 use cb_meaning::layout::{Field, Layout};
-use cb_records::rec::Rec;
+use cb_records::rec::{Rec, STATUS};
+use cb_records::sct;
 
 fn sct_fields(layout: &Layout) -> [Field; 10]
     ensures { result ≡ sct_fields layout.now }
@@ -23,8 +24,8 @@ fn sct_fields(layout: &Layout) -> [Field; 10]
         layout.dds,
         field(14, 2),
         field(16, 24),
-        field(40, 40),
-        field(168, 8),
+        sct::TESTS,
+        STATUS,
     ]
 }
 
@@ -48,18 +49,18 @@ fn lowest_of_step(names: bool, tests: bool, forward: bool, other: bool) -> Optio
 fn are_names_bad(r: &Rec) -> bool
     ensures { result ≡ (not (is_name_or_blank (part r.now 16 8)) || not (is_name_or_blank (part r.now 24 8)) || not (is_name (part r.now 32 8))) }
 {
-    !is_name_or_blank(r.text(Field { at: 16, width: 8 }))
-        || !is_name_or_blank(r.text(Field { at: 24, width: 8 }))
-        || !is_name(r.text(Field { at: 32, width: 8 }))
+    !is_name_or_blank(r.text(sct::NAME))
+        || !is_name_or_blank(r.text(sct::PROCEDURE_STEP))
+        || !is_name(r.text(sct::PROGRAM))
 }
 
 /// The number of the first fault of the k-th step's SCT, or none.
 pub(crate) fn sct_fault(layout: &Layout, k: u16, r: &Rec) -> Option<u8>
     ensures { result ≡ lowest (sct_faults layout.now k r.now) }
 {
-    let tests = r.text(Field { at: 40, width: 40 });
-    let count = r.byte(15);
-    let other = r.byte(14) > 2
+    let tests = r.text(sct::TESTS);
+    let count = r.byte(sct::TEST_COUNT);
+    let other = r.byte(sct::AFTER_ABEND) > 2
         || !are_zero_behind(tests, 5, 8, usize::from(count))
         || !is_zero_but(&sct_fields(layout), r);
     lowest_of_step(

@@ -4,11 +4,11 @@ ghost use Rattle.cb_walk.specs.Below.{below_from, jfcb_from};
 ghost use Rattle.cb_walk.specs.Follows.{Ends};
 
 use crate::arrival::arrive;
-use crate::dd::{has_cards, is_set};
 use crate::set::jfcb_fault;
 use crate::walk_cards::walk_cards;
 use cb_queue::store::RecordStore;
 use cb_records::rec::Rec;
+use cb_records::siot::{has_cards, is_set};
 use plain::listed::Listed;
 
 /// Walks over the JFCB of a DD, which stands behind these DDs and steps.

@@ -5,6 +5,7 @@ ghost use Rattle.cb_walk.specs.Follows.{Ends, Passes, cards_from};
 use crate::arrival::arrive;
 use crate::cards::card_fault;
 use cb_queue::store::RecordStore;
+use cb_records::cards;
 use cb_records::rec::Rec;
 
 /// Passes one record of cards. Tells how many cards were read then, and the number of the next record, or a fault.
@@ -31,7 +32,7 @@ fn pass_cards<S: RecordStore>(
         Some(fault) => return Err(fault),
         None => {}
     }
-    let more = read + u64::from(r.byte(10));
+    let more = read + u64::from(r.byte(cards::COUNT));
     if u64::from(stated) < more {
         return Err(10);
     }

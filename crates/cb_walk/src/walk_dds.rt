@@ -3,15 +3,14 @@ ghost use Rattle.std.specs.Prelude.{◌≡◌, ◌≢◌, ◌+◌, ◌<◌, [], 
 ghost use Rattle.cb_walk.specs.Dds.{EndsDds, PassesDd, dds_from};
 
 use crate::arrival::arrive;
-use crate::dd::{is_set, siot_fault};
+use crate::dd::siot_fault;
 use crate::walk_below::walk_below;
 use cb_queue::store::RecordStore;
 use cb_records::rec::Rec;
+use cb_records::siot::is_set;
+use jcl_plan::plan::MOST_DDS;
 use plain::listed::Listed;
 use std::alloc::{AllocError, Global};
-
-/// The most DDs of a step.
-const MOST_DDS: usize = 64;
 
 /// Passes one DD, behind these of its step and behind these steps. Tells whether it is a set, and the number of the next SIOT, or a fault.
 fn pass_dd<S: RecordStore>(

@@ -1,11 +1,14 @@
 use Rattle.std.proofs.Common.{◌++◌, ◌∙◌, ap, [], ◌∷◌, sym, subst, ℕ}
-use Rattle.cb_meaning.specs.Fields.{number_at}
+use Rattle.cb_meaning.specs.Fields.{byte_at, number_at}
 use Rattle.cb_meaning.specs.Readings.{dds_read}
 use Rattle.jcl_plan.specs.declared.plan.DdPlan.{DdPlan}
 use Rattle.cb_queue.specs.RecordQueues.{RecordQueue, shown}
+use Rattle.cb_records.specs.Writes.{FitsRecord}
 use Rattle.cb_read.specs.Chains.{dd_of, dds_from}
+use Rattle.cb_read.specs.Kinds.{IsBelowOfKind, IsDdOfKind}
 use Rattle.cb_read.specs.Ranges.{IsDdInRange}
 use Rattle.cb_read.proofs.Chained.{all_read, dds_chain, item_in_range, more_read, none_follows, rest_in_range}
+use Rattle.cb_read.proofs.OfKind.{first_along, rest_along}
 use Rattle.cb_read.proofs.dds.dds_read.Goals as goal
 
 abbrev item : RecordQueue → ℕ → DdPlan
@@ -20,22 +23,38 @@ returns-then-n-eq0 g c =
     none_follows (dds_read q.layout (shown q)) (λ n. item q n ∷ []) (next q) (dds_chain q.layout (shown q)) (dds_from q c.args.first) c.loop-left.dds
     c.loop-left.left c.loop-left.n c.loop-left.invariant.whole c.loop-left-test.true c.if-n-eq0.true
 
-pub dd_read-requires : goal.dd_read-requires
-dd_read-requires g c =
+pub invariant_of-view : goal.invariant_of-view
+invariant_of-view g c =
+    let q = g.S.RecordStore.queue c.args.store.now in
+    record {
+      of_kind = ap (λ r. byte_at r 0) c.bring.ensures
+          ∙ (first_along (next q) (IsDdOfKind q) c.loop-left.left c.loop-left.n c.loop-left-test.true c.if-n-eq0.false c.loop-left.invariant.kinds).kind;
+      fits = subst FitsRecord (sym c.layout-layout.ensures.value) c.layout-layout.ensures.sound.own_link.fits;
+    }
+
+pub dd_read-requires-clause-range : goal.dd_read-requires-clause-range
+dd_read-requires-clause-range g c =
     let q = g.S.RecordStore.queue c.args.store.now in
     subst (λ r. IsDdInRange (dd_of q r)) (sym c.bring.ensures)
     (item_in_range (dds_read q.layout (shown q)) (item q) (next q) (dds_chain q.layout (shown q)) c.loop-left.left c.loop-left.n c.loop-left-test.true
     c.if-n-eq0.false IsDdInRange c.loop-left.invariant.range)
 
+pub dd_read-requires-clause-kinds : goal.dd_read-requires-clause-kinds
+dd_read-requires-clause-kinds g c =
+    let q = g.S.RecordStore.queue c.args.store.now in
+    subst (IsBelowOfKind q) (sym c.bring.ensures)
+    (first_along (next q) (IsDdOfKind q) c.loop-left.left c.loop-left.n c.loop-left-test.true c.if-n-eq0.false c.loop-left.invariant.kinds).below
+
 pub loop-left-preserved : goal.loop-left-preserved
 loop-left-preserved g c =
     let q = g.S.RecordStore.queue c.args.store.now in
-    let on = c.number-n.ensures.value ∙ (λ i. number_at (c.bring.ensures i) ((c.layout-layout.ensures.value i).next_dd)) in
+    let on = c.next-n.ensures ∙ (λ i. number_at (c.bring.ensures i) ((c.layout-layout.ensures.value i).next_dd)) in
     record {
+      kinds = rest_along (next q) (IsDdOfKind q) c.loop-left.left c.loop-left.n c.loop-left-test.true c.if-n-eq0.false c.loop-left.invariant.kinds c.next-n.result on;
       range = rest_in_range (dds_read q.layout (shown q)) (item q) (next q) (dds_chain q.layout (shown q)) c.loop-left.left c.loop-left.n c.loop-left-test.true
-          c.if-n-eq0.false IsDdInRange c.loop-left.invariant.range c.number-n.result on;
+          c.if-n-eq0.false IsDdInRange c.loop-left.invariant.range c.next-n.result on;
       whole = more_read (dds_read q.layout (shown q)) (λ n. item q n ∷ []) (next q) (dds_chain q.layout (shown q)) (dds_from q c.args.first) c.loop-left.dds
-          c.loop-left.left c.loop-left.n c.loop-left.invariant.whole c.push.new.self c.number-n.result c.loop-left-test.true c.if-n-eq0.false
+          c.loop-left.left c.loop-left.n c.loop-left.invariant.whole c.push.new.self c.next-n.result c.loop-left-test.true c.if-n-eq0.false
           (c.in_ok-push.ensures.ok ∙ ap (λ x. c.loop-left.dds ++ x ∷ []) (c.in_ok-dd_read.ensures ∙ ap (dd_of q) c.bring.ensures)) on;
     }
 
