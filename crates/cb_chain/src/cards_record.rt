@@ -7,7 +7,8 @@ ghost use Rattle.cb_chain.specs.Written.{HoldsJobs};
 
 use crate::head::headed;
 use crate::texts::put_behind;
-use cb_meaning::layout::{Field, Layout};
+use cb_meaning::layout::Layout;
+use cb_records::cards;
 use cb_records::rec::Rec;
 use jcl_plan::plan::Record;
 
@@ -33,7 +34,7 @@ pub(crate) fn cards_record(layout: &Layout, job: u16, cards: &[Record], next: u3
 {
     let mut rec = headed(5, job);
     rec.write_number(layout.next_cards, next);
-    rec.write_byte(10, cards.len() as u8);
-    rec.write_part(Field { at: 16, width: 160 }, &card_bytes(cards));
+    rec.write_byte(cards::COUNT, cards.len() as u8);
+    rec.write_part(cards::CARDS, &card_bytes(cards));
     rec
 }

@@ -11,29 +11,30 @@ use crate::dd_words::{
 };
 use crate::head::headed;
 use crate::texts::name_text;
-use cb_meaning::layout::{Field, Layout};
+use cb_meaning::layout::Layout;
 use cb_records::rec::Rec;
+use cb_records::siot;
 use jcl_plan::plan::{DdKind, DdPlan};
 
 /// Writes what a DD is, and its DISP.
 fn write_words(rec: &mut Rec, kind: &DdKind)
     ensures { AreEntered rec.old (word_entries kind.now) rec.new }
 {
-    rec.write_byte(12, kind_code(kind));
-    rec.write_byte(13, status_of(kind));
-    rec.write_byte(14, normal_of(kind));
-    rec.write_byte(15, conditional_of(kind));
+    rec.write_byte(siot::KIND, kind_code(kind));
+    rec.write_byte(siot::DISPOSITION_STATUS, status_of(kind));
+    rec.write_byte(siot::NORMAL, normal_of(kind));
+    rec.write_byte(siot::CONDITIONAL, conditional_of(kind));
 }
 
 /// Writes the volume, the space and the unit of a set.
 fn write_set(rec: &mut Rec, kind: &DdKind)
     ensures { AreEntered rec.old (set_entries kind.now) rec.new }
 {
-    rec.write_byte(28, volume_of(kind));
-    rec.write_part(Field { at: 30, width: 4 }, &volume_dd_of(kind));
-    rec.write_number(Field { at: 34, width: 2 }, u32::from(primary_of(kind)));
-    rec.write_number(Field { at: 36, width: 2 }, u32::from(secondary_of(kind)));
-    rec.write_number(Field { at: 38, width: 2 }, u32::from(units_of(kind)));
+    rec.write_byte(siot::VOLUME, volume_of(kind));
+    rec.write_part(siot::VOLUME_STEP_AND_DD, &volume_dd_of(kind));
+    rec.write_number(siot::PRIMARY, u32::from(primary_of(kind)));
+    rec.write_number(siot::SECONDARY, u32::from(secondary_of(kind)));
+    rec.write_number(siot::UNITS, u32::from(units_of(kind)));
 }
 
 /// The record of a DD, with the numbers of the first record below it and of the next DD's.
@@ -48,9 +49,9 @@ pub(crate) fn siot_record(layout: &Layout, job: u16, dd: &DdPlan, below: u32, ne
     rec.write_number(layout.next_dd, next);
     rec.write_number(layout.below, below);
     write_words(&mut rec, &dd.kind);
-    rec.write_text(Field { at: 16, width: 8 }, name_text(&dd.name));
-    rec.write_byte(24, marks_of(dd));
-    rec.write_byte(25, class_of(&dd.kind));
+    rec.write_text(siot::NAME, name_text(&dd.name));
+    rec.write_byte(siot::MARKS, marks_of(dd));
+    rec.write_byte(siot::CLASS, class_of(&dd.kind));
     rec.write_number(layout.cards, card_count(&dd.kind) as u32);
     write_set(&mut rec, &dd.kind);
     rec

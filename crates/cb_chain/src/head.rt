@@ -7,8 +7,7 @@ ghost use Rattle.cb_records.specs.Writes.{IsWithin};
 ghost use Rattle.cb_chain.specs.Composed.{head_entries};
 ghost use Rattle.cb_chain.specs.Entries.{AreEntered, zeros};
 
-use cb_meaning::layout::Field as Place;
-use cb_records::rec::Rec;
+use cb_records::rec::{KIND, OWNER, Rec};
 
 /// A record of zeros but for its kind and the job that owns it.
 pub(crate) fn headed(kind: u8, job: u16) -> Rec
@@ -16,7 +15,7 @@ pub(crate) fn headed(kind: u8, job: u16) -> Rec
     ensures rest { (f : Field) → IsWithin f → AreApart f (field 0 1) → AreApart f (field 2 2) → part result f.at f.width ≡ replicate f.width 0 }
 {
     let mut rec = Rec::zeroed();
-    rec.write_byte(0, kind);
-    rec.write_number(Place { at: 2, width: 2 }, u32::from(job));
+    rec.write_byte(KIND, kind);
+    rec.write_number(OWNER, u32::from(job));
     rec
 }

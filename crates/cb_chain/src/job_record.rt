@@ -6,7 +6,8 @@ ghost use Rattle.cb_chain.specs.Written.{HoldsJobs};
 
 use crate::head::headed;
 use crate::texts::job_tests;
-use cb_meaning::layout::{Field, Layout};
+use cb_meaning::layout::Layout;
+use cb_records::jct;
 use cb_records::rec::Rec;
 use jcl_plan::plan::JobPlan;
 
@@ -14,10 +15,10 @@ use jcl_plan::plan::JobPlan;
 fn write_classes(rec: &mut Rec, number: u8, plan: &JobPlan)
     ensures { AreEntered rec.old (class_entries number plan.now) rec.new }
 {
-    rec.write_byte(8, number);
-    rec.write_byte(9, plan.class);
-    rec.write_byte(10, plan.priority);
-    rec.write_byte(11, plan.message_class);
+    rec.write_byte(jct::LAYOUT, number);
+    rec.write_byte(jct::CLASS, plan.class);
+    rec.write_byte(jct::PRIORITY, plan.priority);
+    rec.write_byte(jct::MESSAGE_CLASS, plan.message_class);
 }
 
 /// The record of a job, with the number of its first step's record.
@@ -31,8 +32,8 @@ pub(crate) fn jct_record(layout: &Layout, job: u16, plan: &JobPlan, first_step: 
     write_classes(&mut rec, layout.number, plan);
     rec.write_number(layout.first_step, first_step);
     rec.write_number(layout.steps, plan.steps.len() as u32);
-    rec.write_text(Field { at: 16, width: 8 }, plan.name.as_slice());
-    rec.write_byte(24, plan.tests.len() as u8);
-    rec.write_part(Field { at: 26, width: 24 }, &job_tests(&plan.tests));
+    rec.write_text(jct::NAME, plan.name.as_slice());
+    rec.write_byte(jct::TEST_COUNT, plan.tests.len() as u8);
+    rec.write_part(jct::TESTS, &job_tests(&plan.tests));
     rec
 }

@@ -9,7 +9,8 @@ ghost use Rattle.cb_chain.specs.Written.{HoldsJobs};
 use crate::dd_words::pair_bytes;
 use crate::head::headed;
 use crate::texts::two_bytes;
-use cb_meaning::layout::{Field, Layout};
+use cb_meaning::layout::Layout;
+use cb_records::jfcb;
 use cb_records::rec::Rec;
 use jcl_plan::plan::{SetPlan, VolumePlan};
 use jname_core::ds_name::DsName;
@@ -69,7 +70,7 @@ fn relative_bytes(key: &Key) -> [u8; 3]
 fn write_name(rec: &mut Rec, key: &Key)
     ensures { AreEntered rec.old (key_entries key.now) rec.new }
 {
-    let place = Field { at: 12, width: 44 };
+    let place = jfcb::NAME;
     match key {
         Key::Named(name) => rec.write_text(place, name.as_slice()),
         Key::Relative {
@@ -114,10 +115,10 @@ pub(crate) fn jfcb_record(layout: &Layout, job: u16, set: &SetPlan) -> Rec
     ensures { IsJfcb layout.now job set.now result }
 {
     let mut rec = headed(4, job);
-    rec.write_byte(8, key_code(&set.key));
-    rec.write_part(Field { at: 9, width: 3 }, &relative_bytes(&set.key));
+    rec.write_byte(jfcb::KEY_KIND, key_code(&set.key));
+    rec.write_part(jfcb::RELATIVE, &relative_bytes(&set.key));
     write_name(&mut rec, &set.key);
-    rec.write_text(Field { at: 56, width: 6 }, serial_text(&set.volume));
-    rec.write_text(Field { at: 62, width: 44 }, referred_text(&set.volume));
+    rec.write_text(jfcb::SERIAL, serial_text(&set.volume));
+    rec.write_text(jfcb::VOLUME_NAME, referred_text(&set.volume));
     rec
 }

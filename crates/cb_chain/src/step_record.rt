@@ -8,18 +8,19 @@ ghost use Rattle.cb_chain.specs.Written.{HoldsJobs};
 use crate::codes::after_abend_code;
 use crate::head::headed;
 use crate::texts::{name_text, step_tests};
-use cb_meaning::layout::{Field, Layout};
+use cb_meaning::layout::Layout;
 use cb_records::rec::Rec;
+use cb_records::sct;
 use jcl_plan::plan::StepPlan;
 
 /// Writes the names of a step, and its tests.
 fn write_names(rec: &mut Rec, step: &StepPlan)
     ensures { AreEntered rec.old (name_entries step.now) rec.new }
 {
-    rec.write_text(Field { at: 16, width: 8 }, name_text(&step.name));
-    rec.write_text(Field { at: 24, width: 8 }, name_text(&step.procedure_step));
-    rec.write_text(Field { at: 32, width: 8 }, step.program.as_slice());
-    rec.write_part(Field { at: 40, width: 40 }, &step_tests(&step.tests));
+    rec.write_text(sct::NAME, name_text(&step.name));
+    rec.write_text(sct::PROCEDURE_STEP, name_text(&step.procedure_step));
+    rec.write_text(sct::PROGRAM, step.program.as_slice());
+    rec.write_part(sct::TESTS, &step_tests(&step.tests));
 }
 
 /// The record of a step, with the numbers of its first DD's record and of the next step's.
@@ -40,8 +41,8 @@ pub(crate) fn sct_record(
     rec.write_number(layout.next_step, next);
     rec.write_number(layout.first_dd, first_dd);
     rec.write_number(layout.dds, step.dds.len() as u32);
-    rec.write_byte(14, after_abend_code(step.after_abend));
-    rec.write_byte(15, step.tests.len() as u8);
+    rec.write_byte(sct::AFTER_ABEND, after_abend_code(step.after_abend));
+    rec.write_byte(sct::TEST_COUNT, step.tests.len() as u8);
     write_names(&mut rec, step);
     rec
 }
