@@ -27,7 +27,7 @@ no_longer names (h ∷ hs) =
     let all : length (with_names (with_name names h) hs) ≤ length (with_name names h) + length hs = no_longer (with_name names h) hs in
     omega (arith, one, all)
 
-few_by : (n : ℕ) → n ≤ 255 → nat_lt 255 n ≡ false
+few_by : (n : ℕ) → n ≤ most_names → nat_lt most_names n ≡ false
 few_by n le = grind arith
 
 pub holds_few : (plan : JobPlan) → length (wanted_by plan.steps) ≤ most_names → false ≡ nat_lt most_names (length (names_of plan))

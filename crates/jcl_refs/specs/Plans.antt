@@ -42,6 +42,7 @@ use Rattle.jcl_cards.specs.declared.dd.Word.TheVariants as positional_word
 use Rattle.jcl_cards.specs.declared.job.JobCard.{JobCard}
 use Rattle.jcl_cards.specs.Keywords.{is_given}
 use Rattle.jcl_procs.specs.declared.step.FlatStep.{FlatStep}
+use Rattle.jcl_plan.specs.declared.plan.TheConstants.{MOST_DDS, MOST_NAMES, MOST_STEPS}
 use Rattle.jcl_procs.specs.Expansions.{and_then}
 use Rattle.jcl_meaning.specs.Names.{is_temporary, names_of}
 use Rattle.jcl_refs.specs.declared.targets.Target.{Target}
@@ -49,16 +50,16 @@ use Rattle.jcl_refs.specs.LaterDds.{dds_left, references_of}
 use Rattle.jcl_refs.specs.Targets.{earlier_step, target_of}
 
 abbrev pub most_steps : ℕ
-most_steps = 32
+most_steps = MOST_STEPS
 
 abbrev pub most_dds : ℕ
-most_dds = 64
+most_dds = MOST_DDS
 
 abbrev pub most_dd_names : ℕ
 most_dd_names = 5
 
 abbrev pub most_names : ℕ
-most_names = 255
+most_names = MOST_NAMES
 
 -- a refusal, unless something does not hold
 abbrev pub refused_if : {A : Type 0} → Bool → Cause → Result A Cause → Result A Cause

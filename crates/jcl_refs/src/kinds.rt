@@ -1,8 +1,9 @@
 //! The kinds of a step's DDs: sets, DUMMYs, SYSOUT and cards. (GC28-6704, DD statement and "Backward references")
-ghost use Rattle.std.specs.Prelude.{◌≡◌, ◌-◌, ◌≤◌, [], All, IfOk, IfSome, IsSome, MatchOption, length, map, slice_get};
+ghost use Rattle.std.specs.Prelude.{◌≡◌, ◌+◌, ◌-◌, ◌≤◌, [], All, IfOk, IfSome, IsSome, MatchOption, length, map, slice_get};
 ghost use Rattle.std.specs.Bool.{OnTrue};
 ghost use Rattle.std.specs.List.{flat_map};
 ghost use Rattle.std.specs.Option.{option_copied};
+ghost use Rattle.jcl_plan.specs.declared.plan.TheConstants.{MOST_DDS, MOST_STEPS};
 ghost use Rattle.operand_core.specs.Faults.{told};
 ghost use Rattle.value_core.specs.Reads.{Gives, answer};
 ghost use Rattle.jcl_cards.specs.declared.coded.Coded.TheVariants.{NotGiven};
@@ -61,7 +62,7 @@ fn kind_in(dds: &[DdPlan], d: usize) -> Option<&DdKind>
 fn dds_at<'a>(spot: &Spot<'a>, k: usize) -> Option<&'a [DdPlan]>
     requires { FewPlanned spot.now }
     ensures dds { let given = slice_get (spot_of spot.now).planned (k - 1) in MatchOption result (given ≡ None) (λ dds. given ≡ Some (kinds_here dds.now)) }
-    ensures within { IfSome result (λ dds. (k ≤ 33) × (length dds.now ≤ 64)) }
+    ensures within { IfSome result (λ dds. (k ≤ MOST_STEPS + 1) × (length dds.now ≤ MOST_DDS)) }
 {
     let before = k.saturating_sub(1);
     if before == spot.done.len() {
@@ -74,7 +75,7 @@ fn dds_at<'a>(spot: &Spot<'a>, k: usize) -> Option<&'a [DdPlan]>
 fn kind_at<'a>(spot: &Spot<'a>, target: Target) -> Option<&'a DdKind>
     requires { FewPlanned spot.now }
     ensures kind { option_copied result ≡ kind_at (spot_of spot.now).planned target }
-    ensures within { IsSome result → (target.step ≤ 33) × (target.dd ≤ 64) }
+    ensures within { IsSome result → (target.step ≤ MOST_STEPS + 1) × (target.dd ≤ MOST_DDS) }
 {
     kind_in(dds_at(spot, target.step)?, target.dd)
 }
@@ -390,10 +391,10 @@ pub(crate) fn planned_dds(
     done: &[StepPlan],
     dds: &[DdCard],
 ) -> Result<Listed<DdPlan>, ReadError>
-    requires step { k ≤ 32 }
-    requires few_dds { length dds.now ≤ 64 }
-    requires few_done { length done.now ≤ 32 }
-    requires few_dds_each { All (λ s. length s.dds ≤ 64) done.now }
+    requires step { k ≤ MOST_STEPS }
+    requires few_dds { length dds.now ≤ MOST_DDS }
+    requires few_done { length done.now ≤ MOST_STEPS }
+    requires few_dds_each { All (λ s. length s.dds ≤ MOST_DDS) done.now }
     ensures { Gives result (and_then (kinds_from steps.now call k (map kinds_in done.now) [] dds.now) (λ kinds. Ok (dds_with dds.now kinds))) }
 {
     let mut planned = Listed::empty(alloc);

@@ -21,7 +21,9 @@ use jcl_cards::dd::DdCard;
 use jcl_cards::job::JobCard;
 use jcl_meaning::names::{is_temporary, names_of};
 use jcl_plan::fault::{Cause, StatementFault};
-use jcl_plan::plan::{DdKind, DdPlan, JobPlan, StepPlan, VolumePlan};
+use jcl_plan::plan::{
+    DdKind, DdPlan, JobPlan, MOST_DDS, MOST_NAMES, MOST_STEPS, StepPlan, VolumePlan,
+};
 use jcl_procs::expansion::Expansion;
 use jcl_procs::step::FlatStep;
 use plain::listed::Listed;
@@ -29,17 +31,8 @@ use std::alloc::{AllocError, Global};
 use std::mem::replace;
 use value_core::refusal::ReadError;
 
-/// The most steps of a job. (This profile)
-pub const MOST_STEPS: usize = 32;
-
-/// The most DDs of a step. (This profile)
-const MOST_DDS: usize = 64;
-
 /// The most DDs of a step that look for a later one. (DDNAME parameter)
 const MOST_DD_NAMES: usize = 5;
-
-/// The most names that a job holds. (This profile)
-const MOST_NAMES: usize = 255;
 
 fn refusal(fault: StatementFault) -> ReadError
     ensures { result ≡ ReadError.Refused (P fault) }
@@ -117,13 +110,13 @@ fn planned_step(
     many_dd_names: bool,
     step: &FlatStep,
 ) -> Result<StepPlan, ReadError>
-    requires few_steps { length steps.now ≤ 32 }
-    requires k { k ≤ 32 }
-    requires few_done { length done.now ≤ 32 }
-    requires few_in_each { All (λ s. length s.dds ≤ 64) done.now }
+    requires few_steps { length steps.now ≤ MOST_STEPS }
+    requires k { k ≤ MOST_STEPS }
+    requires few_done { length done.now ≤ MOST_STEPS }
+    requires few_in_each { All (λ s. length s.dds ≤ MOST_DDS) done.now }
     ensures gives { Gives result (step_by steps.now k (map kinds_in done.now) many_dd_names step.now) }
     ensures count { IfOk result (λ plan. length plan.dds ≡ length step.now.dds) }
-    ensures few { IfOk result (λ plan. length plan.dds ≤ 64) }
+    ensures few { IfOk result (λ plan. length plan.dds ≤ MOST_DDS) }
 {
     let tests = tests_of(step.call, k, steps, &step.condition.tests)?;
     if many_dd_names {
@@ -149,7 +142,7 @@ fn planned_steps(
     left: &[FlatStep],
     many_dd_names: &[bool],
 ) -> Result<Listed<StepPlan>, ReadError>
-    requires few { length left.now ≤ 32 }
+    requires few { length left.now ≤ MOST_STEPS }
     requires as_many { length many_dd_names.now ≡ length left.now }
     ensures gives { Gives result (steps_by left.now 1 [] many_dd_names.now left.now) }
     ensures counts { IfOk result (λ steps. counts_in left.now ≡ planned_counts steps) }
@@ -251,7 +244,7 @@ fn job_by(
     left: &[FlatStep],
     many_dd_names: &[bool],
 ) -> Result<JobPlan, ReadError>
-    requires few { length left.now ≤ 32 }
+    requires few { length left.now ≤ MOST_STEPS }
     requires as_many { length many_dd_names.now ≡ length left.now }
     ensures gives { Gives result (job_by job left.now many_dd_names.now) }
     ensures counts { IfOk result (λ plan. counts_in left.now ≡ planned_counts plan.steps) }
@@ -272,7 +265,7 @@ fn plan_with(
     left: &[FlatStep],
     many_dd_names: &[bool],
 ) -> Result<JobPlan, ReadError>
-    requires few { length left.now ≤ 32 }
+    requires few { length left.now ≤ MOST_STEPS }
     requires as_many { length many_dd_names.now ≡ length left.now }
     ensures { Gives result (plan_with units.now job left.now many_dd_names.now) }
 {
@@ -311,7 +304,7 @@ fn leave_others(alloc: Global, steps: &mut [FlatStep], count: usize) -> Result<(
 
 /// The refusal of a step with too many DDs that look for a later one: by its tests, or for these DDs.
 fn many_refusal(front: &[FlatStep], step: &FlatStep) -> Cause
-    requires { length front.now ≤ 32 }
+    requires { length front.now ≤ MOST_STEPS }
     ensures { result ≡ many_refusal front.now step.now }
 {
     match tests_of(step.call, front.len() + 1, front, &step.condition.tests) {
@@ -322,7 +315,7 @@ fn many_refusal(front: &[FlatStep], step: &FlatStep) -> Cause
 
 /// Whether none of these steps is refused.
 fn are_taken(alloc: Global, steps: &[FlatStep], many: &[bool]) -> Result<bool, AllocError>
-    requires few { length steps.now ≤ 32 }
+    requires few { length steps.now ≤ MOST_STEPS }
     requires as_many { length many.now ≡ length steps.now }
     ensures { IfOk result (λ taken. OnTrue taken (AreTaken steps.now many.now)) }
 {
@@ -341,7 +334,7 @@ fn early_refusal(
     many: &[bool],
     count: usize,
 ) -> Result<Option<Cause>, AllocError>
-    requires few { length steps.now ≤ 32 }
+    requires few { length steps.now ≤ MOST_STEPS }
     requires as_many { length many.now ≡ length steps.now }
     requires first { slice_get many.now count ≡ Some true }
     ensures { IfOk result (λ found. IfSome found (IsEarly steps.now many.now count)) }
@@ -367,7 +360,7 @@ fn refused_plan(
     many: &[bool],
     count: usize,
 ) -> Result<JobPlan, ReadError>
-    requires few { length steps.old ≤ 32 }
+    requires few { length steps.old ≤ MOST_STEPS }
     requires many { many.now ≡ map has_many_dd_names steps.old }
     requires first { slice_get many.now count ≡ Some true }
     ensures { Gives result (plan_of units.now job steps.old) }

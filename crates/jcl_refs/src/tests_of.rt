@@ -1,5 +1,6 @@
 //! The tests of a job and of its steps. (COND parameter)
 ghost use Rattle.std.specs.Prelude.{◌≡◌, ◌≤◌, Ok, Err, MatchResult, length, map};
+ghost use Rattle.jcl_plan.specs.declared.plan.TheConstants.{MOST_STEPS};
 ghost use Rattle.jcl_refs.specs.Plans.{job_test, test_of, test_with, tests_of};
 ghost use Rattle.jcl_refs.specs.Targets.{earlier_step};
 
@@ -28,7 +29,7 @@ fn number_of(
     k: usize,
     steps: &[FlatStep],
 ) -> Option<u16>
-    requires { length steps.now ≤ 32 }
+    requires { length steps.now ≤ MOST_STEPS }
     ensures { result ≡ earlier_step call reference k steps.now }
 {
     match earlier_step(call, reference, k, steps) {
@@ -44,7 +45,7 @@ fn test_of(
     steps: &[FlatStep],
     test: &CodedTest,
 ) -> Result<Test, Cause>
-    requires { length steps.now ≤ 32 }
+    requires { length steps.now ≤ MOST_STEPS }
     ensures { result ≡ test_of call k steps.now test.now }
 {
     let Some(reference) = test.step else {
@@ -63,7 +64,7 @@ pub(crate) fn tests_of(
     steps: &[FlatStep],
     tests: &CodedTests,
 ) -> Result<Tests, Cause>
-    requires { length steps.now ≤ 32 }
+    requires { length steps.now ≤ MOST_STEPS }
     ensures { let given = tests_of call k steps.now tests.now.items in MatchResult result (λ found. given ≡ Ok found.items) (λ fault. given ≡ Err fault) }
 {
     let coded = tests.as_slice();
