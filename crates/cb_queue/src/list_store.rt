@@ -11,16 +11,10 @@ ghost use Rattle.cb_meaning.specs.Fields.{with_part};
 use crate::store::RecordStore;
 use cb_meaning::layout::{Field, Layout};
 use cb_records::laws::are_bytes;
-use cb_records::rec::Rec;
+use cb_records::rec::{OWNER, Rec, STATUS};
 use queue_core::queue::{JobQueue, Queued};
 use std::alloc::{AllocError, Global};
 use std::marker::Model;
-
-/// The number of the job that owns a record.
-const OWNER: Field = Field { at: 2, width: 2 };
-
-/// What the scheduler writes into a record of a job that runs.
-const STATUS: Field = Field { at: 168, width: 8 };
 
 /// How many owners are looked at together.
 const BLOCK: u32 = 64;
