@@ -74,19 +74,20 @@ def refusals_without_row():
 
 
 def rows_told_otherwise():
-    """The rows of the table of refusals of decks that say something else than crates/refusal_text/src/table.rt."""
+    """The rows of the tables of refusals, and of faults of a session, that say something else than crates/refusal_text/src/table.rt."""
     source = text_of("crates/refusal_text/src/table.rt")
     texts = re.findall(r"letter: b'(\w)',\s+number: (\d+),\s+wrong: \"(.*?)\",\s+to_do: \"(.*?)\",", source)
     told = {f"{letter}{number}": (wrong, to_do) for letter, number, wrong, to_do in texts}
     document = text_of("docs/REFUSALS.md")
     rows = re.findall(r"^\| ([CNP]\d+) \| (.*) \| (.*) \|$", document, re.M)
     rows += re.findall(r"^\| (F\d+) \| (.*) \| (.*) \| `[A-Z].* \|$", document, re.M)
+    rows += re.findall(r"^\| (S\d+) \| (.*) \| (.*) \|$", text_of("docs/SESSION.md"), re.M)
     for number, wrong, to_do in rows:
         if told.pop(number, None) != (wrong.replace("`", ""), to_do.replace("`", "")):
-            yield f"docs/REFUSALS.md: the table of refusal_text has other words for {number}"
+            yield f"docs: the table of refusal_text has other words for {number}"
     for number in told:
         if not number.startswith("Q"):
-            yield f"docs/REFUSALS.md: no row has {number}, which refusal_text has"
+            yield f"docs: no row has {number}, which refusal_text has"
 
 
 def deck_with(typed):

@@ -1,9 +1,9 @@
-//! What is wrong with a deck, and what to do, by the number of its refusal; and the same of a job, by the number of its fault.
+//! What is wrong with a deck, and what to do, by the number of its refusal; and the same of a job, and of a session, by the number of its fault.
 ghost use Rattle.std.specs.Prelude.{◌≡◌, IfSome};
 
 /// A refusal in words.
 pub struct Row {
-    /// Its letter and its number: C4, N1, P20, F1.
+    /// Its letter and its number: C4, N1, P20, F1, S2.
     pub letter: u8,
     pub number: u8,
     pub wrong: &'static str,
@@ -11,7 +11,7 @@ pub struct Row {
 }
 
 /// In the order of their numbers.
-static ROWS: [Row; 56] = [
+static ROWS: [Row; 64] = [
     Row {
         letter: b'C',
         number: 1,
@@ -348,9 +348,57 @@ static ROWS: [Row; 56] = [
         wrong: "the volume is unknown",
         to_do: "./ VOLUME; compare the serial",
     },
+    Row {
+        letter: b'S',
+        number: 1,
+        wrong: "no statement of this profile",
+        to_do: "look for a misspelt word, small letters, a tab, no ./, or a line outside a block",
+    },
+    Row {
+        letter: b'S',
+        number: 2,
+        wrong: "a field is missing, too many, of the wrong form or out of its range",
+        to_do: "compare it with docs/SESSION.md",
+    },
+    Row {
+        letter: b'S',
+        number: 3,
+        wrong: "it is defined twice",
+        to_do: "drop the second one",
+    },
+    Row {
+        letter: b'S',
+        number: 4,
+        wrong: "a block without ./ END",
+        to_do: "end the block; a line ./END is a card",
+    },
+    Row {
+        letter: b'S',
+        number: 5,
+        wrong: "over 1,048,576 bytes",
+        to_do: "make two sessions of it",
+    },
+    Row {
+        letter: b'S',
+        number: 6,
+        wrong: "standard input could not be read any further",
+        to_do: "give the session as a file; what was read whole was run",
+    },
+    Row {
+        letter: b'S',
+        number: 7,
+        wrong: "standard output could not be written any further",
+        to_do: "what was written is the beginning of the listing",
+    },
+    Row {
+        letter: b'S',
+        number: 8,
+        wrong: "a configuration statement after the first event",
+        to_do: "move it up, before the first event",
+    },
 ];
 
-/// What is said of a refusal, or of a fault of a job.
+/// What is said of a refusal, or of a fault of a job or of a session.
 pub fn row_of(letter: u8, number: u8) -> Option<&'static Row>
     ensures { IfSome result (λ row. (row.now.letter ≡ letter) × (row.now.number ≡ number)) }
 {
