@@ -251,6 +251,155 @@ def nine_scenes(n):
     return scenes(9, n)
 
 
+def seven_scenes(n):
+    """A job of seven pairs that make a set on some paths, and of {:,} steps of sixty sets that stay."""
+    return scenes(7, n)
+
+
+def pairs(count, own):
+    """So many pairs of steps: the second of each, with these DDs, runs on some paths alone."""
+    form = b"//A%d EXEC PGM=IEFBR14,COND=EVEN\n//B%d EXEC PGM=IEFBR14,COND=(EVEN,(0,NE,A%d))\n"
+    return b"".join(form % (k, k, k) + own.replace(b"#", b"%d" % k) for k in range(count))
+
+
+def beside_pairs(count, own, kept, first, n):
+    """A job of so many pairs, each for a set that is on two volumes, and of steps that use first some sets, then sets that stay, so many in all."""
+    both = b"".join(b"./ SET X%d V1 1 CAT\n./ END\n./ SET X%d V2 1\n./ END\n" % (k, k) for k in range(count))
+    old = b"".join(b"./ SET R.S%d V1 1 CAT\n./ END\n" % k for k in range(240))
+    steps, at = b"", 0
+    for k in range(n):
+        left = [(at + i) % 240 for i in range(kept)]
+        at += 60
+        steps += b"//Z%d EXEC PGM=IEFBR14,COND=EVEN\n" % k + first + lines(b"//D DD DSN=R.S%d,DISP=(OLD,KEEP)", left)
+    return b"./ VOLUME V1 4000\n./ VOLUME V2 4000\n" + both + old + INITIATOR + deck(pairs(count, own) + steps) + turns(1, 10)
+
+
+def passed_scenes(n):
+    """A job of six pairs that pass an old set on some paths, and of {:,} steps of sixty sets that stay."""
+    return beside_pairs(6, b"//T DD DSN=X#,DISP=(OLD,PASS)\n", 60, b"", n)
+
+
+def touched_scenes(n):
+    """A job of five pairs that catalogue a set anew on some paths, and of {:,} steps that use these sets and 55 others."""
+    own = b"//T DD DSN=X#,DISP=(OLD,UNCATLG)\n//U DD DSN=X#,DISP=(OLD,CATLG),VOL=SER=V2\n"
+    return beside_pairs(5, own, 55, lines(b"//D DD DSN=X%d,DISP=(OLD,KEEP)", range(5)), n)
+
+
+def full_groups(count, n):
+    """A job of so many pairs that make a set on some paths, and of steps that each read the newest generations of fifty full groups."""
+    numbers = [(k, g) for k in range(50) for g in range(1, 256)]
+    kept = b"".join(b"./ SET G%d.G%04dV00 V%d 1 CAT\n./ END\n" % (k, g, (255 * k + g) % 4) for k, g in numbers)
+    made = pairs(count, b"//T DD DSN=X#,DISP=(NEW,CATLG),SPACE=(TRK,1)\n")
+    read = lines(b"//D DD DSN=G%d(0),DISP=SHR", range(50))
+    steps = b"".join(b"//Z%d EXEC PGM=IEFBR14,COND=EVEN\n" % k + read for k in range(n))
+    return volumes(4) + lines(b"./ GROUP G%d 255", range(50)) + kept + INITIATOR + deck(made + steps) + b"./ TURN 1*3\n"
+
+
+def groups_of_two_pairs(n):
+    """A job of two pairs that make a set on some paths, and of {:,} steps that each read the newest generations of fifty full groups."""
+    return full_groups(2, n)
+
+
+def groups_of_four_pairs(n):
+    """A job of four pairs that make a set on some paths, and of {:,} steps that each read the newest generations of fifty full groups."""
+    return full_groups(4, n)
+
+
+# The tests of the last two of 32 steps, by which a job has 1,023 views.
+LAST_TESTS = {
+    31: b"//S31 EXEC PGM=IEFBR14,COND=(EVEN,(1,LT,S1),(2,LT,S2),(3,LT,S3),\n// (4,LT,S4),(5,LT,S5),(6,LT,S6),(7,LT,S7),(8,LT,S8))\n",
+    32: b"//S32 EXEC PGM=IEFBR14,COND=(EVEN,(7,LT,S9))\n",
+}
+
+
+def steps_with_views(dds_of):
+    """The 32 steps of a job of 1,023 views, with these DDs."""
+    return b"".join(LAST_TESTS.get(k, b"//S%d EXEC PGM=IEFBR14,COND=EVEN\n" % k) + dds_of(k) for k in range(1, 33))
+
+
+def jobs_with_views(dds_of, each, n):
+    """Jobs of 1,023 views, each with so many turns."""
+    cards = steps_with_views(dds_of)
+    return b"".join(b"./ READ\n//V%d JOB\n" % k + cards + b"./ END\n./ TURN 1*%d\n" % each for k in range(n))
+
+
+def kept_sets(count):
+    """A volume, and so many catalogued sets on it."""
+    return b"./ VOLUME VOL001 4000\n" + lines(b"./ SET R.S%d VOL001 0 CAT\n./ END", range(count)) + INITIATOR
+
+
+def old_or_temporary(count):
+    """The DDs of a step: old sets, of which each third is a temporary one."""
+    forms = {True: b"//D%d DD DSN=&&T%d,SPACE=(TRK,1)\n", False: b"//D%d DD DSN=R.S%d,DISP=(OLD,KEEP)\n"}
+    return lambda step: b"".join(forms[(step + k) % 3 == 0] % (k, k) for k in range(count))
+
+
+def views_of_old_sets(n):
+    """{:,} jobs of 32 steps of twelve old sets, with 1,023 views."""
+    return kept_sets(12) + jobs_with_views(lambda step: lines(b"//D%d DD DSN=R.S%d,DISP=(OLD,KEEP)", range(12)), 836, n)
+
+
+def views_of_no_sets(n):
+    """{:,} jobs of 32 steps of twelve DDs that say DUMMY, with 1,023 views."""
+    return b"./ VOLUME VOL001 4000\n" + INITIATOR + jobs_with_views(lambda step: lines(b"//D%d DD DUMMY", range(12)), 836, n)
+
+
+def views_of_unnamed_sets(n):
+    """{:,} jobs of 32 steps of twelve unnamed sets, with 1,023 views."""
+    return b"./ VOLUME VOL001 4000\n" + INITIATOR + jobs_with_views(lambda step: lines(b"//D%d DD SPACE=(TRK,1)", range(12)), 836, n)
+
+
+def views_of_both(n):
+    """{:,} jobs of 32 steps of twelve DDs, each third for a temporary set, with 1,023 views."""
+    return kept_sets(12) + jobs_with_views(old_or_temporary(12), 836, n)
+
+
+def views_of_few_dds(n):
+    """{:,} jobs of 32 steps of six DDs, each third for a temporary set, with 1,023 views."""
+    return kept_sets(6) + jobs_with_views(old_or_temporary(6), 452, n)
+
+
+def many_classes(n):
+    """A job of {:,} steps of eight tests, each of another code."""
+    steps = b"//S1 EXEC PGM=IEFBR14\n"
+    for k in range(2, n + 1):
+        tests = [b"(%d,LT)" % (8 * (k - 2) + i) for i in range(8)]
+        steps += b"//S%d EXEC PGM=IEFBR14,\n//  COND=(%s,\n//  %s)\n" % (k, b",".join(tests[:4]), b",".join(tests[4:]))
+    return INITIATOR + b"./ READ\n//C JOB\n" + steps + b"./ END\n./ TURN 1*600\n"
+
+
+def longest_wait_for_space(n):
+    """{:,} turns of a job of 32 steps of twelve temporary sets and 1,023 views that waits for space."""
+    job = steps_with_views(lambda step: lines(b"//D%d DD DSN=&&T%d,SPACE=(TRK,1)", range(12)))
+    return held(400, 390) + deck(job) + b"./ TURN 2*%d\n" % (n + 2)
+
+
+def largest_jobs(n):
+    """{:,} jobs of 32 steps of 58 unnamed sets."""
+    step = b"//S EXEC PGM=IEFBR14\n" + lines(b"//D%d DD SPACE=(TRK,0)", range(58))
+    job = b"./ READ\n//M JOB\n" + step * 32 + b"./ END\n./ TURN 1*3780\n"
+    return b"./ VOLUME VOL001 100\n" + INITIATOR + job * n
+
+
+def opposite_tests(n):
+    """{:,} jobs of twelve steps of eight tests each, of all relations in turn."""
+    words = (b"EQ", b"NE", b"LE", b"GT", b"LT", b"GE")
+    steps = b"// EXEC PGM=IEFBR14\n" * 20
+    for k in range(20, 32):
+        tests = [b"(%d,%s)" % (16 * (8 * k + i), words[(k - 20 + i) % 6]) for i in range(8)]
+        steps += b"// EXEC PGM=IEFBR14,\n//  COND=(%s,\n//  %s)\n" % (b",".join(tests[:4]), b",".join(tests[4:]))
+    return INITIATOR + deck(steps) * n + turns(1, 69 * n)
+
+
+def waits_beside_shared_names(n):
+    """{:,} turns of a job that waits for one name and shares 126, beside fourteen that hold these."""
+    shared = [lines(b"//D DD DSN=N%d,DISP=SHR", range(begin, end)) for begin, end in ((0, 64), (64, 126))]
+    steps = b"".join(b"// EXEC PGM=IEFBR14\n" + dds for dds in shared)
+    own = deck(steps + b"// EXEC PGM=IEFBR14\n//D DD DSN=ZZ,DISP=OLD\n")
+    starts = lines(b"./ TURN %d*2", range(2, 15))
+    return b"./ VOLUME V 9\n" + initiators(15) + own + b"./ TURN 1*2\n" + deck(steps) * 13 + starts + own + turns(15, n)
+
+
 GROWING = [
     (procedure_called_often, 2000),
     (long_procedure, 50_000),
@@ -278,6 +427,21 @@ GROWING = [
     (waits_for_space, 300),
     (waits_for_a_name, 60_000),
     (waits_for_the_last_name, 19_998),
+    (waits_beside_shared_names, 60_000),
+    (longest_wait_for_space, 8),
+    (many_classes, 32),
+    (opposite_tests, 300),
+    (views_of_old_sets, 20),
+    (views_of_no_sets, 20),
+    (views_of_unnamed_sets, 20),
+    (views_of_both, 20),
+    (views_of_few_dds, 40),
+    (largest_jobs, 8),
     (five_scenes, 21),
+    (seven_scenes, 17),
     (nine_scenes, 13),
+    (passed_scenes, 19),
+    (touched_scenes, 21),
+    (groups_of_two_pairs, 27),
+    (groups_of_four_pairs, 23),
 ]

@@ -71,8 +71,23 @@ PLAIN = {
     "waits_for_space": (173.7, 2.9),
     "waits_for_a_name": (28.3, 3.9),
     "waits_for_the_last_name": (84.8, 3.7),
+    "waits_beside_shared_names": (146.7, 5.1),
+    "longest_wait_for_space": (24.2, 2.6),
+    "many_classes": (6.4, 2.2),
+    "opposite_tests": (365.9, 4.2),
+    "views_of_old_sets": (476.9, 3.8),
+    "views_of_no_sets": (431.1, 3.5),
+    "views_of_unnamed_sets": (473.9, 3.8),
+    "views_of_both": (478.2, 3.7),
+    "views_of_few_dds": (868.7, 3.7),
+    "largest_jobs": (144.2, 5.1),
     "five_scenes": (39.3, 3.3),
+    "seven_scenes": (92.9, 3.2),
     "nine_scenes": (260.8, 3.2),
+    "passed_scenes": (128.0, 3.2),
+    "touched_scenes": (37.7, 3.2),
+    "groups_of_two_pairs": (76.8, 8.8),
+    "groups_of_four_pairs": (83.2, 8.6),
 }
 README = os.path.join(os.path.dirname(os.path.abspath(__file__)), "README.md")
 
