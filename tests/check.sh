@@ -1,6 +1,7 @@
 #!/bin/sh
 # Compares what the first program says of the decks of tests/check/ with what stands beside them, and the first numbers of its refused decks with
-# the REJECTED lines of the second one. Statuses are compared too: 1 where something is refused or may fail, 2 for a command line that cannot be used.
+# the REJECTED lines of the second one. In brief the findings are the same, a line each. Statuses are compared too: 1 where something is refused or
+# may fail, 2 for a command line that cannot be used.
 # Usage: tests/check.sh [CHECK [MVT]], by default ./mvt-check and ./mvt
 
 cd "$(dirname "$0")/.." || exit 2
@@ -45,6 +46,13 @@ for session in tests/check/*.session; do
     if ! cmp -s "$told" "$work/told"; then
         echo "DIFFERS $session"
         diff "$told" "$work/told" | head -n 20
+        differ=1
+    fi
+    "$check" --brief <"$session" >"$work/brief"
+    ends "$session, in brief" "$wanted" $?
+    sed -n 's/^line \([0-9]*\): /\1 /p' "$told" >"$work/found"
+    if ! sed 's/^\([0-9]*\):[1-9][0-9]*: /\1 /' "$work/brief" | cmp -s - "$work/found"; then
+        echo "DIFFERS $session, in brief"
         differ=1
     fi
     "$mvt" <"$session" 2>/dev/null | sed -n 's/^[0-9]* REJECTED //p' | grep -v '^Q' >"$work/rejected"

@@ -3,9 +3,10 @@
 
 Usage: python3 tests/citations.py
 
-A file is cited by its path, with or without `crates/` in front, or by its name alone: then it stands in a crate that was named before
-it in the same passage or in the line of crates above it, or one crate alone has it. The names behind it, each in quotes of its own, have to stand in it. `Admissions`,
-IsTold (as docs/LISTING.md has it) cites a name of the file Admissions.antt of `world_meaning`.
+A file is cited by its path, with or without `crates/` in front, or by its name alone: then it is in a crate that was named before it in the same
+passage or in the line of crates above it, or one crate alone has it. The names after it, each in quotes of its own, have to be in it, and so has a
+word without quotes that ends them, as in `admit_core/specs/Told.antt`, `IsTold`, risk. `Admissions`, Admits cites a name of the file Admissions.antt
+of `world_meaning` or `jcl_meaning`. In a table whose last column is "Defined in", a name alone is in a file that the page cited last above it.
 """
 
 import functools
@@ -15,10 +16,13 @@ import re
 import sys
 
 PAGES = ["README.md", *sorted(glob.glob("docs/*.md"))]
-FILE = re.compile(r"`([A-Za-z_0-9/]+\.(?:antt|rt))`((?:,? (?:and |with )?`[A-Za-z_0-9:]+`)*)")
+FILE = re.compile(r"`([A-Za-z_0-9/]+\.(?:antt|rt))`((?:[,:;]? (?:and |with )?`[A-Za-z_0-9:]+`)*(?:, [A-Za-z_]+(?=[;)]))?)")
 CALL = re.compile(r"`([a-z_0-9]+)::([A-Za-z_0-9:]+)`")
-CLAUSE = re.compile(r"`([A-Z][A-Za-z]+)`, ([A-Za-z_]+)(?=[;)])")
+CLAUSE = re.compile(r"`([A-Z][A-Za-z]+)`, ([A-Za-z_]+)(?=[;)]| \|)")
 CRATE = re.compile(r"`([a-z_0-9]+)(?:/[^`]*)?`")
+DEFINED_IN = re.compile(r"^\|[^\n]*\| Defined in \|\n\|[-|]*\|\n((?:\|[^\n]*\n)*)", re.M)
+# The crates whose files a page names without a path.
+KNOWN = ("world_meaning", "jcl_meaning")
 
 
 @functools.cache
@@ -50,8 +54,27 @@ def has_name(text, name):
     return re.search(rf"(?<![A-Za-z_0-9]){re.escape(name.split('::')[-1])}(?![A-Za-z_0-9])", text)
 
 
+def known_file(name):
+    """The file of this name in a crate whose files are named without a path, or None."""
+    found = [path for path in (f"crates/{crate}/specs/{name}.antt" for crate in KNOWN) if os.path.isfile(path)]
+    return found[0] if found else None
+
+
+def wrong_in_tables(page):
+    """Yields the names in the last columns of tables that the files cited above them do not have."""
+    text = text_of(page)
+    for table in DEFINED_IN.finditer(text):
+        cited = FILE.findall(text[: table.start()])
+        path = place_of(cited[-1][0], text[: table.start()]) if cited else None
+        for cell in re.findall(r"\| ([^|]*) \|$", table[1], re.M):
+            for name in re.findall(r"`([A-Za-z_]+)`", cell):
+                if not known_file(name) and not (path and (has_name(text_of(path), name) or has_name(text_of(path), f"{name}_faults"))):
+                    yield f"no {name} in {path}"
+
+
 def wrong_in(page):
     """Yields what a page cites and what is not there."""
+    yield from wrong_in_tables(page)
     heading = ""
     for passage in re.split(r"\n\n|\n(?=- |\||\d+\. )", text_of(page)):
         passage = " ".join(passage.split())
@@ -61,15 +84,18 @@ def wrong_in(page):
             if path is None:
                 yield f"no file {found[1]}"
                 continue
-            for name in re.findall(r"`([A-Za-z_0-9:]+)`", found[2]):
+            for name in re.findall(r"`([A-Za-z_0-9:]+)`|, ([A-Za-z_]+)$", found[2]):
+                name = name[0] or name[1]
                 if not os.path.isdir(f"crates/{name}") and not has_name(text_of(path), name):
                     yield f"no {name} in {path}"
         for crate, name in CALL.findall(passage):
             if os.path.isdir(f"crates/{crate}") and not has_name(sources_of(crate), name):
                 yield f"no call {crate}::{name}"
-        for file, name in CLAUSE.findall(passage):
-            path = f"crates/world_meaning/specs/{file}.antt"
-            if os.path.isfile(path) and not has_name(text_of(path), name):
+        for file, name in CLAUSE.findall(FILE.sub("", passage)):
+            path = known_file(file)
+            if path is None:
+                yield f"no file {file}.antt"
+            elif not has_name(text_of(path), name):
                 yield f"no {name} in {path}"
 
 

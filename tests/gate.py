@@ -3,6 +3,7 @@
 
 Usage: tests/gate.py [LOG]            runs it, at the top of a clone; bind it with `taskset -c 0,1` to measure on two processors
        tests/gate.py --budget [LOG]   runs nothing: compares what a run wrote to LOG with the table of the page
+       tests/gate.py --ways           runs nothing: tells in how many ways each library stands on others
 
 What the gate prints goes to LOG (gate.log by default). After it stand the processor seconds of each crate: of its proof, of its
 tests, of its edits with the proofs that these begin with; then what the other processes took (compilers, programs, `rt` itself).
@@ -11,7 +12,12 @@ some were kept from earlier runs it stays: what was kept took no time.
 
 What took over a tenth more than the page says, and two seconds more, is named, crate by crate. A crate that is not in the table is
 named with all that it took.
+
+Before and behind each library's proof `rt` reads the crate and all below it, each as often as crates.txt leads to it by another way.
+So a library high above many layers is dear though it is small. --ways tells the ways, and the seconds that this reading takes here.
 """
+import functools
+import hashlib
 import os
 import re
 import resource
@@ -118,6 +124,48 @@ def told_of(page, table):
     return [f"These {len(now)} crates took {sum(now.values()) / 60:.1f} minutes; by the page {alike / 60:.1f}. Over a tenth more:", *(lines or ["none"])]
 
 
+def libraries():
+    """What crates.txt says: the crates of the repository that each crate names."""
+    with open("crates.txt", encoding="utf-8") as it:
+        lines = [line.partition("#")[0].split(":", 1) for line in it if ":" in line.partition("#")[0]]
+    named = {name.strip(): below.split() for name, below in lines}
+    return {name: [it for it in below if it in named] for name, below in named.items()}
+
+
+def reading(crate):
+    """The seconds that it takes to read the files of a crate, and to make a sum of them: the least of three."""
+    took = []
+    for _ in range(3):
+        began, made = time.perf_counter(), hashlib.sha256()
+        for part in ("src", "specs", "proofs"):
+            for at, _, names in os.walk(f"crates/{crate}/{part}"):
+                for name in sorted(names):
+                    with open(f"{at}/{name}", "rb") as it:
+                        made.update(repr((name, it.read())).encode())
+        took.append(time.perf_counter() - began)
+    return min(took)
+
+
+def told_of_ways():
+    """Lines that tell the ways of the libraries with the most of them, and what reading them all takes."""
+    below = libraries()
+    alone = {crate: reading(crate) for crate in below}
+
+    @functools.cache
+    def ways(crate):
+        return 1 + sum(ways(it) for it in below[crate])
+
+    @functools.cache
+    def seconds(crate):
+        return alone[crate] + sum(seconds(it) for it in below[crate])
+
+    built = [crate for crate in below if not os.path.exists(f"crates/{crate}/src/main.rt")]
+    built.sort(key=seconds, reverse=True)
+    lines = [f"| `{crate}` | {ways(crate):,} | {2 * seconds(crate):.0f} s |" for crate in built[:12]]
+    whole = 2 * sum(seconds(crate) for crate in built)
+    return ["| Library | Ways | Read twice |", "|---|---|---|", *lines, f"All {len(built)} libraries: {whole / 60:.0f} minutes of one processor."]
+
+
 def run_gate(log):
     """Runs the gate and returns its status, its table, and what is said of the whole."""
     began = time.time()
@@ -136,6 +184,9 @@ def main():
     words = sys.argv[1:]
     if "--help" in words:
         print(__doc__)
+        return 0
+    if words == ["--ways"]:
+        print("\n".join(told_of_ways()))
         return 0
     is_budget = words[:1] == ["--budget"]
     names = words[is_budget:]

@@ -50,3 +50,6 @@ pub const LAYOUT_1: Layout = Layout {
     cards: Field { at: 26, width: 2 },
     next_cards: Field { at: 8, width: 2 },
 };
+
+/// The layout of the queue of a session.
+pub const QUEUE_LAYOUT: Layout = LAYOUT_1;

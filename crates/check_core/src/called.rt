@@ -56,7 +56,7 @@ impl<'a> Brought<'a> {
             }
         }
         match self.library.find(name) {
-            Some(procedure) => procedure.lines.as_slice().len(),
+            Some(procedure) => procedure.lines.len(),
             None => 0,
         }
     }

@@ -8,6 +8,7 @@ use card_core::field::fields_of;
 use card_core::statement::DataCard;
 use jcl_plan::fault::{Cause, StatementFault};
 use jname_core::name8::{Name8, is_name_character};
+use plain::lent::Lent;
 use plain::text::Text;
 use std::alloc::{AllocError, Global};
 use strsim::generic_levenshtein;
@@ -339,7 +340,7 @@ fn look_at_steps(
     alloc: Global,
     nearest: &mut Nearest,
     word: &[u8],
-    lines: &[Text],
+    lines: &[Lent<'_>],
 ) -> Result<(), AllocError> {
     for line in lines {
         if let Ok(card) = card_of(line.as_slice()) {
@@ -359,11 +360,13 @@ fn nearest_procedure_step(
     word: &[u8],
 ) -> Result<Option<Text>, AllocError> {
     let mut nearest = Nearest::none(word);
-    look_at_steps(alloc, &mut nearest, word, mended.lines.as_slice())?;
+    let own = mended.lent(alloc)?;
+    look_at_steps(alloc, &mut nearest, word, own.as_slice())?;
     for name in sources.procedure_names {
         if let Ok(name) = Name8::read(name.as_slice()) {
             if let Some(procedure) = sources.library.find(&name) {
-                look_at_steps(alloc, &mut nearest, word, procedure.lines.as_slice())?;
+                let lines = procedure.lines.lent(alloc)?;
+                look_at_steps(alloc, &mut nearest, word, lines.as_slice())?;
             }
         }
     }

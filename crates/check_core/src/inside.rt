@@ -12,6 +12,7 @@ use deck_places::judge::At;
 use deck_places::laws::each_called_statement_is_on_a_line;
 use jcl_plan::fault::Cause;
 use jname_core::name8::Name8;
+use plain::lent::Lent;
 use plain::text::Text;
 use proc_library::library::ProcLibrary;
 use std::alloc::{AllocError, Global};
@@ -30,23 +31,32 @@ fn line_in(place: &CalledPlace) -> Result<usize, AllocError>
     }
 }
 
-/// The lines of a procedure of the session.
-fn lines_of_session<'a>(library: &'a ProcLibrary, name: &Name8) -> &'a [Text]
-    ensures { result.now ≡ lines_in (in_library library.now name.now) }
+/// The lines of a procedure of the session, each lent.
+fn lines_of_session<'a>(
+    alloc: Global,
+    library: &'a ProcLibrary,
+    name: &Name8,
+) -> Result<Vec<Lent<'a>>, AllocError>
+    ensures { IfOk result (λ lines. lines.items ≡ lines_in (in_library library.now name.now)) }
 {
     match library.find(name) {
-        Some(procedure) => procedure.lines.as_slice(),
-        None => &[],
+        Some(procedure) => procedure.lines.lent(alloc),
+        None => Ok(Vec::new(alloc)),
     }
 }
 
-/// The lines on which a procedure stands.
-fn lines_of<'a>(library: &'a ProcLibrary, mended: &'a Mended, place: &CalledPlace) -> &'a [Text]
-    ensures { result.now ≡ lines_of library.now mended.now.lines.items place.now }
+/// The lines on which a procedure stands, each lent.
+fn lines_of<'a>(
+    alloc: Global,
+    library: &'a ProcLibrary,
+    mended: &'a Mended,
+    place: &CalledPlace,
+) -> Result<Vec<Lent<'a>>, AllocError>
+    ensures { IfOk result (λ lines. lines.items ≡ lines_of library.now mended.now.lines.items place.now) }
 {
     match place.head {
-        Some(_) => mended.lines.as_slice(),
-        None => lines_of_session(library, &place.procedure),
+        Some(_) => mended.lent(alloc),
+        None => lines_of_session(alloc, library, &place.procedure),
     }
 }
 
@@ -79,7 +89,8 @@ fn inside_of(
         return Ok(None);
     };
     each_called_statement_is_on_a_line();
-    let Some(card) = lines_of(library, mended, &place).get(place.card) else {
+    let lines = lines_of(alloc, library, mended, &place)?;
+    let Some(card) = lines.get(place.card) else {
         return Ok(None);
     };
     Ok(Some(Inside {

@@ -385,6 +385,36 @@ impl Mended {
         Ok(())
     }
 
+    /// Whether a card begins or ends a procedure of the deck: `None` where it does neither.
+    fn begins_procedure(&self, n: usize) -> Option<bool> {
+        match card_at(self.lines.as_slice(), n) {
+            Some(card) if kind_of(&card) == Kind::Jcl => {
+                let operation = fields_of(&card).operation;
+                if operation == b"PROC".as_slice() {
+                    Some(true)
+                } else if operation == b"PEND".as_slice() {
+                    Some(false)
+                } else {
+                    None
+                }
+            }
+            _ => None,
+        }
+    }
+
+    /// Puts comments in the place of the steps from a card on. The procedures among them stay, for a step before them may call one.
+    fn drop_steps(&mut self, alloc: Global, from: usize) -> Result<(), AllocError> {
+        let mut is_inside = false;
+        for n in from..self.end_behind(from, self.lines.len()) {
+            match self.begins_procedure(n) {
+                Some(begins) => is_inside = begins,
+                None if is_inside => {}
+                None => self.put(n, Text::copy_of(alloc, b"//*")?, Touched::Once),
+            }
+        }
+        Ok(())
+    }
+
     /// Puts a JOB statement in front.
     fn put_job(&mut self, alloc: Global) -> Result<(), AllocError> {
         self.lines
@@ -423,6 +453,10 @@ impl Mended {
             return Ok(true);
         }
         match self.span_at(alloc, at)? {
+            Some(span) if cause == Cause::P(StatementFault::TooManySteps) => {
+                self.drop_steps(alloc, span.from)?;
+                Ok(true)
+            }
             Some(span) => {
                 self.replace(alloc, self.whole_span(span), is_of_step(cause))?;
                 Ok(true)

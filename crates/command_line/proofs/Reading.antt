@@ -12,8 +12,8 @@ use Rattle.clap.specs.declared.error.Error.{Error}
 use Rattle.clap.specs.declared.error.kind.ErrorKind.{ErrorKind}
 use Rattle.clap.specs.declared.error.kind.ErrorKind.TheVariants as kind
 use Rattle.clap.specs.declared.parser.matches.ArgMatches.{ArgMatches}
-use Rattle.session_core.specs.declared.Options.{Options}
-use Rattle.session_core.specs.declared.RiskChoice.{RiskChoice}
+use Rattle.run_options.specs.declared.Options.{Options}
+use Rattle.run_options.specs.declared.RiskChoice.{RiskChoice}
 use Rattle.command_line.proofs.Examples.{choices_at}
 use Rattle.command_line.specs.declared.options.Asked.{Asked}
 use Rattle.command_line.specs.CommandLines.{IsProgram, IsRead, given_in, given_of, has_text, is_used, options_in, options_of, program_with, risk_in, texts, views_in}

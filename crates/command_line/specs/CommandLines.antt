@@ -13,9 +13,9 @@ use Rattle.clap.specs.declared.error.kind.ErrorKind.TheVariants as kind
 use Rattle.jname_core.specs.Decimals.{number_within}
 use Rattle.command_line.specs.declared.options.Asked.{Asked}
 use Rattle.command_line.specs.declared.program.Flag.{Flag}
-use Rattle.session_core.specs.declared.Options.{Options}
-use Rattle.session_core.specs.declared.RiskChoice.{RiskChoice}
-use Rattle.session_core.specs.declared.RiskChoice.TheVariants as risk
+use Rattle.run_options.specs.declared.Options.{Options}
+use Rattle.run_options.specs.declared.RiskChoice.{RiskChoice}
+use Rattle.run_options.specs.declared.RiskChoice.TheVariants as risk
 use Rattle.std.specs.Str.{bytes_eq}
 
 -- the texts behind references

@@ -3,8 +3,8 @@ use Rattle.std.specs.Prelude.{◌≡◌, false, true, List, [], ◌∷◌, codes
 use Rattle.clap.specs.Words.{App, Kinds, Text}
 use Rattle.clap.specs.declared.error.kind.ErrorKind.{ErrorKind}
 use Rattle.clap.specs.declared.error.kind.ErrorKind.TheVariants as kind
-use Rattle.session_core.specs.declared.Options.{Options}
-use Rattle.session_core.specs.declared.RiskChoice.TheVariants as risk
+use Rattle.run_options.specs.declared.Options.{Options}
+use Rattle.run_options.specs.declared.RiskChoice.TheVariants as risk
 use Rattle.command_line.specs.CommandLines.{given_of, kinds_of, options_of}
 
 -- words behind the program's name, and the options that they ask for

@@ -33,6 +33,16 @@ fn with_flags<'a>(
     Ok(command)
 }
 
+/// A command whose help ends with a text, if there is one.
+fn with_end<'a>(command: Command<'a>, end: &'a str) -> Command<'a>
+    ensures { app_of result ≡ app_of command.entry }
+{
+    if end.is_empty() {
+        return command;
+    }
+    command.after_help(end)
+}
+
 /// The command line of a program.
 pub(crate) fn command<'a>(alloc: Global, program: &Program<'a>) -> Result<Command<'a>, AllocError>
     ensures { IfOk result (λ c. IsProgram program.now.name.now (names_of program.now.flags.now) (app_of c)) }
@@ -55,7 +65,8 @@ pub(crate) fn command<'a>(alloc: Global, program: &Program<'a>) -> Result<Comman
     let command = Command::new(alloc, program.name)
         .version(VERSION)
         .about(program.about)
-        .override_usage(program.usage)
+        .override_usage(program.usage);
+    let command = with_end(command, program.end)
         .arg(risk)?
         .arg(views)?
         .arg(explain)?;

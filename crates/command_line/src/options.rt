@@ -8,7 +8,7 @@ use crate::program::{Flag, Program};
 use clap::error::ErrorKind;
 use clap::{ArgMatches, Error};
 use jname_core::decimal::number_within;
-use session_core::{Options, RiskChoice};
+use run_options::{Options, RiskChoice};
 use std::alloc::{AllocError, Global};
 use std::convert::AsStr;
 

@@ -21,4 +21,6 @@ pub struct Program<'a> {
     /// How it is called.
     pub usage: &'a str,
     pub flags: &'a [Flag<'a>],
+    /// What its help says last: how it ends, an example, and the programs beside it; nothing where it is empty.
+    pub end: &'a str,
 }

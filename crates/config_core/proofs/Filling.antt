@@ -1,5 +1,5 @@
 -- A set that gets its records, and is taken off again.
-use Rattle.std.proofs.Common.{◌≡◌, ℕ, zero, suc, ◌+◌, List, [], ◌∷◌, ◌++◌, Some, None, take, slice_get, sym, ap, subst, arith, ◌∙◌}
+use Rattle.std.proofs.Common.{◌≡◌, ℕ, List, [], ◌∷◌, ◌++◌, Some, None, sym, ap, subst, ◌∙◌}
 use Rattle.std.specs.FinMap as finite
 use Rattle.extent_core.specs.declared.extent.Extent.{Extent}
 use Rattle.std.proofs.lemmas.Option.{none-some, same_Some}
@@ -79,14 +79,3 @@ pub made_free : (old new : MountedState) (place : KeptPlace) (key : SetKey) (n :
 made_free old new place key n none made =
     let was = subst (λ o. WasMade o old place key n None new) (ap (λ kept. finite.get kept place) none ∙ finite.get-empty place_cmp place) made in
     (was.0, was.1, was.3)
-
--- the item of a place behind those before it
-pub front_more : {X : Type 0} (xs : List X) (n : ℕ) (x : X) → slice_get xs n ≡ Some x → take (n + 1) xs ≡ take n xs ++ x ∷ []
-front_more {X} xs n x there =
-    let next : n + 1 ≡ suc n = omega arith in
-    ap (λ (k : ℕ). take k xs) next ∙ by n xs there
-  where
-    by : (k : ℕ) (ys : List X) → slice_get ys k ≡ Some x → take (suc k) ys ≡ take k ys ++ x ∷ []
-    by k [] e = absurd (none-some x e)
-    by zero (y ∷ ys) e = ap (λ (z : X). z ∷ []) (same_Some y x e)
-    by (suc k) (y ∷ ys) e = ap (λ (zs : List X). y ∷ zs) (by k ys e)

@@ -9,7 +9,7 @@ ghost use Rattle.config_core.specs.Refusals.{IsRefusal};
 use crate::faults::{
     are_classes, are_rising, has_initiator, has_program, has_volume, has_volumes, refused_by,
 };
-use crate::known::{are_requests, is_name};
+use crate::known::is_name;
 use crate::sets::{enter_set, has_room, place_of};
 use crate::units::Units;
 use cat_core::catalog::Catalog;
@@ -291,7 +291,7 @@ impl Config {
         if let Some(fault) = self.program_fault(&name, requests.get()) {
             return Err(ConfigError::Refused(fault));
         }
-        are_requests(requests.get());
+        requests.get().are_requests();
         let requests = requests.clone()?;
         self.programs.add(name, requests)?;
         Ok(())

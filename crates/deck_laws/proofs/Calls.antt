@@ -16,14 +16,14 @@ use Rattle.list_values.specs.Conditions.{no_condition}
 use Rattle.value_core.specs.Reads.{Read}
 use Rattle.jcl_symbols.specs.Substitutions.{substituted}
 use Rattle.cb_meaning.specs.Writable.{IsName}
-use Rattle.jcl_cards.specs.declared.dd.DdCard.{DdCard}
 use Rattle.jcl_cards.specs.declared.exec.ExecCard.{ExecCard}
 use Rattle.jcl_cards.specs.declared.exec.Runs.{Runs}
 use Rattle.jcl_cards.specs.declared.exec.Runs.TheVariants.{Procedure, Program}
 use Rattle.jcl_cards.specs.declared.exec.StepCondition.{StepCondition}
-use Rattle.jcl_cards.specs.DdCards.{dd_card, dd_name_faults, has_data}
 use Rattle.jcl_cards.specs.ExecCards.{exec_card}
-use Rattle.jcl_cards.specs.Merging.{by_itself}
+use Rattle.jcl_dds.specs.declared.dd.DdCard.{DdCard}
+use Rattle.jcl_dds.specs.DdCards.{dd_card, dd_name_faults, has_data}
+use Rattle.jcl_dds.specs.Merging.{by_itself}
 use Rattle.jcl_deck.specs.declared.operation.Operation.{Operation}
 use Rattle.jcl_deck.specs.declared.operation.Operation.TheVariants.{IsDd, IsExec, IsJob, IsOther, IsPend, IsProc}
 use Rattle.jcl_deck.specs.Decks.{dd_place_faults, has_no_name, operation_of}

@@ -9,7 +9,7 @@ use Rattle.jcl_plan.specs.declared.fault.StatementFault.TheVariants.{NothingToCo
 use Rattle.card_core.specs.declared.statement.Statement.{Statement}
 use Rattle.operand_core.specs.Faults.{told, when}
 use Rattle.operand_core.proofs.Told.{told-none}
-use Rattle.jcl_cards.specs.declared.dd.DdCard.{DdCard}
+use Rattle.jcl_dds.specs.declared.dd.DdCard.{DdCard}
 use Rattle.jcl_deck.specs.Decks.{dd_place_faults, has_no_name, last_has_dd}
 use Rattle.statement_laws.proofs.Faultless.{when_none}
 use Rattle.deck_laws.specs.Sound.{BeginsWithName, IsNamed}

@@ -6,8 +6,8 @@ use Rattle.std.proofs.lemmas.List.{length_push}
 use Rattle.std.proofs.lemmas.List.Elements.{All-cons, All-head, All-nil, All-push, All-tail}
 use Rattle.jcl_plan.specs.declared.fault.Cause.{Cause}
 use Rattle.operand_core.specs.Faults.{told}
-use Rattle.jcl_cards.specs.declared.dd.DdCard.{DdCard}
-use Rattle.jcl_cards.specs.Merging.{by_itself, merged}
+use Rattle.jcl_dds.specs.declared.dd.DdCard.{DdCard}
+use Rattle.jcl_dds.specs.Merging.{by_itself, merged}
 use Rattle.jcl_procs.specs.declared.step.FlatStep.{FlatStep}
 use Rattle.jcl_procs.specs.Overrides.{adds, dds_at, dds_overridden, inserts, is_of_name, overrides_by_position, overrides_from, overrides_member, overrides_named, overrides_next, overrides_one, overrides_there, place_behind, puts_merged, step_at, steps_behind, with_dd, with_dd_between, with_dds}
 use Rattle.jcl_procs.proofs.Reached.{dds_put, length_put, length_with_dd}

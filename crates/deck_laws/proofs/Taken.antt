@@ -8,8 +8,8 @@ use Rattle.operand_core.specs.Qualified.{is_qualified}
 use Rattle.operand_core.proofs.Faultless.{none_behind, told_none_behind, told_none_in_front}
 use Rattle.operand_core.proofs.Told.{told-none}
 use Rattle.value_core.specs.Reads.{Read}
-use Rattle.jcl_cards.specs.declared.dd.DdCard.{DdCard}
-use Rattle.jcl_cards.specs.DdCards.{behind_period, dd_card, dd_name_faults, dd_name_of, dd_with}
+use Rattle.jcl_dds.specs.declared.dd.DdCard.{DdCard}
+use Rattle.jcl_dds.specs.DdCards.{behind_period, dd_card, dd_name_faults, dd_name_of, dd_with}
 use Rattle.deck_laws.specs.Sound.{IsNamed}
 
 -- no fault is told, and the card is the value

@@ -4,8 +4,8 @@ use Rattle.card_core.specs.declared.statement.Statement.{Statement}
 use Rattle.card_core.specs.Deck.{statements_of}
 use Rattle.list_values.specs.Conditions.{no_condition}
 use Rattle.jcl_cards.specs.declared.coded.Coded.TheVariants.{Value}
-use Rattle.jcl_cards.specs.declared.dd.Word.TheVariants.{Cards, Dummy}
-use Rattle.jcl_cards.specs.Examples.{empty_dd}
+use Rattle.jcl_dds.specs.declared.dd.Word.TheVariants.{Cards, Dummy}
+use Rattle.jcl_dds.specs.Examples.{empty_dd}
 use Rattle.jcl_deck.specs.Decks.{deck_of}
 use Rattle.jcl_procs.specs.declared.step.FlatStep.{FlatStep}
 use Rattle.jcl_procs.specs.Expansions.{and_then, flat_of}

@@ -3,7 +3,7 @@ use Rattle.std.specs.Prelude.{ℕ, ◌≤◌, List, [], ◌∷◌, length, Optio
 use Rattle.jname_core.specs.Grammar.{IsName8}
 use Rattle.card_core.specs.declared.statement.Statement.{Statement}
 use Rattle.cb_meaning.specs.Writable.{IsName}
-use Rattle.jcl_cards.specs.declared.dd.DdCard.{DdCard}
+use Rattle.jcl_dds.specs.declared.dd.DdCard.{DdCard}
 use Rattle.jcl_deck.specs.declared.deck.Deck.{Deck}
 use Rattle.jcl_deck.specs.declared.deck.DeckStep.{DeckStep}
 use Rattle.jcl_deck.specs.declared.deck.Procedure.{Procedure}

@@ -4,11 +4,11 @@ use Rattle.std.proofs.lemmas.List.{take_all}
 use Rattle.card_core.specs.declared.statement.Statement.{Statement}
 use Rattle.card_core.specs.declared.fault.CardFault.{CardFault}
 use Rattle.card_core.specs.Deck.{statements_of}
-use Rattle.jcl_cards.specs.declared.dd.DdCard.{DdCard}
 use Rattle.jcl_cards.specs.declared.exec.ExecCard.{ExecCard}
 use Rattle.jcl_cards.specs.declared.exec.Runs.{Runs}
 use Rattle.jcl_cards.specs.declared.exec.Runs.TheVariants.{Procedure, Program}
 use Rattle.jcl_cards.specs.ExecCards.{exec_card}
+use Rattle.jcl_dds.specs.declared.dd.DdCard.{DdCard}
 use Rattle.jcl_deck.specs.declared.deck.Deck.{Deck}
 use Rattle.jcl_deck.specs.declared.deck.Procedure as in_stream
 use Rattle.jcl_deck.specs.declared.operation.Operation.TheVariants.{IsExec}

@@ -3,11 +3,11 @@ use Rattle.std.specs.Prelude.{◌≡◌, ◌<◌, ◌≤◌, ℕ, ◌+◌, Bool,
 use Rattle.std.specs.List.{position_from}
 use Rattle.std.specs.Str.{bytes_eq}
 use Rattle.card_core.specs.declared.statement.Statement.{Statement}
-use Rattle.jcl_cards.specs.declared.dd.DdCard.{DdCard}
 use Rattle.jcl_cards.specs.declared.exec.ExecCard.{ExecCard}
 use Rattle.jcl_cards.specs.declared.exec.Runs.{Runs}
 use Rattle.jcl_cards.specs.declared.exec.Runs.TheVariants.{Procedure, Program}
 use Rattle.jcl_cards.specs.ExecCards.{exec_card}
+use Rattle.jcl_dds.specs.declared.dd.DdCard.{DdCard}
 use Rattle.jcl_deck.specs.declared.deck.Deck.{Deck}
 use Rattle.jcl_deck.specs.declared.deck.Procedure as in_stream
 use Rattle.jcl_deck.specs.declared.operation.Operation.{Operation}

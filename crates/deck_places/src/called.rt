@@ -27,9 +27,7 @@ use jcl_plan::fault::{Cause, StatementFault};
 use jcl_procs::calls::{Caller, steps_of};
 use jcl_symbols::symbol::Symbol;
 use jname_core::name8::Name8;
-use plain::lent::Lent;
 use plain::listed::Listed;
-use plain::text::Text;
 use proc_library::library::ProcLibrary;
 use std::alloc::{AllocError, Global};
 use value_core::refusal::ReadError;
@@ -363,17 +361,6 @@ fn called_on(
     called_in(alloc, calling, &found, cause)
 }
 
-/// The cards that lines lend.
-fn lent<'a>(alloc: Global, lines: &'a [Text]) -> Result<Vec<Lent<'a>>, AllocError>
-    ensures { IfOk result (λ lent. lent.items ≡ lines.now) }
-{
-    let mut lent = Vec::new(alloc);
-    for line in lines {
-        lent.push(Lent::new(line.as_slice()))?;
-    }
-    Ok(lent)
-}
-
 /// The same of a procedure of the session.
 pub(crate) fn called_in_session(
     alloc: Global,
@@ -386,7 +373,7 @@ pub(crate) fn called_in_session(
     let Some(procedure) = library.find(&calling.procedure) else {
         return Ok(None);
     };
-    let lines = lent(alloc, procedure.lines.as_slice())?;
+    let lines = procedure.lines.lent(alloc)?;
     match read_statements(alloc, lines.as_slice()) {
         Ok(statements) => called_on(
             alloc,

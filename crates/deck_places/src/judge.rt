@@ -19,7 +19,7 @@ use jcl_deck::deck::Deck;
 use jcl_deck::place::Place;
 use jcl_plan::fault::Cause;
 use jcl_plan::plan::{JobPlan, MOST_STEPS};
-use jcl_procs::expansion::{Expansion, expand};
+use jcl_procs::expansion::{Expansion, Reached, expand_to};
 use jcl_refs::plan::plan_of;
 use jcl_refs::units::UnitNames;
 use proc_library::library::ProcLibrary;
@@ -79,6 +79,7 @@ fn judge_steps(
     statements: &[Statement],
     job: JobCard,
     expansion: Expansion,
+    reached: Reached,
 ) -> Result<Judged, AllocError>
     requires { Has sources.now.library.now statements.now job expansion }
     ensures { IfOk result (AreJudged sources.now.units.now sources.now.library.now statements.now) }
@@ -87,7 +88,9 @@ fn judge_steps(
         Ok(plan) => Ok(Judged::Taken(plan)),
         Err(ReadError::Refused(cause)) => {
             let number = plan_part(cause);
-            let k = sources.bringer(alloc, Part::Plan(number), statements)?;
+            let part = Part::Plan(number);
+            let near = sources.near_of(part, statements, reached);
+            let k = sources.bringer(alloc, part, statements, near)?;
             Ok(Judged::Refused(cause, At::Planned(number, k)))
         }
         Err(ReadError::Memory) => Err(AllocError),
@@ -110,10 +113,13 @@ fn judge_deck(
         steps,
     } = deck;
     let procedures = procedures.as_slice();
-    match expand(alloc, sources.library, procedures, steps, MOST_STEPS) {
-        Ok(expansion) => judge_steps(alloc, sources, statements, job, expansion),
+    let mut reached = Reached { step: 0, kept: 0 };
+    let library = sources.library;
+    match expand_to(alloc, library, procedures, steps, MOST_STEPS, &mut reached) {
+        Ok(expansion) => judge_steps(alloc, sources, statements, job, expansion, reached),
         Err(ReadError::Refused(cause)) => {
-            let k = sources.bringer(alloc, Part::Calls, statements)?;
+            let near = sources.near_of(Part::Calls, statements, reached);
+            let k = sources.bringer(alloc, Part::Calls, statements, near)?;
             Ok(Judged::Refused(cause, At::Call(k)))
         }
         Err(ReadError::Memory) => Err(AllocError),

@@ -6,10 +6,11 @@ use crate::copies::cut;
 use crate::part::Part;
 use card_core::statement::Statement;
 use jcl_deck::deck::Deck;
+use jcl_deck::operation::{Operation, operation_of};
 use jcl_deck::read::read_deck;
 use jcl_plan::fault::{Cause, StatementFault};
 use jcl_plan::plan::MOST_STEPS;
-use jcl_procs::expansion::expand;
+use jcl_procs::expansion::{Reached, expand};
 use jcl_refs::plan::plan_of;
 use jcl_refs::units::UnitNames;
 use proc_library::library::ProcLibrary;
@@ -42,6 +43,43 @@ pub(crate) fn next_count(low: usize, high: usize, near: Option<usize>, width: us
         wanted
     } else {
         half
+    }
+}
+
+/// How far from the last one that was tried the next is: one behind the statement that was looked at first, then ever more.
+fn next_width(width: usize, tried: usize, near: Option<usize>) -> usize {
+    match near {
+        Some(near) if tried == near => 1,
+        _ => width.saturating_mul(2),
+    }
+}
+
+/// The EXEC statement of a step of the deck, which counts from 1: those of procedures are not among them.
+fn exec_of(statements: &[Statement], step: usize) -> Option<usize> {
+    let mut left = step;
+    let mut is_inside = false;
+    for (k, statement) in statements.iter().enumerate() {
+        match operation_of(statement.operation.as_slice()) {
+            Operation::IsProc => is_inside = true,
+            Operation::IsPend => is_inside = false,
+            Operation::IsExec if !is_inside => {
+                if left <= 1 {
+                    return Some(k);
+                }
+                left -= 1;
+            }
+            _ => {}
+        }
+    }
+    None
+}
+
+/// The first step of a deck with which there may be too many: where none was kept, the deck itself has more than there may be.
+fn first_over(reached: Reached) -> usize {
+    if reached.kept == 0 {
+        MOST_STEPS + 1
+    } else {
+        reached.kept.saturating_add(1)
     }
 }
 
@@ -101,12 +139,27 @@ impl<'a> Sources<'a> {
         }
     }
 
-    /// A statement with which a refusal comes that the whole deck has.
+    /// The statement near which the one that brings a refusal is looked for first: where the steps were read to.
+    pub(crate) fn near_of(
+        &self,
+        part: Part,
+        statements: &[Statement],
+        reached: Reached,
+    ) -> Option<usize> {
+        match part {
+            Part::Calls => exec_of(statements, reached.step),
+            Part::Plan(1) => exec_of(statements, first_over(reached)),
+            Part::Plan(_) => self.near,
+        }
+    }
+
+    /// A statement with which a refusal comes that the whole deck has, looked for near this one first.
     pub(crate) fn bringer(
         &self,
         alloc: Global,
         part: Part,
         statements: &[Statement],
+        near: Option<usize>,
     ) -> Result<usize, AllocError>
         requires { refuses part self.now.units.now self.now.library.now statements.now ≡ true }
         ensures { IfOk result (BringsRefusal part self.now.units.now self.now.library.now statements.now) }
@@ -115,13 +168,13 @@ impl<'a> Sources<'a> {
         let mut high = statements.len();
         let mut width: usize = 1;
         while low + 1 < high {
-            let middle = next_count(low, high, self.near, width);
+            let middle = next_count(low, high, near, width);
             if self.refuses_cut(alloc, part, statements, middle)? {
                 high = middle;
             } else {
                 low = middle;
             }
-            width = width.saturating_mul(2);
+            width = next_width(width, middle, near);
         }
         Ok(low)
     }

@@ -5,7 +5,6 @@ pub mod change;
 pub mod course;
 pub mod dispose;
 mod refuse;
-pub mod resolve;
 pub mod site;
 pub mod step;
 pub mod take;

@@ -134,6 +134,9 @@ module _ {Q : Type 0} (queue_of : Q → RecordQueue) (profile : Profile) (p : Pa
   abbrev pub its : Running
   its = record { job = job; walk = walk; stage = stage.Named named }
 
+  abbrev shown_its : world.Running
+  shown_its = shown_running c (queue_of p.queue) its
+
   module _ (some : job ≢ 0) (own : named.held ≡ job) (store : SharedStore) (lines : List JobLine) (told : Told) (is : lines ≡ walk.course.lines ++ told.line ∷ [])
       (given : Provision) (a : IsProvision p.store profile.units.now job named.plan p.date given)
       (holds : IsTold p.store profile.programs.now profile.most_views job named.plan (fixed_by_room p.store profile.units.now job named.plan p.date) told.line)
@@ -155,11 +158,11 @@ module _ {Q : Type 0} (queue_of : Q → RecordQueue) (profile : Profile) (p : Pa
     fixed_given = λ i. fixed_with c.volumes plan given.places (sym a.meant i) (sym a.dated i)
 
     abbrev Answers : List JobLine → Shared → Option world.Running → Type 0
-    Answers ls s runs = WorldAnswered c (shown queue_of p) (shown_running c its) plan here ls s runs
+    Answers ls s runs = WorldAnswered c (shown queue_of p) shown_its plan here ls s runs
 
     -- what is open in it is as the volumes decide it
     abbrev chosen_to : List JobLine → Shared → Option world.Running → Type 0
-    chosen_to ls s runs = (x : Admits c (shown queue_of p) (shown_running c its) plan ls s runs) × IsAdmittedByVolumes c p.store p.date job plan x.places ls
+    chosen_to ls s runs = (x : Admits c (shown queue_of p) shown_its plan ls s runs) × IsAdmittedByVolumes c p.store p.date job plan x.places ls
         × (told.path ≡ explained c.explains (fixed_at c (shown queue_of p) job plan x.places) plan (seen job (world_store_of p.store)) ls)
 
     -- a risk is explained by its path
@@ -198,14 +201,14 @@ module _ {Q : Type 0} (queue_of : Q → RecordQueue) (profile : Profile) (p : Pa
     module _ (first : IsFirst plan c) (s : Shared) (reopened : Reopened c.layout s (shown queue_of new)) (good : IsGood queue_of c new)
         (extents : ExtentsFollow p.store store) where
       abbrev Begins : Bool → AdmittedJob → Type 0
-      Begins b x = admitted (shown_running c its) (told.line ∷ []) plan here b ≡ Some (shown_running c (then x))
+      Begins b x = admitted shown_its (told.line ∷ []) plan here b ≡ Some (shown_running c (queue_of p.queue) (then x))
 
       at_work : (b : Bool) (x : AdmittedJob) → Begins b x → IsAt c p.names job (begun (with_lines walk lines)) (stage.Admitted x) →
-          Answers (told.line ∷ []) s (admitted (shown_running c its) (told.line ∷ []) plan here b) → told.line ∷ [] ≡ lines_answered c.refuses told.line →
+          Answers (told.line ∷ []) s (admitted shown_its (told.line ∷ []) plan here b) → told.line ∷ [] ≡ lines_answered c.refuses told.line →
           GoesOn (Admitted x)
       at_work b x begins there answers e =
-          let goes : chosen_to (told.line ∷ []) s (Some (shown_running c (then x))) =
-          subst (chosen_to (told.line ∷ []) s) begins (chosen (told.line ∷ []) s (admitted (shown_running c its) (told.line ∷ []) plan here b) answers e path_here) in
+          let goes : chosen_to (told.line ∷ []) s (Some (shown_running c (queue_of p.queue) (then x))) =
+          subst (chosen_to (told.line ∷ []) s) begins (chosen (told.line ∷ []) s (admitted shown_its (told.line ∷ []) plan here b) answers e path_here) in
           record {
             middle = s;
             goes = goes.0;
@@ -223,7 +226,7 @@ module _ {Q : Type 0} (queue_of : Q → RecordQueue) (profile : Profile) (p : Pa
       nothing_on : All (λ (x : DdState). IsTakenOn c.volumes x.taken) []
       nothing_on = All-nil (λ (x : DdState). IsTakenOn c.volumes x.taken)
 
-      assured_at_work : (tracks actions : ℕ) → Answers (told.line ∷ []) s (admitted (shown_running c its) (told.line ∷ []) plan here true) →
+      assured_at_work : (tracks actions : ℕ) → Answers (told.line ∷ []) s (admitted shown_its (told.line ∷ []) plan here true) →
           told.line ∷ [] ≡ lines_answered c.refuses told.line → GoesOn (Admitted (admitted_as.Assured (record { named = named; given = given; tracks = tracks; actions = actions })))
       assured_at_work tracks actions answers e =
           at_work true (admitted_as.Assured (record { named = named; given = given; tracks = tracks; actions = actions }))
@@ -234,7 +237,7 @@ module _ {Q : Type 0} (queue_of : Q → RecordQueue) (profile : Profile) (p : Pa
           }))
           (own, record { stands = first.0; on = nothing_on }) answers e
 
-      risky_at_work : Answers (told.line ∷ []) s (admitted (shown_running c its) (told.line ∷ []) plan here false) →
+      risky_at_work : Answers (told.line ∷ []) s (admitted shown_its (told.line ∷ []) plan here false) →
           told.line ∷ [] ≡ lines_answered c.refuses told.line → GoesOn (Admitted (admitted_as.Risky (record { named = named; given = given })))
       risky_at_work answers e =
           at_work false (admitted_as.Risky (record { named = named; given = given }))
@@ -313,7 +316,7 @@ module _ {Q : Type 0} (queue_of : Q → RecordQueue) (profile : Profile) (p : Pa
 
     -- it may fail: it runs with checks
     abbrev MayFailSo : List JobLine → Shared → Option world.Running → Type 0
-    MayFailSo ls s runs = MayFail c (shown queue_of p) (shown_running c its) plan here told.line ls s runs
+    MayFailSo ls s runs = MayFail c (shown queue_of p) shown_its plan here told.line ls s runs
 
     -- what holds of it in the store is what the table asks
     abbrev Warns : JobLine → Type 0
@@ -324,7 +327,7 @@ module _ {Q : Type 0} (queue_of : Q → RecordQueue) (profile : Profile) (p : Pa
     checked : (kind : JobLine) → Warns kind → store ≡ p.store → c.refuses ≡ false → IsFirst plan c → GoesOn (Admitted (admitted_as.Risky (record { named = named; given = given })))
     checked kind w same e first =
         risky_at_work first (shown queue_of p) (same_shown same) (same_good same) (same_extents same)
-        (w.2 (told.line ∷ []) (shown queue_of p) (admitted (shown_running c its) (told.line ∷ []) plan here false) (answer.risky e refl refl refl))
+        (w.2 (told.line ∷ []) (shown queue_of p) (admitted shown_its (told.line ∷ []) plan here false) (answer.risky e refl refl refl))
         (by_command_line c.refuses false told.line kind w.1 w.0 e)
 
     -- or not at all
@@ -361,7 +364,7 @@ module _ {Q : Type 0} (queue_of : Q → RecordQueue) (profile : Profile) (p : Pa
       (λ x. refl),
       λ ls s runs may. answer.risk fault step dd path
           (subst (λ x. IsEarliest x plan (seen job (world_store_of p.store)) c.most_views fault step dd path) fixed_here earliest).meets
-          (subst (λ l. MayFail c (shown queue_of p) (shown_running c its) plan here l ls s runs) e may),
+          (subst (λ l. MayFail c (shown queue_of p) shown_its plan here l ls s runs) e may),
       refused_alike here plan (seen job (world_store_of p.store)) c.explains fault step dd path,
     )
 
@@ -371,7 +374,7 @@ module _ {Q : Type 0} (queue_of : Q → RecordQueue) (profile : Profile) (p : Pa
         subst (λ x. IsFirstWithMore x plan (seen job (world_store_of p.store)) c.most_views step) fixed_here more in (
           e,
           (λ x. refl),
-          λ ls s runs may. answer.too_many step m.from_one m.to_last m.more (subst (λ l. MayFail c (shown queue_of p) (shown_running c its) plan here l ls s runs) e may),
+          λ ls s runs may. answer.too_many step m.from_one m.to_last m.more (subst (λ l. MayFail c (shown queue_of p) shown_its plan here l ls s runs) e may),
           many_alike here plan (seen job (world_store_of p.store)) c.explains step,
         )
 

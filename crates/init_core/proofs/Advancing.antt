@@ -105,6 +105,9 @@ module _ {Q : Type 0} (queue_of : Q → RecordQueue) (profile : Profile) (p : Pa
   abbrev pub its : Running
   its = at_walk walk
 
+  abbrev shown_its : world.Running
+  shown_its = shown_running c (queue_of p.queue) its
+
   abbrev pub its_around : Around
   its_around = around_in profile p.units job a (has_cancel p.cancels job) p.store
 
@@ -116,7 +119,7 @@ module _ {Q : Type 0} (queue_of : Q → RecordQueue) (profile : Profile) (p : Pa
 
   abbrev advances_to : List JobLine → Shared → Option world.Running → Type 0
   advances_to lines new runs =
-      Advances c (shown queue_of p) (shown_running c its) plan (shown_admission c a) (count_at plan c.programs walk.todo) walk.course.own lines new runs
+      Advances c (shown queue_of p) shown_its plan (shown_admission c a) (count_at plan c.programs walk.todo) walk.course.own lines new runs
 
   -- with what is open in it as the volumes decide it
   abbrev pub chosen_to : List JobLine → Shared → Option world.Running → Type 0
@@ -156,9 +159,9 @@ module _ {Q : Type 0} (queue_of : Q → RecordQueue) (profile : Profile) (p : Pa
         Waits its_around (undone plan c.programs walk.todo) (seen job (world_store_of p.store)) walk.course.own (count_at plan c.programs walk.todo) →
         Went queue_of c p its (record p { store = st }) (GoesOn (at_walk after) from)
     waits law st after is same w =
-        let here = law c (shown queue_of p) (shown_running c its) plan (shown_admission c a) (answers_of job p.store) walk w in
-        let goes : chosen_to (drop from walk.course.lines) (shown queue_of p) (Some (shown_running c its)) =
-        subst (λ ls. chosen_to ls (shown queue_of p) (Some (shown_running c its)))
+        let here = law c (shown queue_of p) shown_its plan (shown_admission c a) (answers_of job p.store) walk w in
+        let goes : chosen_to (drop from walk.course.lines) (shown queue_of p) (Some shown_its) =
+        subst (λ ls. chosen_to ls (shown queue_of p) (Some shown_its))
         (sym (lines_behind walk.course.lines walk.course.lines [] (sym (nothing_behind walk.course.lines))))
         (here.0, subst (IsChosenByVolumes c p.store p.date) (sym here.1) tt) in
         subst (λ x. Went queue_of c p its (record p { store = st }) (GoesOn (at_walk x) from)) (sym same)
@@ -194,11 +197,11 @@ module _ {Q : Type 0} (queue_of : Q → RecordQueue) (profile : Profile) (p : Pa
           cancels ≡ cond told.cancelled (cancels_without p.cancels job) p.cancels →
           Went queue_of c p its (record p { store = st; units = units; cancels = cancels }) (GoesOn (at_walk after) from)
       acted law short grants t granted by_volumes on there units cancels us cs =
-          let here = law c (shown queue_of p) (shown_running c its) plan (shown_admission c a) grants walk after (seen job (world_store_of st)) told told_free refl t granted
+          let here = law c (shown queue_of p) shown_its plan (shown_admission c a) grants walk after (seen job (world_store_of st)) told told_free refl t granted
           (is.conserves (shown queue_of p) told_shared (record { store = refl; free = λ v. refl; kept = refl })
           (record { store = sym is.world; free = λ v. refl; kept = sym is.kept })) in
-          let goes : chosen_to (drop from after.course.lines) told_shared (Some (shown_running c (at_walk after))) =
-          subst (λ ls. chosen_to ls told_shared (Some (shown_running c (at_walk after))))
+          let goes : chosen_to (drop from after.course.lines) told_shared (Some (shown_running c (queue_of p.queue) (at_walk after))) =
+          subst (λ ls. chosen_to ls told_shared (Some (shown_running c (queue_of p.queue) (at_walk after))))
           (sym (lines_behind walk.course.lines after.course.lines t.acts.its_turn.done.lines t.acts.lines))
           (here.0, subst (IsChosenByVolumes c p.store p.date) (sym here.1) by_volumes) in
           record {
@@ -255,7 +258,7 @@ module _ {Q : Type 0} (queue_of : Q → RecordQueue) (profile : Profile) (p : Pa
 
       pub ended : EndsAdvance → JobEnds its_around plan (seen job (world_store_of p.store)) walk → Went queue_of c p its new (Over None line.End)
       ended law h =
-          let here = law c (shown queue_of p) (shown_running c its) plan (shown_admission c a) (answers_of job p.store) walk (shown queue_of new).free refl h
+          let here = law c (shown queue_of p) shown_its plan (shown_admission c a) (answers_of job p.store) walk (shown queue_of new).free refl h
           (subst (λ s. Conserves (shown queue_of p) s) released_there conserved_there) in
           record {
             middle = ended_shared;

@@ -93,7 +93,7 @@ module _ {Q : Type 0} (queue_of : Q → RecordQueue) (c : Config) (p : Parts Q) 
   abbrev pub goes_to : world.Stage → Option world.Running
   goes_to s = Some (record { job = job; listing = lines; stage = s })
 
-  same_listing : (more : List JobLine) → lines ≡ walk.course.lines ++ more → (s : world.Stage) → goes_to s ≡ going_on (shown_running c its) told s
+  same_listing : (more : List JobLine) → lines ≡ walk.course.lines ++ more → (s : world.Stage) → goes_to s ≡ going_on (shown_running c (queue_of p.queue) its) told s
   same_listing more e s = ap (λ l. Some (record { job = job; listing = l; stage = s })) (listing_told walk.course.lines lines more e)
 
   pub wanted : (held : Option ℕ) → Wishes p.names job wants walk.course.lines held names lines →

@@ -51,13 +51,15 @@ pub record LeavesRest {Q : Type 0} (queue_of : Q → RecordQueue) (job : ℕ) (o
 -- lines are few; what the next event goes by holds again; and the extents of all volumes follow.
 pub record Went {Q : Type 0} (queue_of : Q → RecordQueue) (c : Config) (old : Parts Q) (r : Running) (new : Parts Q) (came : Progress) : Type 0 where
   pub middle : Shared
-  pub goes : world.GoesOn c (shown queue_of old) (shown_running c r) (shown_running c r).stage (lines_told came) middle
-      (option_map (shown_running c) (runs_after came))
+  pub goes : world.GoesOn c (shown queue_of old) (shown_running c (queue_of old.queue) r) (shown_running c (queue_of old.queue) r).stage (lines_told came) middle
+      (option_map (shown_running c (queue_of new.queue)) (runs_after came))
   pub reopened : Reopened c.layout middle (shown queue_of new)
-  pub chosen : IsChosenByVolumes c old.store old.date (choice_of_going c (shown queue_of old) (shown_running c r) (shown_running c r).stage (lines_told came) middle
-      (option_map (shown_running c) (runs_after came)) goes)
-  pub explained : path_told came ≡ world.explained_by c (shown queue_of old) (shown_running c r) (shown_running c r).stage (lines_told came) middle
-      (option_map (shown_running c) (runs_after came)) goes
+  pub chosen : IsChosenByVolumes c old.store old.date (choice_of_going c (shown queue_of old) (shown_running c (queue_of old.queue) r)
+      (shown_running c (queue_of old.queue) r).stage (lines_told came) middle
+      (option_map (shown_running c (queue_of new.queue)) (runs_after came)) goes)
+  pub explained : path_told came ≡ world.explained_by c (shown queue_of old) (shown_running c (queue_of old.queue) r)
+      (shown_running c (queue_of old.queue) r).stage (lines_told came) middle
+      (option_map (shown_running c (queue_of new.queue)) (runs_after came)) goes
   pub few : length (lines_told came) ≤ suc (suc (length r.walk.course.own.dds))
   pub once : IsToldOnce r.stage came
   pub good : IsGood queue_of c new

@@ -48,8 +48,8 @@ shown_stage c walk (Named job) = world.Named job.plan
 shown_stage c walk (Admitted job) =
     world.Admitted (named_of job).plan (shown_admission c job) (count_at (named_of job).plan c.programs walk.todo) walk.course.own
 
-abbrev pub shown_running : Config → Running → world.Running
-shown_running c r = record { job = r.job; listing = r.walk.course.lines; stage = shown_stage c r.walk r.stage }
+abbrev pub shown_running : Config → RecordQueue → Running → world.Running
+shown_running c queue r = record { job = r.job; listing = r.walk.course.lines; stage = shown_stage c r.walk r.stage }
 
 -- what a turn left the job with, and the lines that it wrote
 abbrev pub runs_after : Progress → Option Running

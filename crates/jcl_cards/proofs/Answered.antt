@@ -1,5 +1,5 @@
 -- what is answered of a statement: its card, or the fault that is told
-use Rattle.std.proofs.Common.{◌≡◌, Bool, true, false, cond, List, [], ◌∷◌, ◌++◌, Option, Some, None, Result, Ok, Err, refl, sym, ap, ◌∙◌, subst}
+use Rattle.std.proofs.Common.{◌≡◌, Bool, true, cond, List, [], ◌∷◌, ◌++◌, Option, Some, None, Result, Ok, Err, refl, sym, ap, ◌∙◌, subst}
 use Rattle.jcl_plan.specs.declared.fault.Cause.{Cause}
 use Rattle.jcl_plan.specs.declared.fault.Cause.TheVariants.{P}
 use Rattle.jcl_plan.specs.declared.fault.StatementFault.TheVariants.{OperandTooLong}
@@ -8,7 +8,6 @@ use Rattle.operand_core.proofs.Told.{told_append}
 use Rattle.value_core.specs.declared.refusal.ReadError.{ReadError}
 use Rattle.value_core.specs.declared.refusal.ReadError.TheVariants.{Refused}
 use Rattle.value_core.specs.Reads.{Gives, IsRead, Read, answer}
-use Rattle.jcl_cards.specs.Beside.{GivesInto}
 
 pub refused : {A : Type 0} (r : Read A) {fault : Cause} {one : Option Cause} → one ≡ told r.faults → one ≡ Some fault → answer r ≡ Err fault
 refused {A} r is some = ap (λ f. let s : Result A Cause = or_fault f r.value in s) (sym is ∙ some)
@@ -32,11 +31,3 @@ pub gives_refused : {A : Type 0} (r : Read A) {s : Result A ReadError} {given : 
 gives_refused {A} r {s} {given} {e} is was exit =
     let Q : Result A ReadError → Type 0 = λ x. Gives x (answer r) in
     subst Q (sym (exit.1 ∙ ap (λ d. let x : Result A ReadError = Err d in x) exit.2)) (sym is ∙ was)
-
--- an operand that is not too long, read into a card
-pub short_put : {A : Type 0} (long : Bool) (names : List Cause) (r : Read A) (result : Result (Unit {0}) ReadError) (value : A) → long ≡ false →
-    GivesInto result value (answer r) → GivesInto result value (answer (cond long (record { value = r.value; faults = long_faults names }) r))
-short_put {A} long names r result value is gives =
-    let whole : Read A = record { value = r.value; faults = long_faults names } in
-    let P : Bool → Type 0 = λ b. GivesInto result value (answer (cond b whole r)) in
-    subst P (sym is) gives

@@ -5,9 +5,3 @@ pub mod Later
 pub mod JobWords
 pub mod ExecNames
 pub mod Conditions
-pub mod DdWords
-pub mod WordCards
-pub mod Beside
-pub mod DdKeywords
-pub mod DdKeys
-pub mod Absent

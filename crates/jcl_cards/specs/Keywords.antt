@@ -1,5 +1,6 @@
 -- The keywords of an operand, each by its key: the first that stands counts, and each is asked for its faults.
-use Rattle.std.specs.Prelude.{ℕ, Bool, true, false, ◌||◌, ◌==◌, nat_lt, List, [], ◌∷◌, ◌++◌, length, map, Option, Some, None, unwrap_or, if◌then◌else◌}
+use Rattle.std.specs.Prelude.{ℕ, Bool, true, false, ◌||◌, ◌==◌, nat_lt, List, [], ◌∷◌, ◌++◌, length, map, codes, Option, Some, None, unwrap_or, if◌then◌else◌}
+use Rattle.std.specs.Str.{bytes_eq}
 use Rattle.jname_core.specs.Characters.{is_name_character}
 use Rattle.jname_core.specs.Faults.{first_fault, has_other_than}
 use Rattle.jcl_plan.specs.declared.fault.Cause.{Cause}
@@ -55,6 +56,10 @@ twice_faults spelled keywords = when (stands_twice spelled keywords) (P KeywordT
 
 abbrev pub as_it_is : List ℕ → List ℕ
 as_it_is key = key
+
+-- keywords of a DD, some of which have two spellings
+abbrev pub spelled : List ℕ → List ℕ
+spelled key = if bytes_eq key (codes "DSN") then codes "DSNAME" else (if bytes_eq key (codes "VOL") then codes "VOLUME" else key)
 
 -- a symbol has one to seven name characters
 abbrev pub symbol_faults : List ℕ → List Cause

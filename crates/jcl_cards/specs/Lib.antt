@@ -3,12 +3,6 @@ pub mod JobCards
 pub mod ExecCards
 pub mod ProcedureCards
 pub mod Conditions
-pub mod DdCards
-pub mod Merging
-pub mod Dds
-pub mod DdKeys
-pub mod DdFaults
 pub mod Execs
 pub mod Reading
-pub mod Beside
 pub mod Examples

@@ -9,9 +9,8 @@ use Rattle.operand_core.specs.Operands.{Keyword, Operand}
 use Rattle.operand_core.specs.Reading.{IsOperand}
 use Rattle.jcl_cards.specs.declared.rules.Spelling.{Spelling}
 use Rattle.jcl_cards.specs.declared.rules.Spelling.TheVariants.{One, Two}
-use Rattle.jcl_cards.specs.DdCards.{spelled}
 use Rattle.jcl_cards.specs.JobCards.{job_name_faults}
-use Rattle.jcl_cards.specs.Keywords.{as_it_is}
+use Rattle.jcl_cards.specs.Keywords.{as_it_is, spelled}
 use Rattle.value_core.specs.Reads.{IsRead, Read}
 
 -- a key as it is, or that of the two spellings which is the keyword's name

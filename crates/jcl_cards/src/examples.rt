@@ -1,5 +1,5 @@
 //! Worked examples: statements, and the cards that they are: laws that are computed.
-ghost use Rattle.jcl_cards.specs.Examples.{Merges, ReadsDds, ReadsExecs, ReadsJobs, ReadsProcedures};
+ghost use Rattle.jcl_cards.specs.Examples.{ReadsExecs, ReadsJobs, ReadsProcedures};
 
 /// JOB statements.
 pub fn reads_jobs()
@@ -14,14 +14,4 @@ pub fn reads_execs()
 /// PROC statements.
 pub fn reads_procedures()
     ensures { ReadsProcedures }
-{}
-
-/// DD statements.
-pub fn reads_dds()
-    ensures { ReadsDds }
-{}
-
-/// DDs with their overrides.
-pub fn merges()
-    ensures { Merges }
 {}

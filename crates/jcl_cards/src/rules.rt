@@ -18,7 +18,7 @@ use plain::short::Short;
 use std::alloc::{AllocError, Global};
 
 /// Whether two texts are the same, from the front: most keys differ in the first character or the second.
-pub(crate) fn is_same(text: &[u8], other: &[u8]) -> bool
+pub fn is_same(text: &[u8], other: &[u8]) -> bool
     ensures { result ≡ bytes_eq text.now other.now }
 {
     let mut rest = other;
@@ -33,7 +33,7 @@ pub(crate) fn is_same(text: &[u8], other: &[u8]) -> bool
 
 /// How many spellings the keywords of a statement have.
 #[derive(Clone, Copy)]
-pub(crate) enum Spelling {
+pub enum Spelling {
     One,
     /// DSN and DSNAME, VOL and VOLUME.
     Two,
@@ -54,7 +54,7 @@ pub(crate) fn spelled_by<'a>(spelling: Spelling, key: &'a [u8]) -> &'a [u8]
 }
 
 /// Whether a key is this one, however it is spelled: most differ in the first character.
-pub(crate) fn is_key(spelling: Spelling, key: &[u8], wanted: &[u8]) -> bool
+pub fn is_key(spelling: Spelling, key: &[u8], wanted: &[u8]) -> bool
     ensures { result ≡ bytes_eq (spelled_by spelling key.now) wanted.now }
 {
     match (key.first(), wanted.first()) {
@@ -86,7 +86,7 @@ fn stands_twice(spelling: Spelling, keywords: &[Keyword<'_>]) -> bool
 }
 
 /// The fault of a keyword that stands twice.
-pub(crate) fn twice_fault(spelling: Spelling, keywords: &[Keyword<'_>]) -> Option<Cause>
+pub fn twice_fault(spelling: Spelling, keywords: &[Keyword<'_>]) -> Option<Cause>
     ensures { result ≡ told (twice_faults (spelled_by spelling) keywords.now) }
 {
     when(
@@ -120,7 +120,7 @@ pub(crate) fn each_fault<R: KeywordRule>(rule: &R, keywords: &[Keyword<'_>]) -> 
 }
 
 /// The fault of a statement whose operand is too long, by that of its name.
-pub(crate) fn long_operand(name: Option<Cause>) -> Cause
+pub fn long_operand(name: Option<Cause>) -> Cause
     ensures { Some result ≡ earlier name (Some (Cause.P StatementFault.OperandTooLong)) }
 {
     let long = Cause::P(StatementFault::OperandTooLong);

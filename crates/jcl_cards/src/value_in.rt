@@ -11,7 +11,7 @@ use operand_core::fault::lower;
 use operand_core::operand::Keyword;
 
 /// What reads the values of a keyword.
-pub(crate) trait ValueReader {
+pub trait ValueReader {
     ghost use Rattle.std.specs.Prelude.{ℕ, List};
     ghost use Rattle.value_core.specs.Reads.{IsRead, Read};
 

@@ -2,7 +2,7 @@
 use Rattle.std.proofs.Common.{◌≡◌, ℕ, ◌-◌, suc, zero, false, not, nat_eq, List, [], ◌∷◌, ◌++◌, length, map, slice_set, slice_index_or, Some, refl, ap, arith}
 use Rattle.std.specs.List.{slice_get}
 use Rattle.card_core.specs.declared.statement.Statement.{Statement}
-use Rattle.jcl_cards.specs.declared.dd.DdCard.{DdCard}
+use Rattle.jcl_dds.specs.declared.dd.DdCard.{DdCard}
 use Rattle.jcl_deck.specs.declared.deck.DeckStep.{DeckStep}
 use Rattle.jcl_deck.specs.declared.deck.Procedure.{Procedure}
 use Rattle.jcl_deck.specs.Decks.{last_has_dd, onto_last, onto_open}

@@ -9,13 +9,13 @@ use Rattle.jcl_plan.specs.declared.fault.StatementFault.TheVariants.{DdBeforeExe
 use Rattle.operand_core.specs.Faults.{or_fault, told, when, written_name_faults}
 use Rattle.operand_core.specs.Keywords.{is_long}
 use Rattle.value_core.specs.Reads.{Read}
-use Rattle.jcl_cards.specs.declared.dd.DdCard.{DdCard}
 use Rattle.jcl_cards.specs.declared.job.JobCard.{JobCard}
 use Rattle.jcl_cards.specs.declared.procedure.ProcedureCard.{ProcedureCard}
-use Rattle.jcl_cards.specs.DdCards.{dd_card}
 use Rattle.jcl_cards.specs.ExecCards.{exec_card}
 use Rattle.jcl_cards.specs.JobCards.{job_card}
 use Rattle.jcl_cards.specs.ProcedureCards.{procedure_card}
+use Rattle.jcl_dds.specs.declared.dd.DdCard.{DdCard}
+use Rattle.jcl_dds.specs.DdCards.{dd_card}
 use Rattle.jcl_deck.specs.declared.deck.Deck.{Deck}
 use Rattle.jcl_deck.specs.declared.deck.DeckStep.{DeckStep}
 use Rattle.jcl_deck.specs.declared.deck.Procedure.{Procedure}

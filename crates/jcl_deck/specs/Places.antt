@@ -8,8 +8,8 @@ use Rattle.operand_core.specs.Faults.{lower, when}
 use Rattle.value_core.specs.declared.refusal.ReadError.{ReadError}
 use Rattle.value_core.specs.declared.refusal.ReadError.TheVariants.{Refused, Memory}
 use Rattle.value_core.specs.Reads.{Gives, with_fault}
-use Rattle.jcl_cards.specs.declared.dd.DdCard.{DdCard}
 use Rattle.jcl_cards.specs.declared.exec.ExecCard.{ExecCard}
+use Rattle.jcl_dds.specs.declared.dd.DdCard.{DdCard}
 use Rattle.jcl_deck.specs.declared.deck.Procedure.{Procedure}
 use Rattle.jcl_deck.specs.declared.place.Place as code
 use Rattle.jcl_deck.specs.Decks.{Place, most_procedures, not_first, onto_last}

@@ -1,8 +1,8 @@
 //! What a deck is made of.
 use card_core::statement::Statement;
-use jcl_cards::dd::DdCard;
 use jcl_cards::exec::ExecCard;
 use jcl_cards::job::JobCard;
+use jcl_dds::dd::DdCard;
 use jcl_symbols::symbol::Symbol;
 use jname_core::name8::Name8;
 use plain::listed::Listed;

@@ -18,12 +18,12 @@ use Rattle.value_core.specs.declared.refusal.ReadError.{ReadError}
 use Rattle.value_core.specs.declared.refusal.ReadError.TheVariants.{Refused, Memory}
 use Rattle.value_core.specs.Reads.{Gives, Read, and_faults, answer, with_fault}
 use Rattle.value_core.proofs.Both.{with_fault_is}
-use Rattle.jcl_cards.specs.declared.dd.DdCard.{DdCard}
-use Rattle.jcl_cards.specs.declared.dd.Word.{Word}
-use Rattle.jcl_cards.specs.declared.dd.Word.TheVariants.{Cards, Dummy}
-use Rattle.jcl_cards.specs.DdCards.{dd_card, dd_name_faults, dd_with, has_data, word_of}
-use Rattle.jcl_cards.specs.Dds.{is_data_word}
-use Rattle.jcl_cards.specs.Merging.{by_itself}
+use Rattle.jcl_dds.specs.declared.dd.DdCard.{DdCard}
+use Rattle.jcl_dds.specs.declared.dd.Word.{Word}
+use Rattle.jcl_dds.specs.declared.dd.Word.TheVariants.{Cards, Dummy}
+use Rattle.jcl_dds.specs.DdCards.{dd_card, dd_name_faults, dd_with, has_data, word_of}
+use Rattle.jcl_dds.specs.Dds.{is_data_word}
+use Rattle.jcl_dds.specs.Merging.{by_itself}
 use Rattle.jcl_deck.specs.Decks.{dd_place_faults, last_has_dd}
 use Rattle.jcl_deck.specs.Places.{earliest}
 use Rattle.jcl_procs.specs.declared.calls.Place as code

@@ -11,12 +11,12 @@ use Rattle.list_values.specs.declared.condition.Condition.{Condition}
 use Rattle.list_values.specs.Conditions.{no_condition}
 use Rattle.operand_core.specs.Faults.{or_fault}
 use Rattle.jcl_symbols.specs.declared.symbol.Symbol.{Symbol}
-use Rattle.jcl_cards.specs.declared.dd.DdCard.{DdCard}
 use Rattle.jcl_cards.specs.declared.exec.ExecCard.{ExecCard}
 use Rattle.jcl_cards.specs.declared.exec.Runs.{Runs}
 use Rattle.jcl_cards.specs.declared.exec.Runs.TheVariants.{Program, Procedure}
 use Rattle.jcl_cards.specs.declared.exec.StepCondition.{StepCondition}
-use Rattle.jcl_cards.specs.Merging.{by_itself}
+use Rattle.jcl_dds.specs.declared.dd.DdCard.{DdCard}
+use Rattle.jcl_dds.specs.Merging.{by_itself}
 use Rattle.jcl_deck.specs.declared.deck.DeckStep.{DeckStep}
 use Rattle.jcl_deck.specs.declared.deck.Procedure as in_stream
 use Rattle.jcl_deck.specs.Decks.{operation_of}

@@ -6,8 +6,8 @@ use Rattle.operand_core.specs.Faults.{or_fault, told}
 use Rattle.value_core.specs.Reads.{Gives}
 use Rattle.value_core.specs.declared.refusal.ReadError.{ReadError}
 use Rattle.value_core.specs.declared.refusal.ReadError.TheVariants.{Refused, Memory}
-use Rattle.jcl_cards.specs.declared.dd.DdCard.{DdCard}
-use Rattle.jcl_cards.specs.Merging.{merged}
+use Rattle.jcl_dds.specs.declared.dd.DdCard.{DdCard}
+use Rattle.jcl_dds.specs.Merging.{merged}
 use Rattle.jcl_procs.specs.declared.overriding.Members.{Members}
 use Rattle.jcl_procs.specs.declared.overriding.Place.{Place}
 use Rattle.jcl_procs.specs.declared.step.FlatStep.{FlatStep}

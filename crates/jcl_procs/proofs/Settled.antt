@@ -1,7 +1,7 @@
 -- DDs of a step, each made one of its own, one after another
 use Rattle.std.proofs.Common.{◌≡◌, refl, sym, ap, ◌∙◌, ℕ, zero, suc, ◌+◌, ◌<◌, List, [], ◌∷◌, length, map, slice_index_or, slice_set, add-one, arith}
-use Rattle.jcl_cards.specs.declared.dd.DdCard.{DdCard}
-use Rattle.jcl_cards.specs.Merging.{by_itself}
+use Rattle.jcl_dds.specs.declared.dd.DdCard.{DdCard}
+use Rattle.jcl_dds.specs.Merging.{by_itself}
 
 -- the first n of them
 abbrev pub settled : ℕ → List DdCard → List DdCard

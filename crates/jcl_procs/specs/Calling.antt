@@ -10,10 +10,10 @@ use Rattle.value_core.specs.declared.refusal.ReadError.{ReadError}
 use Rattle.value_core.specs.declared.refusal.ReadError.TheVariants.{Refused, Memory}
 use Rattle.value_core.specs.Reads.{Gives, Read, and_faults, answer}
 use Rattle.jcl_symbols.specs.Substitutions.{substituted}
-use Rattle.jcl_cards.specs.declared.dd.DdCard.{DdCard}
 use Rattle.jcl_cards.specs.declared.exec.ExecCard.{ExecCard}
-use Rattle.jcl_cards.specs.DdCards.{dd_card, dd_name_faults, has_data}
 use Rattle.jcl_cards.specs.ExecCards.{exec_card}
+use Rattle.jcl_dds.specs.declared.dd.DdCard.{DdCard}
+use Rattle.jcl_dds.specs.DdCards.{dd_card, dd_name_faults, has_data}
 use Rattle.jcl_deck.specs.Decks.{dd_place_faults, operation_of}
 use Rattle.jcl_deck.specs.Places.{earliest}
 use Rattle.jcl_procs.specs.declared.calls.Caller.{Caller}

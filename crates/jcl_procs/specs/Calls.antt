@@ -10,13 +10,13 @@ use Rattle.list_values.specs.Conditions.{no_condition}
 use Rattle.value_core.specs.Reads.{Read}
 use Rattle.jcl_symbols.specs.declared.symbol.Symbol.{Symbol}
 use Rattle.jcl_symbols.specs.Substitutions.{substituted}
-use Rattle.jcl_cards.specs.declared.dd.DdCard.{DdCard}
 use Rattle.jcl_cards.specs.declared.exec.ExecCard.{ExecCard}
 use Rattle.jcl_cards.specs.declared.exec.Runs.{Runs}
 use Rattle.jcl_cards.specs.declared.exec.Runs.TheVariants.{Program, Procedure}
-use Rattle.jcl_cards.specs.DdCards.{dd_card, dd_name_faults, has_data}
 use Rattle.jcl_cards.specs.ExecCards.{exec_card}
-use Rattle.jcl_cards.specs.Merging.{by_itself}
+use Rattle.jcl_dds.specs.declared.dd.DdCard.{DdCard}
+use Rattle.jcl_dds.specs.DdCards.{dd_card, dd_name_faults, has_data}
+use Rattle.jcl_dds.specs.Merging.{by_itself}
 use Rattle.jcl_deck.specs.declared.operation.Operation.{Operation}
 use Rattle.jcl_deck.specs.declared.operation.Operation.TheVariants.{IsJob, IsExec, IsDd, IsProc, IsPend, IsOther}
 use Rattle.jcl_deck.specs.Decks.{dd_place_faults, operation_of}

@@ -16,9 +16,9 @@ use Rattle.jcl_plan.specs.declared.plan.Word.TheVariants.{Pass}
 use Rattle.list_values.specs.Conditions.{no_condition}
 use Rattle.value_core.specs.declared.set.SetName.TheVariants.{Of}
 use Rattle.jcl_cards.specs.declared.coded.Coded.TheVariants.{Value}
-use Rattle.jcl_cards.specs.declared.dd.DdCard.{DdCard}
-use Rattle.jcl_cards.specs.declared.dd.Word.TheVariants.{Dummy}
-use Rattle.jcl_cards.specs.Examples.{empty_dd}
+use Rattle.jcl_dds.specs.declared.dd.DdCard.{DdCard}
+use Rattle.jcl_dds.specs.declared.dd.Word.TheVariants.{Dummy}
+use Rattle.jcl_dds.specs.Examples.{empty_dd}
 use Rattle.jcl_deck.specs.Decks.{deck_of}
 use Rattle.jcl_procs.specs.declared.step.FlatStep.{FlatStep}
 use Rattle.proc_library.specs.declared.library.LibraryProcedure.{LibraryProcedure}

@@ -8,10 +8,10 @@ use Rattle.jcl_plan.specs.declared.fault.Cause.TheVariants.{P}
 use Rattle.jcl_plan.specs.declared.fault.StatementFault.TheVariants.{NoSuchProcedureStep, OverrideOutOfOrder}
 use Rattle.operand_core.specs.Faults.{or_fault, told}
 use Rattle.list_values.specs.declared.condition.Condition.{Condition}
-use Rattle.jcl_cards.specs.declared.dd.DdCard.{DdCard}
 use Rattle.jcl_cards.specs.declared.exec.ExecCard.{ExecCard}
 use Rattle.jcl_cards.specs.declared.exec.StepCondition.{StepCondition}
-use Rattle.jcl_cards.specs.Merging.{by_itself, merged}
+use Rattle.jcl_dds.specs.declared.dd.DdCard.{DdCard}
+use Rattle.jcl_dds.specs.Merging.{by_itself, merged}
 use Rattle.jcl_procs.specs.declared.overriding.Place.{Place}
 use Rattle.jcl_procs.specs.declared.step.FlatStep.{FlatStep}
 

@@ -3,8 +3,8 @@ use Rattle.std.specs.Prelude.{ℕ, Bool, false, not, ◌&&◌, is_some, ◌+◌,
 use Rattle.std.specs.List.{position}
 use Rattle.jcl_plan.specs.declared.fault.Cause.{Cause}
 use Rattle.operand_core.specs.Faults.{or_fault, told}
-use Rattle.jcl_cards.specs.declared.dd.DdCard.{DdCard}
-use Rattle.jcl_cards.specs.Merging.{by_itself, merged}
+use Rattle.jcl_dds.specs.declared.dd.DdCard.{DdCard}
+use Rattle.jcl_dds.specs.Merging.{by_itself, merged}
 use Rattle.jcl_procs.specs.declared.overriding.Members.{Members}
 use Rattle.jcl_procs.specs.declared.overriding.Place.{Place}
 use Rattle.jcl_procs.specs.declared.step.FlatStep.{FlatStep}

@@ -1,13 +1,12 @@
 //! The steps that a procedure brings at a call. (GC28-6704, "PROC statement", "Symbolic parameters")
 ghost use Rattle.std.specs.Prelude.{◌≡◌, ◌∷◌, ◌++◌, IfOk, OnOk, Some, [], false, true, map, unwrap_or};
-ghost use Rattle.std.specs.Option.{option_copied};
 ghost use Rattle.operand_core.specs.Faults.{told, written_name_faults};
 ghost use Rattle.operand_core.specs.Operands.{first_of, operand_of};
 ghost use Rattle.value_core.specs.Reads.{Gives, answer};
 ghost use Rattle.list_values.specs.Conditions.{no_condition};
 ghost use Rattle.jcl_symbols.specs.Substitutions.{substituted};
-ghost use Rattle.jcl_cards.specs.Dds.{is_data_word};
 ghost use Rattle.jcl_cards.specs.ExecCards as execs;
+ghost use Rattle.jcl_dds.specs.Dds.{is_data_word};
 ghost use Rattle.jcl_deck.specs.Decks.{dd_place_faults, last_has_dd};
 ghost use Rattle.jcl_procs.specs.Calls.{calls, program_of, step_of, steps_of, steps_with, takes_dd, takes_exec};
 ghost use Rattle.jcl_procs.specs.Calling.{Moves, behind, TellsCalls, TellsData, call_of, dd_faults_with, dd_placed, dd_read, denoted};
@@ -16,9 +15,10 @@ ghost use Rattle.jcl_procs.specs.Calling.{exec_placed, exec_read, or_earliest, w
 use crate::step::FlatStep;
 use boxed_core::Boxed;
 use card_core::statement::{DataCard, Statement};
-use jcl_cards::dd::{DdCard, dd_card, dd_name_fault, has_data};
 use jcl_cards::exec::{ExecCard, Runs, exec_card};
-use jcl_cards::merging::by_itself;
+use jcl_dds::dd::{DdCard, dd_card, dd_name_fault, has_data};
+use jcl_dds::given::is_data_word;
+use jcl_dds::merging::by_itself;
 use jcl_deck::dd_place::dd_place_fault;
 use jcl_deck::operation::{Operation, operation_of};
 use jcl_deck::place::{earliest, with_fault};
@@ -167,15 +167,6 @@ fn step_of(alloc: Global, caller: &Caller<'_>, card: ExecCard) -> FlatStep
         program: program_of(card.runs),
         condition: condition_or_none(&card.condition),
         dds: Listed::empty(alloc),
-    }
-}
-
-fn is_data_word(part: Option<&[u8]>) -> bool
-    ensures { result ≡ is_data_word (option_copied part.entry) }
-{
-    match part {
-        None => false,
-        Some(text) => text == b"*".as_slice() || text == b"DATA".as_slice(),
     }
 }
 

@@ -4,7 +4,7 @@ ghost use Rattle.std.specs.Bool.{OnTrue};
 ghost use Rattle.std.specs.List.{list_any};
 ghost use Rattle.std.specs.Option.{option_copied};
 ghost use Rattle.value_core.specs.Reads.{Gives};
-ghost use Rattle.jcl_cards.specs.Merging.{by_itself};
+ghost use Rattle.jcl_dds.specs.Merging.{by_itself};
 ghost use Rattle.jcl_deck.specs.declared.deck.Procedure as in_stream;
 ghost use Rattle.jcl_deck.specs.declared.operation.Operation.TheVariants.{IsProc};
 ghost use Rattle.proc_library.specs.declared.library.LibraryProcedure.{LibraryProcedure};
@@ -19,10 +19,10 @@ use crate::conditions::override_conditions;
 use crate::overriding::override_dds;
 use crate::step::FlatStep;
 use card_core::statement::Statement;
-use jcl_cards::dd::DdCard;
 use jcl_cards::exec::{ExecCard, Runs};
-use jcl_cards::merging::settle_dd;
 use jcl_cards::procedure::procedure_card;
+use jcl_dds::dd::DdCard;
+use jcl_dds::merging::settle_dd;
 use jcl_deck::deck::{DeckStep, Procedure};
 use jcl_deck::operation::{Operation, operation_of};
 use jcl_plan::fault::{Cause, StatementFault};
@@ -43,6 +43,15 @@ pub enum Expansion {
     Steps(Listed<FlatStep>),
     /// There are more. None is kept.
     TooMany,
+}
+
+/// How far the steps of a deck were read, which count from 1. It tells where to look for what brings a refusal, and no more.
+#[derive(Clone, Copy)]
+pub struct Reached {
+    /// The step that was read last.
+    pub step: usize,
+    /// The last one with which there were not too many.
+    pub kept: usize,
 }
 
 /// Where a call finds its procedure.
@@ -375,6 +384,14 @@ fn with_steps(
     Ok(Expansion::Steps(Listed::new(flat)))
 }
 
+/// The last step with which there were not too many, behind the one that was read.
+fn kept_to(expansion: &Expansion, place: usize, before: usize) -> usize {
+    match expansion {
+        Expansion::Steps(_) => place,
+        Expansion::TooMany => before,
+    }
+}
+
 /// What is kept before the first step is read. Each step of a deck brings one at least.
 fn kept_first(alloc: Global, most: usize, steps: &[DeckStep]) -> Expansion
     ensures { KeepsFirst most steps.now result }
@@ -396,6 +413,21 @@ pub fn expand(
 ) -> Result<Expansion, ReadError>
     ensures { Gives result (counted most (flat_from library.now procedures.now 1 steps)) }
 {
+    let mut reached = Reached { step: 0, kept: 0 };
+    expand_to(alloc, library, procedures, steps, most, &mut reached)
+}
+
+/// The same, and how far the steps were read.
+pub fn expand_to(
+    alloc: Global,
+    library: &ProcLibrary,
+    procedures: &[Procedure],
+    steps: Listed<DeckStep>,
+    most: usize,
+    reached: &mut Reached,
+) -> Result<Expansion, ReadError>
+    ensures { Gives result (counted most (flat_from library.now procedures.now 1 steps)) }
+{
     let sources = Sources {
         library,
         procedures,
@@ -405,6 +437,7 @@ pub fn expand(
     let mut place = 0;
     for step in steps.into_vec() {
         place += 1;
+        reached.step = place;
         if passes(&expansion, read.as_slice(), &step) {
             continue;
         }
@@ -412,6 +445,7 @@ pub fn expand(
         let found = steps_by(alloc, &sources, place, &exec, dds)?;
         expansion = with_steps(expansion, most, found)?;
         note(&mut read, exec)?;
+        reached.kept = kept_to(&expansion, place, reached.kept);
     }
     Ok(expansion)
 }

@@ -5,11 +5,11 @@ ghost use Rattle.value_core.specs.Reads.{Gives};
 ghost use Rattle.jcl_procs.specs.Overrides.{is_named, is_of_name, is_step, step_at, with_dd, with_dd_between, with_dds};
 ghost use Rattle.jcl_procs.specs.Overrides.{dds_at, dds_overridden, overrides_member, overrides_from, overrides_named, overrides_one};
 ghost use Rattle.jcl_procs.specs.StepDds.{AreMembers, IsPlace, added, continues, inserted, merged_there, names_step, placed, with_member, with_named};
-ghost use Rattle.jcl_cards.specs.declared.dd.DdCard.{DdCard};
+ghost use Rattle.jcl_dds.specs.declared.dd.DdCard.{DdCard};
 
 use crate::step::FlatStep;
-use jcl_cards::dd::{DdCard, bare_dd};
-use jcl_cards::merging::{by_itself, merged};
+use jcl_dds::dd::{DdCard, bare_dd};
+use jcl_dds::merging::{by_itself, merged};
 use jcl_plan::fault::{Cause, StatementFault};
 use jname_core::name8::Name8;
 use plain::listed::Listed;

@@ -1,5 +1,5 @@
 //! Steps as they run one after another.
-use jcl_cards::dd::DdCard;
+use jcl_dds::dd::DdCard;
 use jname_core::name8::Name8;
 use list_values::condition::Condition;
 use plain::listed::Listed;

@@ -13,7 +13,7 @@ use Rattle.operand_core.proofs.Told.{told_append}
 use Rattle.value_core.specs.declared.refusal.ReadError.{ReadError}
 use Rattle.value_core.specs.declared.refusal.ReadError.TheVariants.{Refused, Memory}
 use Rattle.value_core.specs.Reads.{Gives, answer}
-use Rattle.jcl_cards.specs.declared.dd.DdCard.{DdCard}
+use Rattle.jcl_dds.specs.declared.dd.DdCard.{DdCard}
 use Rattle.jcl_procs.specs.declared.step.FlatStep.{FlatStep}
 use Rattle.jcl_procs.specs.Expansions.{and_then}
 use Rattle.jcl_refs.specs.Kinds.{fault_named, fault_with, is_set, key_by, kind_by, kinds_here, named_by, plan_of, plan_with, plans_from}

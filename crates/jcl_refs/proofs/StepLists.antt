@@ -16,7 +16,7 @@ use Rattle.jcl_plan.specs.declared.fault.Cause.{Cause}
 use Rattle.jcl_plan.specs.declared.plan.DdKind.{DdKind}
 use Rattle.jcl_plan.specs.declared.plan.DdPlan.{DdPlan}
 use Rattle.jcl_plan.specs.declared.plan.StepPlan.{StepPlan}
-use Rattle.jcl_cards.specs.declared.dd.DdCard.{DdCard}
+use Rattle.jcl_dds.specs.declared.dd.DdCard.{DdCard}
 use Rattle.jcl_procs.specs.declared.step.FlatStep.{FlatStep}
 use Rattle.jcl_procs.specs.Expansions.{and_then}
 use Rattle.jcl_refs.specs.Plans.{all_of, by_fault, dds_with, job_with, kind_of, kinds_from, kinds_in, most_dds, most_names, most_steps, plan_by, plan_of, refused_if, spot, steps_from, units_of_steps, with_dds_left}

@@ -6,7 +6,7 @@ use Rattle.std.specs.Str.{bytes_eq}
 use Rattle.std.proofs.lemmas.Grind.{flat_map-append}
 use Rattle.std.proofs.lemmas.List.{drop_at, get_or_at, length-reverse, reverse-append, reverse-reverse, set_at}
 use Rattle.std.proofs.lemmas.Slice.Eq.{bytes_eq-Decides}
-use Rattle.jcl_cards.specs.declared.dd.DdCard.{DdCard}
+use Rattle.jcl_dds.specs.declared.dd.DdCard.{DdCard}
 use Rattle.jcl_refs.specs.declared.waiting.Named.{Named}
 use Rattle.jcl_refs.specs.LaterDds.{Found, found_in, has_name, has_no_name, onto_found}
 use Rattle.jcl_refs.specs.declared.places.Places.{Places}

@@ -11,8 +11,8 @@ use Rattle.jcl_plan.specs.declared.plan.VolumePlan.TheVariants as volume
 use Rattle.operand_core.specs.Faults.{earlier, told}
 use Rattle.value_core.specs.Reads.{answer}
 use Rattle.jcl_cards.specs.declared.coded.Coded.TheVariants.{NotGiven}
-use Rattle.jcl_cards.specs.declared.dd.DdCard.{DdCard}
-use Rattle.jcl_cards.specs.declared.dd.Word.TheVariants as positional_word
+use Rattle.jcl_dds.specs.declared.dd.DdCard.{DdCard}
+use Rattle.jcl_dds.specs.declared.dd.Word.TheVariants as positional_word
 use Rattle.jcl_procs.specs.declared.step.FlatStep.{FlatStep}
 use Rattle.jcl_procs.specs.Expansions.{and_then}
 use Rattle.jcl_refs.specs.declared.kinds.Source.{Source}

@@ -9,8 +9,8 @@ use Rattle.jcl_plan.specs.declared.plan.JobPlan.{JobPlan}
 use Rattle.jcl_plan.specs.declared.plan.StepPlan.{StepPlan}
 use Rattle.jcl_meaning.specs.Names.{names_of}
 use Rattle.jcl_cards.specs.declared.job.JobCard.{JobCard}
-use Rattle.jcl_cards.specs.declared.dd.DdCard.{DdCard}
 use Rattle.jcl_cards.specs.Keywords.{is_given}
+use Rattle.jcl_dds.specs.declared.dd.DdCard.{DdCard}
 use Rattle.jcl_procs.specs.declared.step.FlatStep.{FlatStep}
 use Rattle.jcl_procs.specs.Expansions.{and_then}
 use Rattle.jcl_refs.specs.Plans.{all_of, dds_with, job_with, kinds_from, kinds_in, most_dd_names, most_dds, most_names, refused_if, step_with, tests_of, units_of_steps}

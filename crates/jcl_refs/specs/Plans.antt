@@ -36,11 +36,11 @@ use Rattle.value_core.specs.declared.set.VolumeName.TheVariants as coded_volume
 use Rattle.value_core.specs.Reads.{Read}
 use Rattle.jcl_cards.specs.declared.coded.Coded.{Coded}
 use Rattle.jcl_cards.specs.declared.coded.Coded.TheVariants.{NotGiven, Nullified, Value}
-use Rattle.jcl_cards.specs.declared.dd.DdCard.{DdCard}
-use Rattle.jcl_cards.specs.declared.dd.Word as positional
-use Rattle.jcl_cards.specs.declared.dd.Word.TheVariants as positional_word
 use Rattle.jcl_cards.specs.declared.job.JobCard.{JobCard}
 use Rattle.jcl_cards.specs.Keywords.{is_given}
+use Rattle.jcl_dds.specs.declared.dd.DdCard.{DdCard}
+use Rattle.jcl_dds.specs.declared.dd.Word as positional
+use Rattle.jcl_dds.specs.declared.dd.Word.TheVariants as positional_word
 use Rattle.jcl_procs.specs.declared.step.FlatStep.{FlatStep}
 use Rattle.jcl_plan.specs.declared.plan.TheConstants.{MOST_DDS, MOST_NAMES, MOST_STEPS}
 use Rattle.jcl_procs.specs.Expansions.{and_then}

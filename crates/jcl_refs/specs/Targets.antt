@@ -9,7 +9,7 @@ use Rattle.value_core.specs.declared.reference.DdReference.{DdReference}
 use Rattle.value_core.specs.declared.reference.DdReference.TheVariants as dd
 use Rattle.value_core.specs.declared.reference.StepReference.{StepReference}
 use Rattle.value_core.specs.declared.reference.StepReference.TheVariants as step
-use Rattle.jcl_cards.specs.declared.dd.DdCard.{DdCard}
+use Rattle.jcl_dds.specs.declared.dd.DdCard.{DdCard}
 use Rattle.jcl_procs.specs.declared.step.FlatStep.{FlatStep}
 use Rattle.jcl_refs.specs.declared.targets.Target.{Target}
 use Rattle.jcl_refs.specs.LaterDds.{has_name}

@@ -3,7 +3,7 @@ use Rattle.std.specs.Prelude.{◌≡◌, ℕ, suc, Bool, true, false, List, [], 
 use Rattle.std.specs.List.{flat_map}
 use Rattle.std.specs.Global.{Vec}
 use Rattle.name_places.specs.Places.{place_of}
-use Rattle.jcl_cards.specs.declared.dd.DdCard.{DdCard}
+use Rattle.jcl_dds.specs.declared.dd.DdCard.{DdCard}
 use Rattle.jcl_refs.specs.declared.places.Places.{Places}
 use Rattle.jcl_refs.specs.declared.waiting.Named.{Named}
 use Rattle.jcl_refs.specs.declared.waiting.Waiting.{Waiting}

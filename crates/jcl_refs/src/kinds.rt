@@ -15,7 +15,7 @@ ghost use Rattle.jcl_refs.specs.Plans.{led, naming, own_kind, set_with, space_of
 
 use crate::targets::{Target, target_of};
 use jcl_cards::coded::Coded;
-use jcl_cards::dd::{DdCard, Word as Positional};
+use jcl_dds::dd::{DdCard, Word as Positional};
 use jcl_meaning::names::is_temporary;
 use jcl_plan::fault::{Cause, StatementFault};
 use jcl_plan::plan::{

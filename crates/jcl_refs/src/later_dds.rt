@@ -1,16 +1,34 @@
 //! DDNAME: a DD takes the definition of a later DD of its step, which is then no DD of its own. (GC28-6704, DDNAME parameter)
 ghost use Rattle.std.specs.Prelude.{◌≡◌, ◌≤◌, ◌++◌, ◌∷◌, IfOk, OnOk, length};
+ghost use Rattle.std.specs.List.{list_any};
 ghost use Rattle.jcl_refs.specs.LaterDds.{as_dummy, dds_left, defined_by, references_of, wanted_by};
+ghost use Rattle.jcl_refs.specs.Planning.{looks_for_later};
 ghost use Rattle.jcl_refs.specs.Waiting.{IsWaiting, waiting};
 
 use crate::waiting::Waiting;
 use jcl_cards::coded::Coded;
-use jcl_cards::dd::{DdCard, Word};
+use jcl_dds::dd::{DdCard, Word};
 use jname_core::name8::Name8;
 use plain::listed::Listed;
 use std::alloc::{AllocError, Global};
 use std::mem::replace;
 use value_core::reference::DdReference;
+
+/// Whether a DD looks for a later one.
+pub(crate) fn looks_for_later(dd: &DdCard) -> bool
+    ensures { result ≡ looks_for_later dd.now }
+{
+    match dd.dd_name {
+        Coded::NotGiven | Coded::Nullified => false,
+        Coded::Value(_) => true,
+    }
+}
+
+fn some_look(dds: &[DdCard]) -> bool
+    ensures { result ≡ list_any looks_for_later dds.now }
+{
+    dds.iter().any(looks_for_later)
+}
 
 /// The name that a DD looks for.
 fn wanted_by(dd_name: &Coded<Name8>) -> Option<Name8>
@@ -83,9 +101,13 @@ fn settled(alloc: Global, others: &mut Waiting, dd: DdCard) -> Result<DdCard, Al
 }
 
 /// The DDs of a step that are left, when each DDNAME took the definition that it looks for.
+#[tactic(auto, using(crate::proofs::Left::all_stay))]
 pub fn dds_left(alloc: Global, dds: Listed<DdCard>) -> Result<Listed<DdCard>, AllocError>
     ensures { IfOk result (λ left. left ≡ dds_left dds) }
 {
+    if !some_look(dds.as_slice()) {
+        return Ok(dds);
+    }
     let mut others = Waiting::of(alloc, dds.into_vec())?;
     let mut left = Listed::empty(alloc);
     while let Some(dd) = others.next() {

@@ -5,7 +5,7 @@ ghost use Rattle.jcl_refs.specs.Planning.{Puts, counts_in, planned_counts};
 
 use crate::units::UnitNames;
 use jcl_cards::coded::Coded;
-use jcl_cards::dd::DdCard;
+use jcl_dds::dd::DdCard;
 use jcl_plan::fault::{Cause, StatementFault};
 use jcl_plan::plan::{DdKind, DdPlan, StepPlan};
 use jcl_procs::step::FlatStep;

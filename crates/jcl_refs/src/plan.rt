@@ -12,13 +12,12 @@ ghost use Rattle.jcl_refs.specs.Early.{AreTaken, IsEarly, many_refusal, settled_
 ghost use Rattle.jcl_refs.specs.Planning.{counts_in, has_many_dd_names, job_by, looks_for_later, plan_with, planned_counts, step_by, steps_by, with_units};
 
 use crate::kinds::planned_dds;
-use crate::later_dds::dds_left;
+use crate::later_dds::{dds_left, looks_for_later};
 use crate::placing::placed;
 use crate::tests_of::{job_tests, tests_of};
 use crate::units::UnitNames;
-use jcl_cards::coded::Coded;
-use jcl_cards::dd::DdCard;
 use jcl_cards::job::JobCard;
+use jcl_dds::dd::DdCard;
 use jcl_meaning::names::{is_temporary, names_of};
 use jcl_plan::fault::{Cause, StatementFault};
 use jcl_plan::plan::{
@@ -38,15 +37,6 @@ fn refusal(fault: StatementFault) -> ReadError
     ensures { result ≡ ReadError.Refused (P fault) }
 {
     ReadError::Refused(Cause::P(fault))
-}
-
-fn looks_for_later(dd: &DdCard) -> bool
-    ensures { result ≡ looks_for_later dd.now }
-{
-    match dd.dd_name {
-        Coded::NotGiven | Coded::Nullified => false,
-        Coded::Value(_) => true,
-    }
 }
 
 /// How many DDs look for a later one.

@@ -6,7 +6,7 @@ ghost use Rattle.jcl_refs.specs.Meant.{is_meant};
 ghost use Rattle.jcl_refs.specs.Targets.{dds_of, earlier_dd, earlier_named, earlier_step, in_earlier, in_step, is_brought_by, is_call, is_name, is_own_step, is_step_of_call};
 ghost use Rattle.jcl_refs.specs.Targets.{latest, looks_forward, may_mean, missing, dd_position, target_of};
 
-use jcl_cards::dd::DdCard;
+use jcl_dds::dd::DdCard;
 use jcl_plan::fault::{Cause, StatementFault};
 use jcl_procs::step::FlatStep;
 use jname_core::name8::Name8;

@@ -3,7 +3,7 @@ ghost use Rattle.std.specs.Prelude.{◌≡◌, ◌∷◌, [], IfOk, MatchOption,
 ghost use Rattle.jcl_refs.specs.Waiting.{IsWaiting, Takes, waiting};
 
 use crate::places::Places;
-use jcl_cards::dd::DdCard;
+use jcl_dds::dd::DdCard;
 use jname_core::name8::Name8;
 use std::alloc::{AllocError, Global};
 use std::mem::replace;

@@ -1,5 +1,5 @@
--- DD statements, and a DD with its override; the others, and JOB, EXEC and PROC statements, are in jcl_cards' own examples. A reader's contract
--- is that it answers what its definition here reads. (jcl_cards)
+-- DD statements, and a DD with its override; the others, and JOB, EXEC and PROC statements, are in the examples of jcl_dds and jcl_cards. A reader's
+-- contract is that it answers what its definition here reads. (jcl_dds)
 use Rattle.std.specs.Prelude.{◌≡◌, ℕ, ◌∷◌, [], true, false, List, replicate, codes, Some, None}
 use Rattle.jname_core.specs.declared.key.Key.TheVariants.{Named}
 use Rattle.jcl_plan.specs.declared.fault.Cause.TheVariants.{P}
@@ -11,10 +11,10 @@ use Rattle.value_core.specs.declared.reference.DdReference.TheVariants as refere
 use Rattle.value_core.specs.declared.set.SetName.TheVariants.{Of}
 use Rattle.value_core.specs.Reads.{good}
 use Rattle.jcl_cards.specs.declared.coded.Coded.TheVariants.{NotGiven, Nullified, Value}
-use Rattle.jcl_cards.specs.declared.dd.DdCard.{DdCard}
-use Rattle.jcl_cards.specs.DdCards.{dd_card, has_data}
-use Rattle.jcl_cards.specs.Examples.{empty}
-use Rattle.jcl_cards.specs.Merging.{by_itself, merged}
+use Rattle.jcl_dds.specs.declared.dd.DdCard.{DdCard}
+use Rattle.jcl_dds.specs.DdCards.{dd_card, has_data}
+use Rattle.jcl_dds.specs.Examples.{empty}
+use Rattle.jcl_dds.specs.Merging.{by_itself, merged}
 
 -- what a DD statement without cards is read as
 abbrev pub read : List ℕ → List ℕ → DdCard

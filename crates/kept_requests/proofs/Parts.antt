@@ -1,11 +1,14 @@
 -- Requests and their parts, place by place.
-use Rattle.std.proofs.Common.{◌≡◌, ℕ, zero, suc, List, [], ◌∷◌, ◌++◌, length, Some, None, slice_get, refl, ap, ◌∙◌, sym, arith}
+use Rattle.std.proofs.Common.{◌≡◌, ℕ, zero, suc, List, [], ◌∷◌, ◌++◌, length, Some, None, slice_get, refl, ap, ◌∙◌, sym, subst, All, arith}
+use Rattle.std.proofs.lemmas.List.Elements.{All-push}
+use Rattle.std.proofs.lemmas.List.{length_push}
 use Rattle.std.proofs.lemmas.Option.{none-some, same_Some}
 use Rattle.jcl_meaning.specs.declared.program.Request.{Request}
 use Rattle.jcl_meaning.specs.declared.program.Request.TheVariants as request
 use Rattle.kept_requests.specs.declared.requests.Head.{Head}
 use Rattle.kept_requests.specs.declared.requests.Head.TheVariants.{Get, Put, End, Abend}
-use Rattle.kept_requests.specs.Heads.{head_of, request_by, request_with, requests_of, text_of}
+use Rattle.jcl_meaning.specs.WellFormed.{IsRequest}
+use Rattle.kept_requests.specs.Heads.{AreParts, head_of, request_by, request_with, requests_of, text_of}
 
 pub parts_of : (r : Request) → request_with (head_of r) (text_of r) ≡ r
 parts_of (request.Get dd) = refl
@@ -20,6 +23,13 @@ one_more_request [] (text ∷ texts) r same = absurd (omega (arith, same))
 one_more_request (head ∷ heads) [] r same = absurd (omega (arith, same))
 one_more_request (head ∷ heads) (text ∷ texts) r same =
     ap (λ (rs : List Request). request_with head text ∷ rs) (one_more_request heads texts r (omega (arith, same)))
+
+pub one_more_part : (heads : List Head) (texts : List (List ℕ)) (r : Request) → AreParts heads texts → IsRequest r →
+    AreParts (heads ++ head_of r ∷ []) (texts ++ text_of r ∷ [])
+one_more_part heads texts r parts is = record {
+  as_many = omega (arith, parts.as_many, length_push heads (head_of r), length_push texts (text_of r));
+  codes = subst (All IsRequest) (sym (one_more_request heads texts r parts.as_many)) (All-push IsRequest (requests_of heads texts) r parts.codes is);
+}
 
 pub as_many : (heads : List Head) (texts : List (List ℕ)) → length heads ≡ length texts → length (requests_of heads texts) ≡ length heads
 as_many [] texts same = refl

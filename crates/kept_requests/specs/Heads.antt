@@ -1,5 +1,6 @@
 -- Requests in two lists: what each asks for, and what it puts. (This profile)
-use Rattle.std.specs.Prelude.{ℕ, List, [], ◌∷◌, Option, Some, None}
+use Rattle.std.specs.Prelude.{◌≡◌, All, ℕ, List, [], ◌∷◌, Option, Some, None, length}
+use Rattle.jcl_meaning.specs.WellFormed.{IsRequest}
 use Rattle.jcl_meaning.specs.declared.program.Request.{Request}
 use Rattle.jcl_meaning.specs.declared.program.Request.TheVariants as request
 use Rattle.kept_requests.specs.declared.requests.Head.{Head}
@@ -38,3 +39,8 @@ text_of (request.Get dd) = filled []
 text_of (request.Put dd text) = text
 text_of (request.End code) = filled []
 text_of (request.Abend code) = filled []
+
+-- two lists that are the parts of requests
+pub record AreParts (heads : List Head) (texts : List (List ℕ)) : Type 0 where
+  pub as_many : length heads ≡ length texts
+  pub codes : All IsRequest (requests_of heads texts)

@@ -1,5 +1,6 @@
 //! The requests of a program in order.
-ghost use Rattle.std.specs.Prelude.{◌≡◌, ◌++◌, ◌∷◌, [], IfOk, OnErr, OnOk, length, slice_get};
+ghost use Rattle.std.specs.Prelude.{◌≡◌, ◌++◌, ◌∷◌, [], All, IfOk, OnErr, OnOk, length, slice_get};
+ghost use Rattle.jcl_meaning.specs.WellFormed.{IsRequest};
 ghost use Rattle.kept_requests.specs.Heads.{head_of, request_by, requests_of, text_of};
 
 use jcl_meaning::program::Request;
@@ -28,15 +29,31 @@ pub struct Requests {
 }
 
 impl Model for Requests {
-    ghost use Rattle.std.specs.Prelude.{◌≡◌, List, length};
+    ghost use Rattle.std.specs.Prelude.{List};
     ghost use Rattle.jcl_meaning.specs.declared.program.Request.{Request};
-    ghost use Rattle.kept_requests.specs.Heads.{requests_of};
+    ghost use Rattle.kept_requests.specs.Heads.{AreParts, requests_of};
 
     ghost Value = { List Request };
 
     ghost view = { λ r. requests_of r.heads.items r.texts };
 
-    ghost invariant = { λ r. length r.heads.items ≡ length r.texts };
+    ghost invariant = { λ r. AreParts r.heads.items r.texts };
+}
+
+/// The code of a request is at most 4095, which its type says. This does nothing.
+fn is_request(request: &Request)
+    ensures { IsRequest request.now }
+{
+    match request {
+        Request::Get(_) => {}
+        Request::Put { .. } => {}
+        Request::End(code) => {
+            let _ = code.number();
+        }
+        Request::Abend(code) => {
+            let _ = code.number();
+        }
+    }
 }
 
 fn head_of(request: &Request) -> Head
@@ -136,8 +153,16 @@ impl Requests {
         ensures ok { OnOk result (self.new ≡ self.old ++ request ∷ []) }
         ensures err { OnErr result (self.new ≡ self.old) }
     {
+        is_request(&request);
         push_parts(&mut self.heads, &mut self.texts, &request)?;
         Ok(())
+    }
+
+    /// The codes of the requests are at most 4095. This does nothing.
+    pub fn are_requests(&self)
+        ensures { All IsRequest self.now }
+    {
+        let _ = &self.heads;
     }
 
     /// The request of a place that counts from 0.

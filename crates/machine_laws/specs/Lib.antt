@@ -2,3 +2,4 @@ pub mod Inputs
 pub mod Deciding
 pub mod Answers
 pub mod Next
+pub mod Sessions

@@ -1,11 +1,12 @@
-//! Laws of the machine's steps: what they answer, what the volumes decide of them, and what follows them. They have no code: a law is a function that does
-//! nothing, and its contract is the law.
+//! Laws of the machine's steps and of sessions: what is answered, what the volumes decide, and what follows a step. They have no code: a law is a function
+//! that does nothing, and its contract is the law.
 #![tactic(auto)]
 
 ghost use Rattle.machine_laws.specs.Answers.{AnswersAreExact, AnswersOfDrive};
 ghost use Rattle.machine_laws.specs.Deciding.{ActionsAreTold, GrowthIsRefused, PrimaryIsRefused, SetsArePlaced};
 ghost use Rattle.machine_laws.specs.Inputs.{AreInputs};
 ghost use Rattle.machine_laws.specs.Next.{NextVolumesAreDecided};
+ghost use Rattle.machine_laws.specs.Sessions.{AnswersOfSession, VolumesDecideSession};
 
 use next_laws::next_store_is_decided;
 use path_meaning::is_never_two;
@@ -59,4 +60,21 @@ pub fn next_volumes_are_decided()
     ensures { NextVolumesAreDecided }
 {
     next_store_is_decided();
+}
+
+/// What each job of a session is answered is exact, in the machine as it was.
+pub fn answers_of_a_session()
+    ensures { AnswersOfSession }
+{
+    answers_are_exact();
+}
+
+/// Along a session SB37 stands in the place of a request only where the volumes, as they were before its event, had no room for the tracks that it asked for; F6
+/// is told of a DD with a key only where the configured volume on which its set is looked for had none for its primary; and sets are placed by the rule.
+pub fn volumes_decide_a_session()
+    ensures { VolumesDecideSession }
+{
+    growth_is_refused();
+    primary_is_refused();
+    sets_are_placed();
 }

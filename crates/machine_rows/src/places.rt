@@ -2,6 +2,7 @@
 ghost use Rattle.std.specs.Prelude.{◌≡◌, ◌≤◌, IfOk, OnOk};
 ghost use Rattle.std.specs.FinMap as map;
 ghost use Rattle.std.specs.List.{All};
+ghost use Rattle.jcl_plan.specs.declared.plan.TheConstants.{MOST_TRACKS};
 ghost use Rattle.place_core.specs.Placings.{NothingKeptFor};
 
 use cat_core::catalog::Catalog;
@@ -178,7 +179,7 @@ fn mount(
     tracks: u16,
     unusable: &[Extent],
 ) -> Result<(), AllocError>
-    requires fits { tracks ≤ 4000 }
+    requires fits { tracks ≤ MOST_TRACKS }
     requires before { All (λ m. m.kept ≡ map.empty) volumes.old }
     ensures { OnOk result (All (λ m. m.kept ≡ map.empty) volumes.new) }
 {

@@ -2,6 +2,7 @@
 ghost use Rattle.std.specs.Prelude.{◌≤◌};
 
 use jcl_meaning::state::Place;
+use jcl_plan::plan::MOST_TRACKS;
 use jname_core::key::{Key, Sign};
 use jname_core::serial::Serial;
 use mount_core::mounted::Mounted;
@@ -82,7 +83,7 @@ pub(crate) fn mount(alloc: Global, store: &mut SharedStore, line: &mut Line<'_>)
     };
     let tracks = line.words.short();
     let holes = holes(alloc, line);
-    if tracks > 4000 {
+    if tracks > MOST_TRACKS {
         return line.told.not_allowed();
     }
     if let Some(mounted) = line

@@ -1,8 +1,10 @@
 -- What is found of a statement is added to what is found of those before it.
-use Rattle.std.proofs.Common.{◌≡◌, ◌∷◌, ◌+◌, ◌||◌, ℕ, Bool, true, false, List, ap, ◌∙◌, drop, subst, sym, refl}
+use Rattle.std.proofs.Common.{◌≡◌, ◌∷◌, ◌+◌, ◌||◌, ℕ, Bool, true, false, List, Option, ap, ◌∙◌, drop, get_or, length, ◌<◌, subst, sym, refl, arith}
+use Rattle.std.proofs.lemmas.List.{at_drop_more}
+use Rattle.mvt_check.specs.declared.answers.answer.Answer.{Answer}
 use Rattle.proc_library.specs.declared.library.LibraryProcedure.{LibraryProcedure}
 use Rattle.session_text.specs.declared.statement.Statement.{Statement}
-use Rattle.mvt_check.specs.Checking.{AddsAll, AddsSaid, is_refused, some_refused}
+use Rattle.mvt_check.specs.Checking.{AddsAll, AddsSaid, is_refused, is_risk, one, refused_decks, risks_in, some_refused}
 
 module _ (units : List (List ℕ)) (library : List LibraryProcedure) (statements : List Statement) (n : ℕ) (s : Statement)
     (cut : drop n statements ≡ s ∷ drop (n + 1) statements) where
@@ -28,3 +30,24 @@ module _ (units : List (List ℕ)) (library : List LibraryProcedure) (statements
       ∙ either refused (is_refused units library s.says) (some_refused units library (drop (n + 1) statements))
       ∙ ap (λ b. (refused || b) || some_refused units library (drop (n + 1) statements)) (sym is)
       ∙ ap (λ b. b || some_refused units library (drop (n + 1) statements)) (sym joined)
+
+  pub counted_on : (count : ℕ) (own : Bool) (number : ℕ) → refused_decks units library statements ≡ count + refused_decks units library (drop n statements) →
+      own ≡ is_refused units library s.says → number ≡ one own →
+      refused_decks units library statements ≡ count + number + refused_decks units library (drop (n + 1) statements)
+  counted_on count own number before is counted =
+      let here : refused_decks units library (drop n statements) ≡ one (is_refused units library s.says) + refused_decks units library (drop (n + 1) statements) =
+      ap (refused_decks units library) cut in
+      let same : number ≡ one (is_refused units library s.says) = counted ∙ ap one is in
+      omega (arith, before, here, same)
+
+pub risks_on : (answers : List (Option Answer)) (n : ℕ) (a : Option Answer) → drop n answers ≡ a ∷ drop (n + 1) answers →
+    (count : ℕ) (is : Bool) (number : ℕ) → risks_in answers ≡ count + risks_in (drop n answers) → is ≡ is_risk a → number ≡ one is →
+    risks_in answers ≡ count + number + risks_in (drop (n + 1) answers)
+risks_on answers n a cut count is number before its counted =
+    let here : risks_in (drop n answers) ≡ one (is_risk a) + risks_in (drop (n + 1) answers) = ap risks_in cut in
+    let same : number ≡ one (is_risk a) = counted ∙ ap one its in
+    omega (arith, before, here, same)
+
+pub answer_at : (answers : List (Option Answer)) (n : ℕ) (a : Option Answer) → n < length answers → a ≡ get_or answers n a →
+    drop n answers ≡ a ∷ drop (n + 1) answers
+answer_at answers n a within is = at_drop_more (λ xs. xs) answers n a within ∙ ap (λ x. x ∷ drop (n + 1) answers) (sym is)

@@ -2,3 +2,8 @@ pub mod Adding
 pub mod Decks
 pub mod Faults
 pub mod Later
+pub mod Answering
+pub mod Noting
+pub mod Owning
+pub mod Reading
+pub mod Runs

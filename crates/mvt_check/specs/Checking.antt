@@ -1,11 +1,11 @@
 -- What is found of the decks of a session, and what is written of it. (This profile)
-use Rattle.std.specs.Prelude.{◌≡◌, ◌⊎◌, ℕ, ◌+◌, Bool, true, false, ◌||◌, List, [], ◌∷◌, ◌++◌, codes, decimal, Option, Some, None, is_some, is_err, take, if◌then◌else◌}
+use Rattle.std.specs.Prelude.{◌≡◌, ◌⊎◌, ℕ, ◌+◌, ◌==◌, Bool, true, false, ◌||◌, List, [], ◌∷◌, ◌++◌, codes, decimal, Option, Some, None, is_some, is_err, take, if◌then◌else◌}
 use Rattle.std.specs.Io.KnownBytes.{Appends}
 use Rattle.std.specs.List.{list_any}
-use Rattle.answer_core.specs.declared.answer.Answer.{Answer}
-use Rattle.answer_core.specs.declared.answer.Answer.TheVariants as answer
-use Rattle.answer_core.specs.declared.answer.Answers.{Answers}
-use Rattle.answer_core.specs.Telling.{AreAnswered}
+use Rattle.mvt_check.specs.declared.answers.answer.Answer.{Answer}
+use Rattle.mvt_check.specs.declared.answers.answer.Answer.TheVariants as answer
+use Rattle.mvt_check.specs.declared.answers.answer.Answers.{Answers}
+use Rattle.mvt_check.specs.Telling.{AreAnswered}
 use Rattle.check_core.specs.declared.report.Checked.{Checked}
 use Rattle.check_core.specs.declared.report.Checked.TheVariants.{Refused, Taken}
 use Rattle.check_core.specs.Reports.{AreTold}
@@ -25,7 +25,7 @@ use Rattle.session_text.specs.Statements.{statements_of}
 use Rattle.session_core.specs.Opening.{IsOpened}
 use Rattle.session_core.specs.Sessions.{session_behind}
 use Rattle.session_core.specs.Streams.{IsRead, SinkState, SourceState}
-use Rattle.session_core.specs.declared.Options.{Options}
+use Rattle.run_options.specs.declared.Options.{Options}
 use Rattle.session_core.specs.declared.SessionFault.{SessionFault}
 use Rattle.session_core.specs.declared.SessionFault.TheVariants.{Memory, Stopped, WriteFailed}
 use Rattle.session_core.specs.declared.open.Opened.{Opened}
@@ -79,6 +79,23 @@ AddsAll units library [] old new = new ≡ old
 AddsAll units library (s ∷ statements) old new =
     (between : List ℕ) × AddsSaid units library s.line s.says old between × AddsAll units library statements between new
 
+-- one for a deck that is refused
+abbrev pub one : Bool → ℕ
+one true = 1
+one false = 0
+
+abbrev pub refused_decks : List (List ℕ) → List LibraryProcedure → List Statement → ℕ
+refused_decks units library [] = 0
+refused_decks units library (s ∷ statements) = one (is_refused units library s.says) + refused_decks units library statements
+
+abbrev pub warnings_text : ℕ → List ℕ
+warnings_text n = if n == 1 then codes " warning\n" else codes " warnings\n"
+
+-- the last line: how many decks are refused, how many jobs may fail or have too many paths, and how many warnings there are
+abbrev pub sums_text : ℕ → ℕ → ℕ → List ℕ
+sums_text refused risks warnings =
+    decimal refused ++ codes " refused, " ++ decimal risks ++ codes " at risk, " ++ decimal warnings ++ warnings_text warnings
+
 -- the session's own fault, if it has one
 abbrev pub fault_text : Option (Fault × ℕ) → List ℕ
 fault_text None = []
@@ -117,6 +134,11 @@ is_risk (Some (answer.Risk fault step dd path lines)) = true
 is_risk (Some (answer.TooMany step)) = true
 is_risk (Some (answer.SpaceWait serial)) = false
 
+-- how many of these jobs
+abbrev pub risks_in : List (Option Answer) → ℕ
+risks_in [] = 0
+risks_in (a ∷ answers) = one (is_risk a) + risks_in answers
+
 -- no deck is looked at, for the session has a fault
 pub record IsUnopened (statements : List Statement) (found : Found) : Type 0 where
   pub fault : is_some (fault_of statements) ≡ true
@@ -131,37 +153,43 @@ TellsStop (Stopped fault line) found =
 TellsStop (WriteFailed line) found = ⊥
 TellsStop Memory found = ⊥
 
+-- what is found of all decks comes behind a text, and then the sums
+pub record AddsOpened (units : List (List ℕ)) (library : List LibraryProcedure) (statements : List Statement) (risks : ℕ) (old new : List ℕ) : Type 0 where
+  pub body : List ℕ
+  pub decks : AddsAll units library statements old body
+  pub warnings : ℕ
+  pub sums : new ≡ body ++ sums_text (refused_decks units library statements) risks warnings
+
 -- the decks are looked at with the units and procedures that the session configures
 pub record IsLookedAt (o : Options) (statements : List Statement) (found : Found) : Type 0 where
   pub opened : Opened
   pub is : IsOpened statements opened
-  pub text : AddsAll (unit_names opened.fixed.units) opened.fixed.library statements (fault_text (fault_of statements)) found.text.items
   pub refused : found.refused ≡ (is_some (fault_of statements) || some_refused (unit_names opened.fixed.units) opened.fixed.library statements)
   pub answers : Answers
   pub answered : AreAnswered o statements answers
+  pub text : AddsOpened (unit_names opened.fixed.units) opened.fixed.library statements (risks_in answers.by_job.items)
+      (fault_text (fault_of statements)) found.text.items
   pub risk : found.at_risk ≡ list_any is_risk answers.by_job.items
 
 abbrev pub IsFound : Options → List Statement → Found → Type 0
 IsFound o statements found = IsUnopened statements found ⊎ IsLookedAt o statements found
 
--- 1 where a deck is refused, the session has a fault, or a job may fail
-abbrev pub status_of : Found → ℕ
-status_of found = if found.refused || found.at_risk then 1 else 0
+-- a text is written, or as much of it as the sink takes
+abbrev pub IsTold : SinkState → SinkState → List ℕ → Bool → ℕ → Type 0
+IsTold sink sink_after text fails status =
+    Appends sink.contents sink_after.contents text × (status ≡ (if fails then 1 else 0))
+    ⊎ ((n : ℕ) × Appends sink.contents sink_after.contents (take n text)) × (status ≡ 1)
 
--- the text is written, or as much of it as the sink takes
-abbrev pub IsTold : SinkState → SinkState → Found → ℕ → Type 0
-IsTold sink sink_after found status =
-    Appends sink.contents sink_after.contents found.text.items × (status ≡ status_of found)
-    ⊎ ((n : ℕ) × Appends sink.contents sink_after.contents (take n found.text.items)) × (status ≡ 1)
-
--- a session was read, and what is found of it is written
-pub record Checks (o : Options) (source source_after : SourceState) (sink sink_after : SinkState) (status : ℕ) : Type 0 where
+-- a session was read, and what is found of it is written: where it is not asked for in brief, the whole text
+pub record Checks (o : Options) (brief : Bool) (source source_after : SourceState) (sink sink_after : SinkState) (status : ℕ) : Type 0 where
   pub text : List ℕ
   pub ending : Ending
   pub read : IsRead source source_after text ending
   pub found : Found
   pub is : IsFound o (statements_of ending text) found
-  pub told : IsTold sink sink_after found status
+  pub written : List ℕ
+  pub whole : brief ≡ false → written ≡ found.text.items
+  pub told : IsTold sink sink_after written (found.refused || found.at_risk) status
 
 -- memory was wanting, and nothing is written
 pub record Starves (sink sink_after : SinkState) (status : ℕ) : Type 0 where

@@ -1,1 +1,5 @@
 pub mod Checking
+pub mod Answers
+pub mod Reading
+pub mod Telling
+pub mod Words

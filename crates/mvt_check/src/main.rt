@@ -1,6 +1,8 @@
 //! The program `mvt-check`: it reads a session on standard input, and writes on standard output why its decks are refused, and where.
 #![tactic(auto)]
 
+mod answers;
+mod brief;
 mod program;
 mod session;
 
@@ -32,6 +34,7 @@ fn main(rt: HostRuntime) -> ExitCode {
                 run_program(
                     rt.alloc(),
                     asked.options,
+                    asked.has("brief"),
                     &mut source,
                     &mut sink,
                     &mut errors,

@@ -1,12 +1,13 @@
 //! What the program does, over its streams: its status, and what it says on the stream of errors.
-ghost use Rattle.std.specs.Prelude.{◌≡◌, ◌⊎◌, false};
+ghost use Rattle.std.specs.Prelude.{◌≡◌, ◌⊎◌, IfOk, false};
 ghost use Rattle.session_core.specs.Streams.{sink_state, source_state};
 ghost use Rattle.mvt_check.specs.Checking.{Checks, IsTold, Starves};
 
+use crate::brief::brief_of;
 use crate::session::{Found, check_session};
 use command_line::ended::{ALL_READ, Ended, SESSION_FAULT, end_out_of_memory};
-use command_line::program::Program;
-use session_core::Options;
+use command_line::program::{Flag, Program};
+use run_options::Options;
 use session_core::stream::{Sink, Source};
 use session_core::transfer::{read_text, write_text};
 use session_text::parse::statements;
@@ -19,22 +20,38 @@ pub(crate) fn mvt_check<'a>() -> Program<'a> {
         name: "mvt-check",
         about: "Reads a session on standard input, and writes why its decks are refused, and where",
         usage: "mvt-check [OPTIONS] < SESSION",
-        flags: &[],
+        flags: &[Flag {
+            name: "brief",
+            help: "Write one line for each finding: LINE:COLUMN: and what it is",
+        }],
+        end: "Status: 0 nothing is wrong; 1 a deck is refused, the session has a fault, or a job is at RISK or TOOMANY; 2 the command line; 3 out of memory\nExample: mvt-check < pay.session\nSee also: mvt, mvt-play, mvt-picture",
     }
 }
 
-/// What is found is written, or as much of it as the sink takes.
-fn tell<W: Write, E: Write>(found: &Found, sink: &mut Sink<'_, W>, errors: &mut E) -> Ended
-    requires { sink.old.failed ≡ false }
-    ensures { IsTold (sink_state W.contents sink.old) (sink_state W.contents sink.new) found.now result.status }
+/// What is written of a text: all of it, or a line for each finding.
+fn shown(alloc: Global, text: Vec<u8>, brief: bool) -> Result<Vec<u8>, AllocError>
+    ensures { IfOk result (λ shown. brief ≡ false → shown.items ≡ text.items) }
 {
-    match write_text(sink, found.text.as_slice()) {
+    if brief {
+        brief_of(alloc, text.as_slice())
+    } else {
+        Ok(text)
+    }
+}
+
+/// A text is written, or as much of it as the sink takes. The status is 1 where something is wrong.
+fn tell<W: Write, E: Write>(
+    text: &[u8],
+    fails: bool,
+    sink: &mut Sink<'_, W>,
+    errors: &mut E,
+) -> Ended
+    requires { sink.old.failed ≡ false }
+    ensures { IsTold (sink_state W.contents sink.old) (sink_state W.contents sink.new) text.now fails result.status }
+{
+    match write_text(sink, text) {
         Ok(()) => Ended {
-            status: if found.refused || found.at_risk {
-                SESSION_FAULT
-            } else {
-                ALL_READ
-            },
+            status: if fails { SESSION_FAULT } else { ALL_READ },
             said: true,
         },
         Err(_) => Ended {
@@ -44,17 +61,18 @@ fn tell<W: Write, E: Write>(found: &Found, sink: &mut Sink<'_, W>, errors: &mut 
     }
 }
 
-/// Looks at the decks of the session of the source, and writes to the sink what is found.
+/// Looks at the decks of the session of the source, and writes to the sink what is found, in brief where it is asked for.
 pub(crate) fn run_program<R: Read, W: Write, E: Write>(
     alloc: Global,
     options: Options,
+    brief: bool,
     source: &mut Source<'_, R>,
     sink: &mut Sink<'_, W>,
     errors: &mut E,
 ) -> Ended
     requires source_unfailed { source.old.failed ≡ false }
     requires sink_unfailed { sink.old.failed ≡ false }
-    ensures { Checks options (source_state R.remaining source.old) (source_state R.remaining source.new)
+    ensures { Checks options brief (source_state R.remaining source.old) (source_state R.remaining source.new)
         (sink_state W.contents sink.old) (sink_state W.contents sink.new) result.status
         ⊎ Starves (sink_state W.contents sink.old) (sink_state W.contents sink.new) result.status }
 {
@@ -67,5 +85,10 @@ pub(crate) fn run_program<R: Read, W: Write, E: Write>(
     let Ok(found) = check_session(alloc, statements.as_slice(), options) else {
         return end_out_of_memory(errors);
     };
-    tell(&found, sink, errors)
+    let fails = found.fails();
+    let Found { text, .. } = found;
+    let Ok(text) = shown(alloc, text, brief) else {
+        return end_out_of_memory(errors);
+    };
+    tell(text.as_slice(), fails, sink, errors)
 }

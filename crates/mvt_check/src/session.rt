@@ -1,16 +1,16 @@
 //! All decks of a session, looked at.
-ghost use Rattle.std.specs.Prelude.{◌≡◌, ◌++◌, ◌||◌, ℕ, List, IfOk, OnOk, Some, decimal, false, is_err, is_some, true};
+ghost use Rattle.std.specs.Prelude.{◌≡◌, ◌≤◌, ◌++◌, ◌||◌, ℕ, List, IfOk, OnOk, Some, decimal, false, is_err, is_some, true};
 ghost use Rattle.std.specs.List.{list_any};
 ghost use Rattle.check_core.specs.Reports.{AreTold};
 ghost use Rattle.config_core.specs.Configs.{unit_names};
 ghost use Rattle.jcl_job.specs.Jobs.{job_of};
 ghost use Rattle.proc_library.specs.declared.library.LibraryProcedure.{LibraryProcedure};
 ghost use Rattle.session_core.specs.Opening.{IsOpened};
-ghost use Rattle.mvt_check.specs.Checking.{AddsAll, AddsDeck, AddsEvent, AddsFound, AddsSaid, IsFound, IsLookedAt, TellsStop, fault_at, fault_of, fault_text, is_refused, is_refused_event, is_refused_so, is_risk, some_refused};
+ghost use Rattle.mvt_check.specs.Checking.{AddsAll, AddsDeck, AddsEvent, AddsFound, AddsOpened, AddsSaid, IsFound, IsLookedAt, TellsStop, fault_at, fault_of, fault_text, is_refused, is_refused_event, is_refused_so, is_risk, one, refused_decks, risks_in, some_refused, sums_text, warnings_text};
 
-use answer_core::answer::{Answer, Answers, DeckRead};
-use answer_core::session::answers_of;
-use answer_core::words::push_answer;
+use crate::answers::answer::{Answer, Answers, DeckRead};
+use crate::answers::session::answers_of;
+use crate::answers::words::push_answer;
 use check_core::deck::{Sources, check_deck};
 use check_core::report::Checked;
 use check_core::text::push_checked;
@@ -21,8 +21,9 @@ use jcl_meaning::program::is_iefbr14;
 use jcl_plan::plan::JobPlan;
 use plain::lent::Lent;
 use plain::text::Text;
+use run_options::Options;
+use session_core::SessionFault;
 use session_core::open::{Opened, open};
-use session_core::{Options, SessionFault};
 use session_input::event::Event;
 use session_input::statement::ConfigStatement;
 use session_text::fault::Fault;
@@ -35,6 +36,15 @@ pub(crate) struct Found {
     pub(crate) text: Vec<u8>,
     pub(crate) refused: bool,
     pub(crate) at_risk: bool,
+}
+
+impl Found {
+    /// Whether a deck is refused, the session has a fault, or a job may fail.
+    pub(crate) fn fails(&self) -> bool
+        ensures { result ≡ (self.now.refused || self.now.at_risk) }
+    {
+        self.refused || self.at_risk
+    }
 }
 
 fn push_number(text: &mut Vec<u8>, number: u64) -> Result<(), AllocError>
@@ -306,6 +316,14 @@ fn either(one: bool, other: bool) -> bool
     one || other
 }
 
+/// One for what is so.
+fn one(refused: bool) -> usize
+    ensures number { result ≡ one refused }
+    ensures bound { result ≤ 1 }
+{
+    if refused { 1 } else { 0 }
+}
+
 /// The deck at this place, if it is that of this statement.
 fn deck_at(decks: &[DeckRead], place: usize, statement: usize) -> Option<DeckRead> {
     match decks.get(place) {
@@ -314,18 +332,20 @@ fn deck_at(decks: &[DeckRead], place: usize, statement: usize) -> Option<DeckRea
     }
 }
 
-/// Looks at all decks, and tells whether one of them is refused.
+/// Looks at all decks, and tells whether one of them is refused, and how many are.
 fn check_statements(
     alloc: Global,
     sources: &Sources<'_>,
     known: Known<'_>,
     statements: &[Statement<'_>],
     text: &mut Vec<u8>,
-) -> Result<bool, AllocError>
-    ensures refused { IfOk result (λ refused. refused ≡ some_refused sources.now.units.now sources.now.library.now statements.now) }
+) -> Result<(bool, usize), AllocError>
+    ensures refused { IfOk result (λ r. r.0 ≡ some_refused sources.now.units.now sources.now.library.now statements.now) }
+    ensures counted { IfOk result (λ r. r.1 ≡ refused_decks sources.now.units.now sources.now.library.now statements.now) }
     ensures added { OnOk result (AddsAll sources.now.units.now sources.now.library.now statements.now text.old.items text.new.items) }
 {
     let mut refused = false;
+    let mut count = 0;
     let mut place: usize = 0;
     for (n, statement) in statements.iter().enumerate() {
         let deck = deck_at(known.answers.decks.as_slice(), place, n);
@@ -334,8 +354,9 @@ fn check_statements(
         }
         let own = check_statement(alloc, sources, known, statement, deck, text)?;
         refused = either(refused, own);
+        count += one(own);
     }
-    Ok(refused)
+    Ok((refused, count))
 }
 
 /// Whether a job may fail, or has too many paths.
@@ -350,6 +371,61 @@ fn some_risk(answers: &[Option<Answer>]) -> bool
     ensures { result ≡ list_any is_risk answers.now }
 {
     answers.iter().any(is_risk)
+}
+
+/// How many of the jobs may fail, or have too many paths.
+fn count_risks(answers: &[Option<Answer>]) -> usize
+    ensures { result ≡ risks_in answers.now }
+{
+    let mut count = 0;
+    for n in 0..answers.len() {
+        count += one(is_risk(&answers[n]));
+    }
+    count
+}
+
+/// Whether a line of what is found is a warning: behind its number.
+fn is_warning(line: &[u8]) -> bool {
+    let Some(numbered) = line.strip_prefix(b"line ".as_slice()) else {
+        return false;
+    };
+    let digits = numbered.iter().take_while(|c| c.is_ascii_digit()).count();
+    let (_, behind) = numbered.split_at(digits.min(numbered.len()));
+    behind.starts_with(b": warning: ".as_slice())
+}
+
+/// How many lines of what is found are warnings.
+fn count_warnings(text: &[u8]) -> usize {
+    text.split(|c| *c == b'\n')
+        .filter(|line| is_warning(*line))
+        .count()
+}
+
+fn warnings_text(n: usize) -> &'static [u8]
+    ensures { result.now ≡ warnings_text n }
+{
+    if n == 1 {
+        b" warning\n"
+    } else {
+        b" warnings\n"
+    }
+}
+
+/// Writes the last line.
+fn push_sums(
+    text: &mut Vec<u8>,
+    refused: usize,
+    risks: usize,
+    warnings: usize,
+) -> Result<(), AllocError>
+    ensures { OnOk result (text.new.items ≡ text.old.items ++ sums_text refused risks warnings) }
+{
+    push_number(text, refused as u64)?;
+    text.extend_from_slice(b" refused, ")?;
+    push_number(text, risks as u64)?;
+    text.extend_from_slice(b" at risk, ")?;
+    push_number(text, warnings as u64)?;
+    text.extend_from_slice(warnings_text(warnings))
 }
 
 /// The names of the units and of the procedures that a session configures.
@@ -398,7 +474,8 @@ fn check_opened(
     statements: &[Statement<'_>],
     found: &mut Found,
 ) -> Result<(), AllocError>
-    ensures text { OnOk result (AddsAll (unit_names known.now.fixed.now.units) known.now.fixed.now.library statements.now found.old.text.items found.new.text.items) }
+    ensures text { OnOk result (AddsOpened (unit_names known.now.fixed.now.units) known.now.fixed.now.library statements.now
+        (risks_in known.now.answers.now.by_job.items) found.old.text.items found.new.text.items) }
     ensures refused { OnOk result (found.new.refused
         ≡ (found.old.refused || some_refused (unit_names known.now.fixed.now.units) known.now.fixed.now.library statements.now)) }
     ensures risk { OnOk result (found.new.at_risk ≡ list_any is_risk known.now.answers.now.by_job.items) }
@@ -411,9 +488,12 @@ fn check_opened(
         procedure_names: names.procedures.as_slice(),
         procedure_lines: names.lines.as_slice(),
     };
-    let own = check_statements(alloc, &sources, *known, statements, &mut found.text)?;
+    let (own, refused) = check_statements(alloc, &sources, *known, statements, &mut found.text)?;
+    let warnings = count_warnings(found.text.as_slice());
+    let jobs = known.answers.by_job.as_slice();
+    push_sums(&mut found.text, refused, count_risks(jobs), warnings)?;
     found.refused = found.refused || own;
-    found.at_risk = some_risk(known.answers.by_job.as_slice());
+    found.at_risk = some_risk(jobs);
     Ok(())
 }
 

@@ -8,7 +8,7 @@ use Rattle.command_line.specs.CommandLines.{IsRead}
 use Rattle.command_line.specs.Endings.{EndsUnrun, prompt_of}
 use Rattle.command_line.specs.declared.ended.Ended.{Ended}
 use Rattle.command_line.specs.declared.options.Asked.{Asked}
-use Rattle.session_core.specs.declared.Options.{Options}
+use Rattle.run_options.specs.declared.Options.{Options}
 use Rattle.session_core.specs.declared.SessionEnd.{SessionEnd}
 use Rattle.session_core.specs.declared.SessionFault.{SessionFault}
 use Rattle.session_core.specs.declared.SessionFault.TheVariants.{Stopped, WriteFailed, Memory}

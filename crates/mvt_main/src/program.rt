@@ -9,7 +9,7 @@ use crate::report::{Message, session_report};
 use command_line::ended::{Ended, end_unrun, prompt};
 use command_line::options::read_words;
 use command_line::program::Program;
-use session_core::Options;
+use run_options::Options;
 use session_core::stream::{Sink, Source};
 use std::alloc::Global;
 use std::convert::AsStr;
@@ -25,6 +25,7 @@ fn mvt<'a>() -> Program<'a>
         about: "Reads a session on standard input and writes its listing on standard output",
         usage: "mvt [OPTIONS] < SESSION",
         flags: &[],
+        end: "",
     }
 }
 

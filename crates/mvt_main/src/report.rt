@@ -4,8 +4,9 @@ ghost use Rattle.session_core.specs.Streams.{sink_state, source_state};
 ghost use Rattle.mvt_main.specs.Programs.{IsReported, reported, text_of};
 
 use command_line::ended::{ALL_READ, SESSION_FAULT, WANT_OF_MEMORY};
+use run_options::Options;
 use session_core::stream::{Sink, Source};
-use session_core::{Options, SessionEnd, SessionFault, run_streams};
+use session_core::{SessionEnd, SessionFault, run_streams};
 use std::alloc::Global;
 use std::fmt;
 use std::io::{Read, Write};

@@ -7,8 +7,9 @@ use command_line::ended::{ALL_READ, Ended, SESSION_FAULT, end_out_of_memory};
 use command_line::program::Program;
 use history_core::history::History;
 use picture_core::draw::picture_of;
+use run_options::Options;
 use session_core::stream::Source;
-use session_core::{Options, SessionEnd, SessionFault};
+use session_core::{SessionEnd, SessionFault};
 use std::alloc::Global;
 use std::io::{Read, Write};
 use svg_text::picture::{WriteFault, write_picture};
@@ -20,6 +21,7 @@ pub(crate) fn mvt_picture<'a>() -> Program<'a> {
         about: "Reads a session on standard input and writes a picture of it in SVG on standard output",
         usage: "mvt-picture [OPTIONS] < SESSION",
         flags: &[],
+        end: "Status: 0 the session has no fault; 1 it has one, or the picture is not written whole; 2 the command line; 3 out of memory\nExample: mvt-picture < pay.session > pay.svg\nSee also: mvt, mvt-check, mvt-play",
     }
 }
 

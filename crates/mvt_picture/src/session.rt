@@ -1,6 +1,6 @@
 //! A session is run, and what is seen of it is kept.
 ghost use Rattle.std.specs.Prelude.{◌≡◌, false};
-ghost use Rattle.cb_meaning.specs.declared.layout.TheConstants.{LAYOUT_1};
+ghost use Rattle.cb_meaning.specs.declared.layout.TheConstants.{QUEUE_LAYOUT};
 ghost use Rattle.cb_queue.specs.RecordQueues.{empty_queue};
 ghost use Rattle.config_core.specs.Configs.{Configuration};
 ghost use Rattle.config_core.specs.Configured.{IsConfigured};
@@ -11,11 +11,12 @@ use crate::watch::Watch;
 use cb_queue::list_store::ListStore;
 use config_core::start::Fixed;
 use history_core::history::History;
+use run_options::Options;
 use sched_core::system::System;
 use session_core::open::{Opened, open, start};
 use session_core::stream::Source;
 use session_core::transfer::read_text;
-use session_core::{Options, SessionEnd, SessionFault};
+use session_core::{SessionEnd, SessionFault};
 use session_input::event::Event;
 use session_text::fault::Fault;
 use session_text::parse::statements;
@@ -78,7 +79,7 @@ fn run_on(
     history: &mut History,
 ) -> Result<SessionEnd, SessionFault>
     requires configured { (c : Configuration) × IsConfigured c × IsTakenApart c parts.0 fixed.now }
-    requires empty { parts.1 ≡ empty_queue LAYOUT_1 }
+    requires empty { parts.1 ≡ empty_queue QUEUE_LAYOUT }
 {
     let (store, queue) = parts;
     let Ok(mut system) = start(alloc, store, queue, fixed, options) else {

@@ -1,7 +1,7 @@
 -- What the program ends with. (This profile)
 use Rattle.std.specs.Prelude.{◌≡◌, ◌⊎◌, ℕ, Bool, true, false, List, Result, Ok, Err}
 use Rattle.session_core.specs.Streams.{SinkState, SourceState}
-use Rattle.session_core.specs.declared.Options.{Options}
+use Rattle.run_options.specs.declared.Options.{Options}
 use Rattle.session_core.specs.declared.SessionEnd.{SessionEnd}
 use Rattle.session_core.specs.declared.SessionFault.{SessionFault}
 use Rattle.session_core.specs.declared.SessionFault.TheVariants.{Memory, Stopped, WriteFailed}

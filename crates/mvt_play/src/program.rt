@@ -25,6 +25,7 @@ pub(crate) fn mvt_play<'a>() -> Program<'a> {
             name: "events",
             help: "Write the session with the added events in place of its listing",
         }],
+        end: "Status: 0 the session has no fault; 1 it has one, or is too long with its added events; 2 the command line; 3 out of memory\nExample: mvt-play < pay.session\nSee also: mvt, mvt-check, mvt-picture",
     }
 }
 

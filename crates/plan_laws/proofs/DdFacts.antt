@@ -11,8 +11,8 @@ use Rattle.jcl_plan.specs.declared.plan.JobPlan.{JobPlan}
 use Rattle.jcl_plan.specs.declared.plan.StepPlan.{StepPlan}
 use Rattle.operand_core.specs.Faults.{told}
 use Rattle.cb_meaning.specs.Writable.{IsUnits}
-use Rattle.jcl_cards.specs.declared.dd.DdCard.{DdCard}
 use Rattle.jcl_cards.specs.declared.job.JobCard.{JobCard}
+use Rattle.jcl_dds.specs.declared.dd.DdCard.{DdCard}
 use Rattle.jcl_procs.specs.declared.step.FlatStep.{FlatStep}
 use Rattle.jcl_refs.specs.Plans.{MakesDummy, Names, NamesNothing, Naming, Own, OwnCards, OwnDummy, OwnSet, OwnSysout, Spot, all_of, by_fault, dds_with, kind_of, kind_with, kinds_from, naming, own_kind, plan_of, spot, units_of_dds, with_dds_left, with_units}
 use Rattle.plan_laws.specs.PlanLaws.{HasKnownUnits}

@@ -16,8 +16,8 @@ use Rattle.jcl_plan.specs.declared.plan.VolumePlan.TheVariants as volume
 use Rattle.operand_core.specs.Faults.{told}
 use Rattle.cb_meaning.specs.Writable.{IsEarlierSet, IsForSet}
 use Rattle.cb_meaning.specs.Writable as writable
-use Rattle.jcl_cards.specs.declared.dd.DdCard.{DdCard}
 use Rattle.jcl_cards.specs.declared.job.JobCard.{JobCard}
+use Rattle.jcl_dds.specs.declared.dd.DdCard.{DdCard}
 use Rattle.jcl_procs.specs.declared.step.FlatStep.{FlatStep}
 use Rattle.jcl_refs.specs.Planning.{counts_in, planned_counts}
 use Rattle.jcl_refs.specs.Plans.{all_of, by_fault, dds_with, kind_of, kinds_from, kinds_in, plan_of, spot, step_of, steps_from, unit_of, units_of_dds, units_of_step, units_of_steps, with_dds_left, with_units}

@@ -25,7 +25,7 @@ use Rattle.value_core.specs.declared.set.VolumeName.{VolumeName}
 use Rattle.value_core.specs.declared.set.VolumeName.TheVariants as coded_volume
 use Rattle.jcl_cards.specs.declared.coded.Coded.{Coded}
 use Rattle.jcl_cards.specs.declared.coded.Coded.TheVariants.{NotGiven, Nullified, Value}
-use Rattle.jcl_cards.specs.declared.dd.DdCard.{DdCard}
+use Rattle.jcl_dds.specs.declared.dd.DdCard.{DdCard}
 use Rattle.jcl_procs.specs.declared.step.FlatStep.{FlatStep}
 use Rattle.cb_meaning.specs.Writable.{IsBefore}
 use Rattle.jcl_refs.specs.declared.targets.Target.{Target}

@@ -26,10 +26,10 @@ use Rattle.value_core.specs.declared.set.VolumeName.TheVariants as coded_volume
 use Rattle.cb_meaning.specs.Writable.{AreDds, AreSteps, BeginsNamed, IsCard, IsJobTest, IsKeyAt, IsKindAt, IsName, IsSpace, IsVolumeAt, IsWritable}
 use Rattle.jcl_cards.specs.declared.coded.Coded.{Coded}
 use Rattle.jcl_cards.specs.declared.coded.Coded.TheVariants.{NotGiven, Nullified, Value}
-use Rattle.jcl_cards.specs.declared.dd.DdCard.{DdCard}
-use Rattle.jcl_cards.specs.declared.dd.Word as positional
-use Rattle.jcl_cards.specs.declared.dd.Word.TheVariants as positional_word
 use Rattle.jcl_cards.specs.declared.job.JobCard.{JobCard}
+use Rattle.jcl_dds.specs.declared.dd.DdCard.{DdCard}
+use Rattle.jcl_dds.specs.declared.dd.Word as positional
+use Rattle.jcl_dds.specs.declared.dd.Word.TheVariants as positional_word
 use Rattle.jcl_procs.specs.declared.step.FlatStep.{FlatStep}
 use Rattle.jcl_refs.specs.LaterDds.{Found, as_dummy, defined_by, found_in, left_by, next_by, next_of, wanted_by}
 use Rattle.jcl_refs.specs.Plans.{Led, MakesDummy, Names, NamesNothing, Naming, Nowhere, Own, OwnCards, OwnDummy, OwnSet, OwnSysout, Spot, ToDummy, ToSet, all_of, by_class, dds_with, job_test, job_with, kind_of, kind_with, kinds_in, led, most_dds, most_steps, naming, own_kind, plan_of, space_of, step_of, steps_from, test_of, test_with, unit_of, units_of_dds, units_of_steps, volume_by, volume_plan, with_dds_left, with_units}

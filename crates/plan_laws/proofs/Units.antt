@@ -11,7 +11,7 @@ use Rattle.jcl_plan.specs.declared.fault.StatementFault.TheVariants.{UnknownUnit
 use Rattle.jcl_plan.specs.declared.plan.DdPlan.{DdPlan}
 use Rattle.jcl_cards.specs.declared.coded.Coded.{Coded}
 use Rattle.jcl_cards.specs.declared.coded.Coded.TheVariants.{NotGiven, Nullified, Value}
-use Rattle.jcl_cards.specs.declared.dd.DdCard.{DdCard}
+use Rattle.jcl_dds.specs.declared.dd.DdCard.{DdCard}
 use Rattle.jcl_refs.specs.Plans.{all_of, unit_number, unit_of, units_of_dds, with_units}
 use Rattle.deck_laws.proofs.Given.{same_ok}
 use Rattle.plan_laws.proofs.Making.{firsts, none_left}

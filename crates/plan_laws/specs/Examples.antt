@@ -18,9 +18,9 @@ use Rattle.value_core.specs.declared.set.VolumeName.{VolumeName}
 use Rattle.value_core.specs.declared.set.VolumeName.TheVariants as coded_volume
 use Rattle.jcl_cards.specs.declared.coded.Coded.{Coded}
 use Rattle.jcl_cards.specs.declared.coded.Coded.TheVariants.{NotGiven, Value}
-use Rattle.jcl_cards.specs.declared.dd.DdCard.{DdCard}
 use Rattle.jcl_cards.specs.declared.job.JobCard.{JobCard}
-use Rattle.jcl_cards.specs.Examples.{empty_dd}
+use Rattle.jcl_dds.specs.declared.dd.DdCard.{DdCard}
+use Rattle.jcl_dds.specs.Examples.{empty_dd}
 use Rattle.jcl_procs.specs.declared.step.FlatStep.{FlatStep}
 use Rattle.jcl_refs.specs.Plans.{plan_of}
 use Rattle.statement_laws.specs.Ranges.{IsSoundJob}

@@ -1,13 +1,13 @@
 -- What is found for a session is what is claimed of it.
 use Rattle.std.proofs.Common.{◌≡◌, ℕ, true, List, [], ◌++◌, Option, None, Some, Result, is_some, take, drop, sym, ap, subst, ◌∙◌}
 use Rattle.std.proofs.lemmas.List.Concat.{flat_map-append}
-use Rattle.cb_meaning.specs.declared.layout.TheConstants.{LAYOUT_1}
+use Rattle.cb_meaning.specs.declared.layout.TheConstants.{QUEUE_LAYOUT}
 use Rattle.config_core.specs.Configs.{Configuration}
 use Rattle.sched_core.specs.Starting.{IsStarted}
 use Rattle.sched_core.specs.Systems.{Machine}
 use Rattle.session_core.specs.Configuring.{IsConfiguredBy}
 use Rattle.session_core.specs.Sessions.{Session, events_in, events_of, refuses_in, session_behind, session_of}
-use Rattle.session_core.specs.declared.Options.{Options}
+use Rattle.run_options.specs.declared.Options.{Options}
 use Rattle.session_core.proofs.Standing.{no_events}
 use Rattle.session_text.specs.declared.fault.Fault.{Fault}
 use Rattle.session_text.specs.declared.statement.Statement.{Statement}
@@ -37,7 +37,7 @@ plays_from first reached last events none given is leads adds over = record {
 }
 
 module _ (o : Options) (all : List Statement) (at : ℕ) (c : Configuration) (by : IsConfiguredBy all at c) (first : Machine)
-    (started : IsStarted c (refuses_in o) o.views o.explains LAYOUT_1 first) where
+    (started : IsStarted c (refuses_in o) o.views o.explains QUEUE_LAYOUT first) where
   whole : AreEvents (drop at all) → session_behind [] all ≡ record { stands = take at all ++ drop at all; fault = None }
   whole events = by.session ∙ events_stand (take at all) (drop at all) events
 
@@ -45,7 +45,7 @@ module _ (o : Options) (all : List Statement) (at : ℕ) (c : Configuration) (by
       IsPlayedOut o (record { stands = take at all ++ drop at all; fault = None }) given
   played_out given events p = record {
     first = first;
-    started = subst (λ x. IsStarted x (refuses_in o) o.views o.explains LAYOUT_1 first)
+    started = subst (λ x. IsStarted x (refuses_in o) o.views o.explains QUEUE_LAYOUT first)
         (by.configured ∙ sym (events_configure (take at all) (drop at all) events)) started;
     plays = record {
       reached = p.reached;

@@ -1,14 +1,14 @@
 -- A session that is played on: which events are added, and what is written. (This profile)
 use Rattle.std.specs.Prelude.{◌≡◌, ℕ, ◌<◌, ◌≤◌, List, [], ◌++◌, length, take, true, is_some, Option, Some, None, Result, Err}
 use Rattle.std.specs.Io.KnownBytes.{Appends}
-use Rattle.cb_meaning.specs.declared.layout.TheConstants.{LAYOUT_1}
+use Rattle.cb_meaning.specs.declared.layout.TheConstants.{QUEUE_LAYOUT}
 use Rattle.sched_core.specs.Starting.{IsStarted}
 use Rattle.sched_core.specs.Systems.{Machine}
 use Rattle.session_core.specs.Outcomes.{WritesOutcome}
 use Rattle.session_core.specs.Sessions.{Session, configuration_of, refuses_in, session_of}
 use Rattle.session_core.specs.Streams.{IsRead, SinkState, SourceState}
 use Rattle.session_core.specs.declared.TheConstants.{MOST_BYTES}
-use Rattle.session_core.specs.declared.Options.{Options}
+use Rattle.run_options.specs.declared.Options.{Options}
 use Rattle.session_core.specs.declared.SessionEnd.{SessionEnd}
 use Rattle.session_core.specs.declared.SessionFault.{SessionFault}
 use Rattle.session_core.specs.declared.SessionFault.TheVariants.{Memory}
@@ -26,7 +26,7 @@ use Rattle.play_core.specs.declared.text.Extended.TheVariants.{Cut, HasFault, Ou
 -- A session without a fault leads from a machine that it configures to one that takes the added events, one after another, until nothing moves.
 pub record IsPlayedOut (o : Options) (s : Session) (given : List Given) : Type 0 where
   pub first : Machine
-  pub started : IsStarted (configuration_of s.stands) (refuses_in o) o.views o.explains LAYOUT_1 first
+  pub started : IsStarted (configuration_of s.stands) (refuses_in o) o.views o.explains QUEUE_LAYOUT first
   pub plays : Plays first s.stands given
 
 -- To a session with a fault nothing is added.

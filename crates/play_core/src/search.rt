@@ -9,9 +9,10 @@ use crate::replaying::replay;
 use crate::rounds::play_rounds;
 use crate::waits::Waits;
 use cb_queue::list_store::ListStore;
+use run_options::Options;
 use sched_core::system::System;
+use session_core::SessionFault;
 use session_core::open::{Opened, open, start};
-use session_core::{Options, SessionFault};
 use session_text::statement::Statement;
 use std::alloc::{AllocError, Global};
 

@@ -2,4 +2,5 @@
 #![tactic(auto)]
 
 pub mod library;
+pub mod lines;
 pub mod reading;

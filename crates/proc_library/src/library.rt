@@ -4,12 +4,11 @@ ghost use Rattle.std.specs.Option.{option_copied};
 ghost use Rattle.card_core.specs.Deck.{statements_of};
 ghost use Rattle.proc_library.specs.Libraries.{has_procedure, in_library, reading_in};
 
+use crate::lines::Lines;
 use crate::reading::{Reading, reading_of};
 use jname_core::name8::Name8;
 use name_places::places::NamePlaces;
 use plain::lent::Lent;
-use plain::listed::Listed;
-use plain::text::Text;
 use std::alloc::{AllocError, Global};
 use std::marker::Model;
 
@@ -17,7 +16,7 @@ use std::marker::Model;
 #[derive(Drop)]
 pub struct LibraryProcedure {
     pub name: Name8,
-    pub lines: Listed<Text>,
+    pub lines: Lines,
 }
 
 /// A procedure, and what its cards are.
@@ -27,24 +26,13 @@ struct Entry {
     reading: Reading,
 }
 
-/// Lines that outlive those that lend them.
-fn copied(alloc: Global, lines: &[Lent<'_>]) -> Result<Listed<Text>, AllocError>
-    ensures { IfOk result (λ copies. copies ≡ lines.now) }
-{
-    let mut copies = Listed::empty(alloc);
-    for line in lines {
-        copies.push(Text::copy_of(alloc, line.as_slice())?)?;
-    }
-    Ok(copies)
-}
-
 /// Lines that outlive those that lend them, and what they are as cards.
-fn read_lines(alloc: Global, lines: &[Lent<'_>]) -> Result<(Listed<Text>, Reading), AllocError>
+fn read_lines(alloc: Global, lines: &[Lent<'_>]) -> Result<(Lines, Reading), AllocError>
     ensures lines { IfOk result (λ r. r.0 ≡ lines.now) }
     ensures reading { IfOk result (λ r. r.1 ≡ statements_of r.0) }
 {
     let reading = reading_of(alloc, lines)?;
-    Ok((copied(alloc, lines)?, reading))
+    Ok((Lines::copy_of(alloc, lines)?, reading))
 }
 
 /// The library in the order in which its procedures were added; one is found by its name without going through them all.

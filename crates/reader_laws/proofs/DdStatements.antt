@@ -12,10 +12,10 @@ use Rattle.operand_core.specs.Subparameters.{first_place, inside, subparameters_
 use Rattle.operand_core.specs.Values.{class_of, is_output_class}
 use Rattle.value_core.specs.Reads.{Read, answer, good}
 use Rattle.jcl_cards.specs.declared.coded.Coded.TheVariants.{Value}
-use Rattle.jcl_cards.specs.declared.dd.DdCard.{DdCard}
-use Rattle.jcl_cards.specs.declared.dd.Word.TheVariants.{Cards, Dummy}
-use Rattle.jcl_cards.specs.DdCards.{behind_period, card_of, dd_card, dd_name_faults, dd_with, excludes, has_two_words, keyword_faults, positional_faults, spelled as spelled_key, sysout}
-use Rattle.jcl_cards.specs.Keywords.{twice_faults}
+use Rattle.jcl_cards.specs.Keywords.{spelled as spelled_key, twice_faults}
+use Rattle.jcl_dds.specs.declared.dd.DdCard.{DdCard}
+use Rattle.jcl_dds.specs.declared.dd.Word.TheVariants.{Cards, Dummy}
+use Rattle.jcl_dds.specs.DdCards.{behind_period, card_of, dd_card, dd_name_faults, dd_with, excludes, has_two_words, keyword_faults, positional_faults, sysout}
 use Rattle.reader_laws.specs.Spelled.{is_among}
 use Rattle.reader_laws.specs.SpelledSessions.{class_characters}
 use Rattle.reader_laws.specs.SpelledStatements.{empty_dd, is_name_or_none, keyed, name_text, sysout_operand}

@@ -23,9 +23,9 @@ use Rattle.value_core.specs.Reads.{Read, answer, good, mapped}
 use Rattle.value_core.specs.SetNames.{before_parenthesis, begins_amount, behind_ampersands, behind_parenthesis, ends_in_parenthesis, has_parentheses, is_open, named_part, of_dd, plain, relative, set_name, temporary, within_parentheses, without_last}
 use Rattle.jcl_cards.specs.declared.coded.Coded.{Coded}
 use Rattle.jcl_cards.specs.declared.coded.Coded.TheVariants.{Value as Given}
-use Rattle.jcl_cards.specs.declared.dd.DdCard.{DdCard}
-use Rattle.jcl_cards.specs.DdCards.{dd_card}
 use Rattle.jcl_cards.specs.Keywords.{coded_text}
+use Rattle.jcl_dds.specs.declared.dd.DdCard.{DdCard}
+use Rattle.jcl_dds.specs.DdCards.{dd_card}
 use Rattle.reader_laws.specs.Spelled.{is_component, joined}
 use Rattle.reader_laws.specs.SpelledOperands.{Value, Values, are_values, is_plain, is_value, of_characters, spelled}
 use Rattle.reader_laws.specs.SpelledStatements.{IsSetName, conditional_text, empty_dd, is_name_or_none, keyed, name_text, only_status, set_operand, status_alone, status_text, three_words, word_text}

@@ -7,7 +7,7 @@ use Rattle.std.proofs.lemmas.List.Splits.{slice_split_at, slice_split_none}
 use Rattle.hex.specs.Hex.{IsBytes, encode_lower, encode_upper, encode_with, lower_digits, upper_digits}
 use Rattle.hex.specs.declared.error.FromHexError.{FromHexError}
 use Rattle.hex.proofs.HexLemmas.{decode_of-encode_lower, decode_of-encode_upper}
-use Rattle.cb_meaning.specs.declared.layout.TheConstants.{LAYOUT_1, RECORD_BYTES}
+use Rattle.cb_meaning.specs.declared.layout.TheConstants.{QUEUE_LAYOUT, RECORD_BYTES}
 use Rattle.session_input.specs.declared.event.Event.TheVariants as event
 use Rattle.session_input.specs.declared.event.TheConstants.{FIRST_OPEN}
 use Rattle.jname_core.specs.Characters.{is_digit}
@@ -84,7 +84,7 @@ zap_good form n offset bytes h k =
     parts_good (number form n) (number form offset) (hex_digits form bytes) (number_good form n h) digits.0
     (digits_pass is_good form bytes refl refl refl)
 
-pub zap_read : (form : Form) (n offset : ℕ) (bytes : List ℕ) → 1 ≤ n → n ≤ LAYOUT_1.most_records → FIRST_OPEN ≤ offset → offset ≤ RECORD_BYTES - 1 →
+pub zap_read : (form : Form) (n offset : ℕ) (bytes : List ℕ) → 1 ≤ n → n ≤ QUEUE_LAYOUT.most_records → FIRST_OPEN ≤ offset → offset ≤ RECORD_BYTES - 1 →
     list_all is_byte bytes ≡ true → stays_within offset (length bytes) ≡ true →
     zap_by (slice_split (λ c. c == 44) (join_with_byte 44 (zap_parts form n offset bytes))) ≡ says.Events (event.Zap n offset bytes) 1
 zap_read form n offset bytes low high first last are stays =
@@ -94,7 +94,7 @@ zap_read form n offset bytes low high first last are stays =
     ap zap_by (parts_listed (number form n) (number form offset) digits (number_no_comma form n (omega arith))
     (number_no_comma form offset (omega arith)) (digits_pass is_no_comma form bytes refl refl refl))
     ∙ ap (λ (m : Option ℕ). zap_with m (number_within FIRST_OPEN (RECORD_BYTES - 1) (number form offset)) (bytes_in digits))
-    (within_is form.zeros 1 LAYOUT_1.most_records n (omega arith) low high)
+    (within_is form.zeros 1 QUEUE_LAYOUT.most_records n (omega arith) low high)
     ∙ ap (λ (m : Option ℕ). zap_with (Some n) m (bytes_in digits)) (within_is form.zeros FIRST_OPEN (RECORD_BYTES - 1) offset (omega arith) first last)
     ∙ ap (λ (found : Option (List ℕ)). zap_with (Some n) (Some offset) found) (digits_read form bytes are)
     ∙ ap (λ (b : Bool). cond b (says.Events (event.Zap n offset bytes) 1) bad) stays

@@ -2,7 +2,7 @@
 use Rattle.std.specs.Prelude.{◌≡◌, ◌≤◌, ◌+◌, ◌-◌, ℕ, ◌==◌, nat_lt, Bool, true, false, ◌&&◌, List, [], ◌∷◌, ◌++◌, map, length, codes, if◌then◌else◌}
 use Rattle.std.specs.List.{flat_map, join_with_byte, list_all}
 use Rattle.hex.specs.Hex.{encode_lower, encode_upper}
-use Rattle.cb_meaning.specs.declared.layout.TheConstants.{LAYOUT_1, RECORD_BYTES}
+use Rattle.cb_meaning.specs.declared.layout.TheConstants.{QUEUE_LAYOUT, RECORD_BYTES}
 use Rattle.session_input.specs.declared.event.TheConstants.{FIRST_OPEN}
 use Rattle.session_input.specs.declared.event.Event.TheVariants as event
 use Rattle.session_input.specs.declared.statement.ConfigStatement.{ConfigStatement}
@@ -126,7 +126,7 @@ IsSaid (says.Events (event.Write class) n) = (is_among class_characters class �
 IsSaid (says.Events (event.DeviceEnd serial) n) = (is_serial serial ≡ true) × (n ≡ 1)
 IsSaid (says.Events (event.Cancel job) n) = (1 ≤ job) × (job ≤ 9999) × (n ≡ 1)
 IsSaid (says.Events (event.Zap n offset bytes) m) =
-    (1 ≤ n) × (n ≤ LAYOUT_1.most_records) × (FIRST_OPEN ≤ offset) × (offset ≤ RECORD_BYTES - 1) × (list_all is_byte bytes ≡ true)
+    (1 ≤ n) × (n ≤ QUEUE_LAYOUT.most_records) × (FIRST_OPEN ≤ offset) × (offset ≤ RECORD_BYTES - 1) × (list_all is_byte bytes ≡ true)
     × (stays_within offset (length bytes) ≡ true) × (m ≡ 1)
 IsSaid (says.Events event.Display n) = n ≡ 1
 IsSaid (says.Refused fault) = ⊥

@@ -12,10 +12,10 @@ use Rattle.jcl_plan.specs.declared.plan.Word.{Word}
 use Rattle.jcl_plan.specs.declared.plan.Word.TheVariants as word
 use Rattle.value_core.specs.declared.set.Disposition.{Disposition}
 use Rattle.jcl_cards.specs.declared.coded.Coded.TheVariants.{NotGiven}
-use Rattle.jcl_cards.specs.declared.dd.DdCard.{DdCard}
 use Rattle.jcl_cards.specs.declared.exec.ExecCard.{ExecCard}
 use Rattle.jcl_cards.specs.declared.exec.Runs.{Runs}
 use Rattle.jcl_cards.specs.declared.job.JobCard.{JobCard}
+use Rattle.jcl_dds.specs.declared.dd.DdCard.{DdCard}
 use Rattle.reader_laws.specs.Spelled.{is_among, is_component, is_name, joined, number_with_zeros}
 use Rattle.reader_laws.specs.SpelledOperands.{Keyed, Value, Values, is_positional, of_characters, operand_text}
 use Rattle.reader_laws.specs.SpelledSessions.{class_characters}

@@ -4,6 +4,7 @@ use Rattle.std.specs.List.{join_with_byte, list_all}
 use Rattle.extent_core.specs.declared.extent.Extent.{Extent}
 use Rattle.jcl_meaning.specs.declared.program.Request.{Request}
 use Rattle.jcl_meaning.specs.declared.program.Request.TheVariants.{Get, Put, End, Abend}
+use Rattle.jcl_plan.specs.declared.plan.TheConstants.{MOST_TRACKS}
 use Rattle.jname_core.specs.Generations.{is_bad_generation}
 use Rattle.reader_laws.specs.Spelled.{is_component, is_name, joined}
 use Rattle.reader_laws.specs.SpelledForms.{Form, number, spaced}
@@ -30,7 +31,7 @@ request_line form (Abend code) = codes "ABEND" ++ spaced form (number form code 
 
 -- what can be spelled: tracks 0 to 3999
 abbrev pub is_extent : Extent → Bool
-is_extent e = nat_lt 0 e.tracks && nat_le (e.start + e.tracks) 4000
+is_extent e = nat_lt 0 e.tracks && nat_le (e.start + e.tracks) MOST_TRACKS
 
 -- a record: 80 bytes, each 20 to 7E, hexadecimal
 abbrev pub is_printable : ℕ → Bool

@@ -5,11 +5,11 @@ use Rattle.jcl_plan.specs.declared.plan.Status.{Status}
 use Rattle.value_core.specs.declared.set.Disposition.{Disposition}
 use Rattle.value_core.specs.declared.set.SetName.TheVariants.{Of}
 use Rattle.jcl_cards.specs.declared.coded.Coded.TheVariants.{Value}
-use Rattle.jcl_cards.specs.declared.dd.Word.TheVariants.{Cards, Dummy}
 use Rattle.jcl_cards.specs.declared.exec.Runs.TheVariants.{Procedure, Program}
-use Rattle.jcl_cards.specs.DdCards.{dd_card}
 use Rattle.jcl_cards.specs.ExecCards.{exec_card}
 use Rattle.jcl_cards.specs.JobCards.{job_card}
+use Rattle.jcl_dds.specs.declared.dd.Word.TheVariants.{Cards, Dummy}
+use Rattle.jcl_dds.specs.DdCards.{dd_card}
 use Rattle.value_core.specs.Reads.{answer}
 use Rattle.reader_laws.specs.Spelled.{is_among, is_name, joined}
 use Rattle.reader_laws.specs.SpelledSessions.{class_characters}

@@ -50,9 +50,9 @@ use Rattle.sched_core.proofs.Apart.{all_differ}
 abbrev pub idle_seat : ConfiguredInitiator → Initiator
 idle_seat x = record { number = x.number; classes = x.classes; running = None }
 
-idle_shown : (c : world.Config) (xs : List ConfiguredInitiator) → map (shown_initiator c) (map idle_seat xs) ≡ map idle xs
-idle_shown c [] = refl
-idle_shown c (x ∷ xs) = ap (λ ys. idle x ∷ ys) (idle_shown c xs)
+idle_shown : (c : world.Config) (queue : RecordQueue) (xs : List ConfiguredInitiator) → map (shown_initiator c queue) (map idle_seat xs) ≡ map idle xs
+idle_shown c queue [] = refl
+idle_shown c queue (x ∷ xs) = ap (λ ys. idle x ∷ ys) (idle_shown c queue xs)
 
 nobody_there : (xs : List ConfiguredInitiator) (place : ℕ) (r : Running) → RunsIn (map idle_seat xs) place r → ⊥
 nobody_there xs place r h = none xs place h.it h.at (λ e. let no : Some r ≡ None = sym h.running ∙ e in absurd cc)
@@ -112,10 +112,10 @@ module _ {Q : Type 0} (queue_of : Q → RecordQueue) (store : SharedStore) (q : 
       date = FIRST_DAY;
     })
 
-    seats_at : map (shown_initiator (config_in queue_of p s)) s.initiators.items ≡ map idle c.initiators
+    seats_at : map (shown_initiator (config_in queue_of p s) (queue_of s.parts.queue)) s.initiators.items ≡ map idle c.initiators
     seats_at =
-        ap (map (shown_initiator (config_in queue_of p s))) seats
-        ∙ idle_shown (config_in queue_of p s) fixed.initiators
+        ap (map (shown_initiator (config_in queue_of p s) (queue_of s.parts.queue))) seats
+        ∙ idle_shown (config_in queue_of p s) (queue_of s.parts.queue) fixed.initiators
         ∙ ap (map idle) t.initiators
 
     pub world_at : IsConfigured c → world_in queue_of (config_in queue_of p s) s ≡ start_of c p.refuses p.most_views p.explains l FIRST_DAY

@@ -4,7 +4,6 @@ use Rattle.std.specs.Prelude.{slice_get, slice_set}
 use Rattle.std.specs.List.{Contains, list_any}
 use Rattle.std.specs.Option.{option_map}
 use Rattle.std.proofs.lemmas.Bool.{cases_eq, eqb-false}
-use Rattle.std.proofs.lemmas.List.{map-set}
 use Rattle.std.proofs.lemmas.List.Elements.{All-contains, All-head, All-map, All-tail, All-weaker}
 use Rattle.enq_core.specs.declared.table.Hold.{Hold}
 use Rattle.enq_core.specs.Holds.{HoldsNone, without_job}
@@ -50,7 +49,7 @@ use Rattle.sched_core.specs.declared.fault.ApplyFault.TheVariants.{Refused}
 use Rattle.sched_core.specs.declared.state.Initiator.{Initiator}
 use Rattle.sched_core.specs.declared.state.State.{State}
 use Rattle.sched_core.proofs.Turning.{ready_still}
-use Rattle.sched_core.proofs.Seats.{RanIn, elsewhere, here, one_job, ran_cases, shown_at}
+use Rattle.sched_core.proofs.Seats.{RanIn, elsewhere, here, one_job, ran_cases, shown_alike, shown_at, shown_set}
 use Rattle.sched_core.proofs.Unchanged.{good_with, none_same, ran_there, ready_same, same_names, shown_with}
 use Rattle.sched_core.proofs.Waits.{from_backlog, none_waiting}
 
@@ -98,16 +97,16 @@ module _ {Q : Type 0} (queue_of : Q → RecordQueue) (c : Config) (s : State Q) 
   abbrev w : World
   w = world_in queue_of c s
 
-  runs_not : (o : Option Running) → has_job o job ≡ false → RunsNot (option_map (shown_running c) o) job
+  runs_not : (o : Option Running) → has_job o job ≡ false → RunsNot (option_map (shown_running c (queue_of s.parts.queue)) o) job
   runs_not None is = tt
   runs_not (Some r) is = eqb-false r.job job is
 
   pub no_job : list_any (λ l. l.job == job) s.backlog ≡ false → All (λ x. has_job x.running job ≡ false) s.initiators.items → IsNoJob w job
   no_job none idle = record {
     waits_not = from_backlog (queue_of s.parts.queue).waiting s.backlog kept.fit.listed (λ n. n ≢ job) (none_waiting s.backlog job none);
-    runs_not = All-map (λ (y : world.Initiator). RunsNot y.running job) (shown_initiator c) s.initiators.items
-        (All-weaker (λ (x : Initiator). has_job x.running job ≡ false) (λ (x : Initiator). RunsNot (option_map (shown_running c) x.running) job)
-        (λ x is. runs_not x.running is) s.initiators.items idle);
+    runs_not = All-map (λ (y : world.Initiator). RunsNot y.running job) (shown_initiator c (queue_of s.parts.queue)) s.initiators.items
+        (All-weaker (λ (x : Initiator). has_job x.running job ≡ false)
+        (λ (x : Initiator). RunsNot (option_map (shown_running c (queue_of s.parts.queue)) x.running) job) (λ x is. runs_not x.running is) s.initiators.items idle);
   }
 
   pub some_waiting : (v : Waiting) → Contains w.waiting v → v.job ≡ job → IsNoJob w job → ⊥
@@ -115,9 +114,9 @@ module _ {Q : Type 0} (queue_of : Q → RecordQueue) (c : Config) (s : State Q) 
 
   pub some_running : (place : ℕ) (r : Running) → RunsIn s.initiators.items place r → r.job ≡ job → IsNoJob w job → ⊥
   some_running place r h is none =
-      subst (λ o. RunsNot (option_map (shown_running c) o) job) h.running
-      (all_at (λ (y : world.Initiator). RunsNot y.running job) w.initiators place (shown_initiator c h.it) none.runs_not
-      (shown_at c s.initiators.items place h.it h.at)) is
+      subst (λ o. RunsNot (option_map (shown_running c (queue_of s.parts.queue)) o) job) h.running
+      (all_at (λ (y : world.Initiator). RunsNot y.running job) w.initiators place (shown_initiator c (queue_of s.parts.queue) h.it) none.runs_not
+      (shown_at c (queue_of s.parts.queue) s.initiators.items place h.it h.at)) is
 
   module _ (new : State Q) (lines : List Entry) (jobs : new.jobs ≡ s.jobs) (events : new.events ≡ s.events) where
     -- a job that waits
@@ -154,7 +153,7 @@ module _ {Q : Type 0} (queue_of : Q → RecordQueue) (c : Config) (s : State Q) 
         rest = λ i. record {
           config = c;
           shared = shown queue_of new.parts;
-          initiators = map (shown_initiator c) (after i);
+          initiators = map (shown_alike c (queue_of new.parts.queue) (queue_of s.parts.queue) i) (after i);
           waiting = waiting_now i;
           jobs = jobs i;
           events = events i;
@@ -182,8 +181,17 @@ module _ {Q : Type 0} (queue_of : Q → RecordQueue) (c : Config) (s : State Q) 
       runs_it : it.running ≡ Some r
       runs_it = ap (λ (x : Initiator). x.running) (one_there s.initiators.items place place it its.it refl at its.at) ∙ its.running
 
-      shown_runs : option_map (shown_running c) it.running ≡ Some (shown_running c r)
-      shown_runs = ap (option_map (shown_running c)) runs_it
+      abbrev shown_it : world.Initiator
+      shown_it = shown_initiator c (queue_of s.parts.queue) it
+
+      abbrev shown_r : world.Running
+      shown_r = shown_running c (queue_of s.parts.queue) r
+
+      it_at : slice_get w.initiators place ≡ Some shown_it
+      it_at = shown_at c (queue_of s.parts.queue) s.initiators.items place it at
+
+      shown_runs : shown_it.running ≡ Some shown_r
+      shown_runs = ap (option_map (shown_running c (queue_of s.parts.queue))) runs_it
 
       stage_is : (b : Bool) → has_admitted it.running ≡ b → table.is_admitted (shown_stage c r.walk r.stage) ≡ b
       stage_is b h = same_stage c r.walk r.stage ∙ (sym (ap has_admitted runs_it) ∙ h)
@@ -197,19 +205,24 @@ module _ {Q : Type 0} (queue_of : Q → RecordQueue) (c : Config) (s : State Q) 
         emptied : new.initiators.items ≡ slice_set s.initiators.items place (record it { running = None })
         emptied = after ∙ ap (slice_set s.initiators.items place) empty
 
+        emptied_shown : map (shown_initiator c (queue_of new.parts.queue)) new.initiators.items ≡ with_running w.initiators place shown_it None
+        emptied_shown =
+            ap (map (shown_initiator c (queue_of new.parts.queue))) emptied
+            ∙ shown_set c (queue_of s.parts.queue) (queue_of new.parts.queue) s.initiators.items place (record it { running = None })
+
         leads_selected : LeadsTo (CancelsJob w job lines) (world_in queue_of c new)
         leads_selected = record {
           middle = record w {
-            initiators = with_running w.initiators place (shown_initiator c it) None;
+            initiators = with_running w.initiators place shown_it None;
             shared = released c w.shared job (shown queue_of new.parts).free;
           };
-          does_so = table.selected place (shown_initiator c it) (shown_running c r) (shown queue_of new.parts).free (shown_at c s.initiators.items place it at) shown_runs is
+          does_so = table.selected place shown_it shown_r (shown queue_of new.parts).free it_at shown_runs is
               (stage_is false not_yet) told refl gone_there.conserves;
           reopened = gone_there.reopened;
           rest = λ i. record {
             config = c;
             shared = shown queue_of new.parts;
-            initiators = (ap (map (shown_initiator c)) emptied ∙ map-set (shown_initiator c) s.initiators.items place (record it { running = None })) i;
+            initiators = emptied_shown i;
             waiting = waiting_in (gives.back.records.waiting i) (backlog i);
             jobs = jobs i;
             events = events i;
@@ -273,7 +286,7 @@ module _ {Q : Type 0} (queue_of : Q → RecordQueue) (c : Config) (s : State Q) 
         now_is = λ i. record {
           config = c;
           shared = shared_now i;
-          initiators = map (shown_initiator c) (as_were i);
+          initiators = map (shown_initiator c (queue_of (parts i).queue)) (as_were i);
           waiting = waiting_in (ap (λ (p : Parts Q). (queue_of p.queue).waiting) parts i) (backlog i);
           jobs = jobs i;
           events = events i;
@@ -282,7 +295,7 @@ module _ {Q : Type 0} (queue_of : Q → RecordQueue) (c : Config) (s : State Q) 
         leads_admitted : LeadsTo (CancelsJob w job lines) (world_in queue_of c new)
         leads_admitted = record {
           middle = world_in queue_of c new;
-          does_so = table.admitted place (shown_initiator c it) (shown_running c r) (shown_at c s.initiators.items place it at) shown_runs is
+          does_so = table.admitted place shown_it shown_r it_at shown_runs is
               (stage_is true already) told now_is;
           reopened = unopened c.layout (shown queue_of new.parts);
           rest = refl;

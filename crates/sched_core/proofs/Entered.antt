@@ -32,11 +32,12 @@ use Rattle.queued_job.proofs.Listings.{number_of}
 use Rattle.machine_core.specs.Shown.{shown}
 use Rattle.sched_core.specs.Events.{Answers, LeadsTo, RefusesFirst}
 use Rattle.sched_core.specs.Fits.{IsFit, IsKept}
-use Rattle.sched_core.specs.Machines.{shown_initiator, world_in}
+use Rattle.sched_core.specs.Machines.{world_in}
 use Rattle.sched_core.specs.Reading.{ReadsPlan, TakesIn, enters, is_full, listing_of}
 use Rattle.sched_core.specs.declared.fault.ApplyFault.{ApplyFault}
 use Rattle.sched_core.specs.declared.fault.ApplyFault.TheVariants.{Memory, Refused}
 use Rattle.sched_core.specs.declared.state.State.{State}
+use Rattle.sched_core.proofs.Seats.{shown_alike}
 use Rattle.sched_core.proofs.Unchanged.{good_with, none_same, ready_same, same_fit, same_names, same_world}
 use Rattle.sched_core.proofs.Waits.{in_backlog, in_queue}
 
@@ -139,7 +140,7 @@ module _ {Q : Type 0} (queue_of : Q → RecordQueue) (c : Config) (s : State Q) 
       then_is = λ i. record {
         config = c;
         shared = shared_now i;
-        initiators = map (shown_initiator c) (sym after i);
+        initiators = map (shown_alike c (queue_of s.parts.queue) (queue_of new.parts.queue) i) (sym after i);
         waiting = waiting_now i;
         jobs = sym jobs i;
         events = sym events i;

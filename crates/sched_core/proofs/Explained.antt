@@ -77,5 +77,5 @@ pub few_paths : ExplanationIsFew → {Q : Type 0} (queue_of : Q → RecordQueue)
     (came : Progress) → Went queue_of (config_of p l) old r new came → length (path_told came) ≤ most_explained p r
 few_paths few queue_of p l old r new came went =
     subst (λ (path : List JobLine). length path ≤ most_explained p r) (sym went.explained)
-    (by_stage few p l (shown queue_of old) (shown_running (config_of p l) r) (lines_told came) went.middle
-    (option_map (shown_running (config_of p l)) (runs_after came)) r.walk r.stage went.goes)
+    (by_stage few p l (shown queue_of old) (shown_running (config_of p l) (queue_of old.queue) r) (lines_told came) went.middle
+    (option_map (shown_running (config_of p l) (queue_of new.queue)) (runs_after came)) r.walk r.stage went.goes)

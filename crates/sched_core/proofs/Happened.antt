@@ -65,11 +65,11 @@ same_place (m ∷ ns) zero (suc k) n d e f = let is : m ≡ n = cc in absurd (no
 same_place (m ∷ ns) (suc j) zero n d e f = let is : m ≡ n = cc in absurd (no_other ns m j d.0 (e ∙ ap Some (sym is)))
 same_place (m ∷ ns) (suc j) (suc k) n d e f = ap suc (same_place ns j k n d.1 e f)
 
-number_at : (c : Config) (xs : List Initiator) (k : ℕ) (x : Initiator) → slice_get xs k ≡ Some x →
-    slice_get (map (λ (y : world.Initiator). y.number) (map (shown_initiator c) xs)) k ≡ Some x.number
-number_at c [] k x e = absurd cc
-number_at c (y ∷ xs) zero x e = let is : y ≡ x = cc in ap (λ (z : Initiator). Some z.number) is
-number_at c (y ∷ xs) (suc k) x e = number_at c xs k x e
+number_at : (c : Config) (queue : RecordQueue) (xs : List Initiator) (k : ℕ) (x : Initiator) → slice_get xs k ≡ Some x →
+    slice_get (map (λ (y : world.Initiator). y.number) (map (shown_initiator c queue) xs)) k ≡ Some x.number
+number_at c queue [] k x e = absurd cc
+number_at c queue (y ∷ xs) zero x e = let is : y ≡ x = cc in ap (λ (z : Initiator). Some z.number) is
+number_at c queue (y ∷ xs) (suc k) x e = number_at c queue xs k x e
 
 seats_apart : (number place : ℕ) (xs : List Initiator) (x : Initiator) → slice_get xs place ≡ Some x → x.number ≡ number → All (λ (y : Initiator). y.number ≢ number) xs → ⊥
 seats_apart number place [] x at is all = absurd cc
@@ -82,7 +82,7 @@ module _ {Q : Type 0} (queue_of : Q → RecordQueue) (c : Config) (s : State Q) 
   w = world_in queue_of c s
 
   pub nobody : All (λ (x : Initiator). x.number ≢ number) s.initiators.items → HasNoInitiator w number
-  nobody all = All-map (λ (x : world.Initiator). x.number ≢ number) (shown_initiator c) s.initiators.items all
+  nobody all = All-map (λ (x : world.Initiator). x.number ≢ number) (shown_initiator c (queue_of s.parts.queue)) s.initiators.items all
 
   pub refused : All (λ (x : Initiator). x.number ≢ number) s.initiators.items → TurnsSo s.parts.store w number (entry.Refused (A NoSuchInitiator) ∷ []) w
   refused all = (unknown (nobody all) refl refl, tt)
@@ -95,10 +95,16 @@ module _ {Q : Type 0} (queue_of : Q → RecordQueue) (c : Config) (s : State Q) 
   refused_first result is cause new (acts place x at numbered does) = absurd (never_acts w new place x x.running cause does)
 
   module _ (place : ℕ) (seat : IsSeat s.initiators.items number place) where
+    abbrev shown_seat : world.Initiator
+    shown_seat = shown_initiator c (queue_of s.parts.queue) seat.it
+
+    seat_at : slice_get w.initiators place ≡ Some shown_seat
+    seat_at = shown_at c (queue_of s.parts.queue) s.initiators.items place seat.it seat.at
+
     pub turned : (lines : List Entry) (new : World) → LeadsTo (ActsAt s.parts.store w place lines) new → LeadsTo (TurnsSo s.parts.store w number lines) new
-    turned lines new l = let does = l.does_so (shown_initiator c seat.it) (shown_at c s.initiators.items place seat.it seat.at) in record {
+    turned lines new l = let does = l.does_so shown_seat seat_at in record {
       middle = l.middle;
-      does_so = (acts place (shown_initiator c seat.it) (shown_at c s.initiators.items place seat.it seat.at) seat.numbered does.0, does.1);
+      does_so = (acts place shown_seat seat_at seat.numbered does.0, does.1);
       reopened = l.reopened;
       rest = l.rest;
     }
@@ -107,13 +113,15 @@ module _ {Q : Type 0} (queue_of : Q → RecordQueue) (c : Config) (s : State Q) 
     there none = no_number s.initiators.items place seat.it seat.at seat.numbered none
       where
         no_number : (xs : List Initiator) (k : ℕ) (x : Initiator) → slice_get xs k ≡ Some x → x.number ≡ number →
-            All (λ (y : world.Initiator). y.number ≢ number) (map (shown_initiator c) xs) → ⊥
+            All (λ (y : world.Initiator). y.number ≢ number) (map (shown_initiator c (queue_of s.parts.queue)) xs) → ⊥
         no_number [] k x at is all = absurd cc
         no_number (y ∷ xs) zero x at is all =
             let same : y ≡ x = cc in
-            All-head (λ (z : world.Initiator). z.number ≢ number) (shown_initiator c y) (map (shown_initiator c) xs) all (ap (λ (z : Initiator). z.number) same ∙ is)
+            All-head (λ (z : world.Initiator). z.number ≢ number) (shown_initiator c (queue_of s.parts.queue) y) (map (shown_initiator c (queue_of s.parts.queue)) xs) all
+            (ap (λ (z : Initiator). z.number) same ∙ is)
         no_number (y ∷ xs) (suc k) x at is all =
-            no_number xs k x at is (All-tail (λ (z : world.Initiator). z.number ≢ number) (shown_initiator c y) (map (shown_initiator c) xs) all)
+            no_number xs k x at is
+            (All-tail (λ (z : world.Initiator). z.number ≢ number) (shown_initiator c (queue_of s.parts.queue) y) (map (shown_initiator c (queue_of s.parts.queue)) xs) all)
 
     pub never_refused : (result : Result (List Entry) ApplyFault) → RefusesFirst result (Turns w number)
     never_refused result cause new (unknown none told same) = absurd (there none)
@@ -130,9 +138,10 @@ module _ {Q : Type 0} (queue_of : Q → RecordQueue) (c : Config) (s : State Q) 
     acts_so idle lines new l = record {
       middle = l.middle;
       does_so = λ x at. subst (λ (y : world.Initiator). ActsSo s.parts.store w place y y.running lines l.middle)
-          (one_there w.initiators place place (shown_initiator c seat.it) x refl (shown_at c s.initiators.items place seat.it seat.at) at)
-          (subst (λ o. ActsSo s.parts.store w place (shown_initiator c seat.it) o lines l.middle) (sym (ap (option_map (shown_running c)) idle))
-          (l.does_so (shown_initiator c seat.it) (shown_at c s.initiators.items place seat.it seat.at), tt));
+          (one_there w.initiators place place shown_seat x refl seat_at at)
+          (subst (λ o. ActsSo s.parts.store w place shown_seat o lines l.middle)
+          (sym (ap (option_map (shown_running c (queue_of s.parts.queue))) idle))
+          (l.does_so shown_seat seat_at, tt));
       reopened = l.reopened;
       rest = l.rest;
     }

@@ -9,6 +9,7 @@ use Rattle.case_laws.proofs.KeptAlone.{none_before}
 use Rattle.law_core.specs.Soundness.{RunsAt, plan_read}
 use Rattle.law_core.proofs.Reading.{plan_formed}
 use Rattle.world_laws.specs.Beside.{FitsAt, RunsFit}
+use Rattle.world_meaning.specs.Worlds as world
 use Rattle.world_meaning.specs.Worlds.{Config, Kept, World}
 use Rattle.mount_core.specs.declared.place.KeptPlace.{KeptPlace}
 use Rattle.mount_core.specs.Mounts.{MountedState}
@@ -48,23 +49,26 @@ module _ {Q : Type 0} (queue_of : Q → RecordQueue) (c : Config) (s : State Q) 
   abbrev w : World
   w = world_in queue_of c s
 
-  runs : RunsAt w place (shown_running c r)
+  abbrev shown_r : world.Running
+  shown_r = shown_running c (queue_of s.parts.queue) r
+
+  runs : RunsAt w place shown_r
   runs = runs_at queue_of c s place r its
 
   nothing_kept : is_assured_at (shown_stage c r.walk r.stage) ≡ false → NothingKeptFor r.job s.parts.store
   nothing_kept unassured serial at same =
-      none_for r.job (mounted_in s.parts.store.volumes serial) at same (none_before w kept.sound kept.supplied.kept place (shown_running c r) runs unassured serial)
+      none_for r.job (mounted_in s.parts.store.volumes serial) at same (none_before w kept.sound kept.supplied.kept place shown_r runs unassured serial)
 
   for_admission : (named : NamedJob) → r.stage ≡ Named named → IsForAdmission s.parts r.job named.plan
   for_admission named is = record {
     nothing = nothing_kept (ap (λ (x : Stage). is_assured_at (shown_stage c r.walk x)) is);
     formed = plan_formed c.layout.most_steps _ named.plan
-        (kept.sound.denoted place (shown_running c r) named.plan runs (ap (λ (x : Stage). plan_read (shown_stage c r.walk x)) is)).denoted.in_range;
+        (kept.sound.denoted place shown_r named.plan runs (ap (λ (x : Stage). plan_read (shown_stage c r.walk x)) is)).denoted.in_range;
     groups = kept.sound.groups r.job;
   }
 
   can_go_on : (stage : Stage) → r.stage ≡ stage → CanGoOn c w.shared r.job (shown_stage c r.walk stage)
-  can_go_on stage is = subst (λ (x : Stage). CanGoOn c w.shared r.job (shown_stage c r.walk x)) is (kept.supplied.running place (shown_running c r) runs)
+  can_go_on stage is = subst (λ (x : Stage). CanGoOn c w.shared r.job (shown_stage c r.walk x)) is (kept.supplied.running place shown_r runs)
 
   its_fit : (stage : Stage) → r.stage ≡ stage → FitsAt c (shown_stage c r.walk stage)
   its_fit stage is =

@@ -62,5 +62,6 @@ by_stage c walk (stage.Admitted a) s r q from lines new runs once g =
 pub no_risk : {Q : Type 0} (queue_of : Q → RecordQueue) (c : Config) (old : Parts Q) (r : Running) (new : Parts Q) (q : Running) (from : ℕ) →
     Went queue_of c old r new (progress.GoesOn q from) → All (λ l. unless_risk l ≡ Some l) (drop from q.walk.course.lines)
 no_risk queue_of c old r new q from w =
-    copied_lines (drop from q.walk.course.lines) (by_stage c r.walk r.stage (shown queue_of old) (shown_running c r) q from (drop from q.walk.course.lines) w.middle
-    (Some (shown_running c q)) w.once w.goes)
+    copied_lines (drop from q.walk.course.lines)
+    (by_stage c r.walk r.stage (shown queue_of old) (shown_running c (queue_of old.queue) r) q from (drop from q.walk.course.lines) w.middle
+    (Some (shown_running c (queue_of new.queue) q)) w.once w.goes)

@@ -3,6 +3,7 @@ use Rattle.std.proofs.Common.{◌≡◌, ◌⊎◌, inl, inr, ℕ, List, map, Op
 use Rattle.std.specs.Prelude.{slice_set}
 use Rattle.std.specs.Option.{option_map}
 use Rattle.std.proofs.lemmas.Bool.{cases_eq}
+use Rattle.std.proofs.lemmas.List.{map-set}
 use Rattle.std.proofs.lemmas.Option.{slice_get-map}
 use Rattle.cb_queue.specs.RecordQueues.{RecordQueue}
 use Rattle.law_core.specs.Soundness.{RunsAt}
@@ -20,26 +21,39 @@ pub unmapped : {A B : Type 0} (f : A → B) (o : Option A) (y : B) → option_ma
 unmapped f None y e = absurd cc
 unmapped f (Some x) y e = (x, refl, cc)
 
-pub shown_at : (c : Config) (xs : List Initiator) (place : ℕ) (x : Initiator) → slice_get xs place ≡ Some x →
-    slice_get (map (shown_initiator c) xs) place ≡ Some (shown_initiator c x)
-shown_at c xs place x e = slice_get-map (shown_initiator c) xs place ∙ ap (option_map (shown_initiator c)) e
+-- what is shown of an initiator does not depend on the records of the queue
+pub shown_alike : (c : Config) (a b : RecordQueue) → shown_initiator c a ≡ shown_initiator c b
+shown_alike c a b = refl
 
-pub shown_back : (c : Config) (xs : List Initiator) (place : ℕ) (y : world.Initiator) → slice_get (map (shown_initiator c) xs) place ≡ Some y →
-    (x : Initiator) × (slice_get xs place ≡ Some x) × (y ≡ shown_initiator c x)
-shown_back c xs place y e = unmapped (shown_initiator c) (slice_get xs place) y (sym (slice_get-map (shown_initiator c) xs place) ∙ e)
+pub shown_at : (c : Config) (queue : RecordQueue) (xs : List Initiator) (place : ℕ) (x : Initiator) → slice_get xs place ≡ Some x →
+    slice_get (map (shown_initiator c queue) xs) place ≡ Some (shown_initiator c queue x)
+shown_at c queue xs place x e = slice_get-map (shown_initiator c queue) xs place ∙ ap (option_map (shown_initiator c queue)) e
+
+pub shown_back : (c : Config) (queue : RecordQueue) (xs : List Initiator) (place : ℕ) (y : world.Initiator) →
+    slice_get (map (shown_initiator c queue) xs) place ≡ Some y →
+    (x : Initiator) × (slice_get xs place ≡ Some x) × (y ≡ shown_initiator c queue x)
+shown_back c queue xs place y e = unmapped (shown_initiator c queue) (slice_get xs place) y (sym (slice_get-map (shown_initiator c queue) xs place) ∙ e)
+
+-- one initiator has changed, and the queue perhaps
+pub shown_set : (c : Config) (before after : RecordQueue) (xs : List Initiator) (place : ℕ) (x : Initiator) →
+    map (shown_initiator c after) (slice_set xs place x) ≡ slice_set (map (shown_initiator c before) xs) place (shown_initiator c after x)
+shown_set c before after xs place x =
+    map-set (shown_initiator c after) xs place x
+    ∙ ap (λ (f : Initiator → world.Initiator). slice_set (map f xs) place (shown_initiator c after x)) (shown_alike c after before)
 
 module _ {Q : Type 0} (queue_of : Q → RecordQueue) (c : Config) (s : State Q) (place : ℕ) where
-  pub runs_at : (r : Running) → RunsIn s.initiators.items place r → RunsAt (world_in queue_of c s) place (shown_running c r)
+  pub runs_at : (r : Running) → RunsIn s.initiators.items place r → RunsAt (world_in queue_of c s) place (shown_running c (queue_of s.parts.queue) r)
   runs_at r h = record {
-    it = shown_initiator c h.it;
-    at = shown_at c s.initiators.items place h.it h.at;
-    running = ap (option_map (shown_running c)) h.running;
+    it = shown_initiator c (queue_of s.parts.queue) h.it;
+    at = shown_at c (queue_of s.parts.queue) s.initiators.items place h.it h.at;
+    running = ap (option_map (shown_running c (queue_of s.parts.queue))) h.running;
   }
 
-  pub runs_back : (q : world.Running) → RunsAt (world_in queue_of c s) place q → (r : Running) × RunsIn s.initiators.items place r × (q ≡ shown_running c r)
+  pub runs_back : (q : world.Running) → RunsAt (world_in queue_of c s) place q →
+      (r : Running) × RunsIn s.initiators.items place r × (q ≡ shown_running c (queue_of s.parts.queue) r)
   runs_back q h =
-      let (x, at, is) = shown_back c s.initiators.items place h.it h.at in
-      let (r, running, shows) = unmapped (shown_running c) x.running q (ap (λ (y : world.Initiator). y.running) (sym is) ∙ h.running) in
+      let (x, at, is) = shown_back c (queue_of s.parts.queue) s.initiators.items place h.it h.at in
+      let (r, running, shows) = unmapped (shown_running c (queue_of s.parts.queue)) x.running q (ap (λ (y : world.Initiator). y.running) (sym is) ∙ h.running) in
       (r, record { it = x; at = at; running = running }, shows)
 
 -- what stands at a place once one place has changed

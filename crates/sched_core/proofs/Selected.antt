@@ -2,7 +2,6 @@
 use Rattle.std.proofs.Common.{◌≡◌, ◌≤◌, ◌⊎◌, inl, inr, ℕ, List, [], ◌∷◌, ◌++◌, map, Some, None, slice_get, refl, sym, ap, ◌∙◌, subst}
 use Rattle.std.specs.Prelude.{get_or, slice_set}
 use Rattle.std.specs.List.{Contains}
-use Rattle.std.proofs.lemmas.List.{map-set}
 use Rattle.std.proofs.lemmas.Bool.{cases_eq}
 use Rattle.std.proofs.lemmas.Option.{get_or_from_slice_get}
 use Rattle.enq_core.specs.declared.table.Hold.{Hold}
@@ -32,7 +31,7 @@ use Rattle.sched_core.specs.Machines.{RunsIn, shown_initiator, world_in}
 use Rattle.sched_core.specs.Selecting.{IsIdleAt, Seats, nobody, queue_without, seated, selected_as}
 use Rattle.sched_core.specs.declared.state.Initiator.{Initiator}
 use Rattle.sched_core.specs.declared.state.State.{State}
-use Rattle.sched_core.proofs.Seats.{RanIn, elsewhere, here, ran_cases, shown_at}
+use Rattle.sched_core.proofs.Seats.{RanIn, elsewhere, here, ran_cases, shown_at, shown_set}
 use Rattle.sched_core.proofs.Unchanged.{good_with, same_fit, same_names, same_world, shown_with}
 use Rattle.sched_core.proofs.Waits.{nameless, numbered}
 
@@ -61,14 +60,16 @@ module _ {Q : Type 0} (queue_of : Q → RecordQueue) (c : Config) (s : State Q) 
   w = world_in queue_of c s
 
   -- what the initiator at the place may do it does
-  at_place : (x : Initiator) → slice_get s.initiators.items place ≡ Some x → (then : World) → Selects w place (shown_initiator c x) lines then →
+  at_place : (x : Initiator) → slice_get s.initiators.items place ≡ Some x → (then : World) →
+      Selects w place (shown_initiator c (queue_of s.parts.queue) x) lines then →
       then ≡ world_in queue_of c new → LeadsTo (SelectsAt w place lines) (world_in queue_of c new)
   at_place x at then does is = record {
     middle = world_in queue_of c new;
     does_so = λ y there.
         subst (λ (z : world.Initiator). Selects w place z lines (world_in queue_of c new))
-        (one_there w.initiators place place (shown_initiator c x) y refl (shown_at c s.initiators.items place x at) there)
-        (subst (Selects w place (shown_initiator c x) lines) is does);
+        (one_there w.initiators place place (shown_initiator c (queue_of s.parts.queue) x) y refl
+        (shown_at c (queue_of s.parts.queue) s.initiators.items place x at) there)
+        (subst (Selects w place (shown_initiator c (queue_of s.parts.queue) x) lines) is does);
     reopened = unopened c.layout (world_in queue_of c new).shared;
     rest = refl;
   }
@@ -107,7 +108,7 @@ module _ {Q : Type 0} (queue_of : Q → RecordQueue) (c : Config) (s : State Q) 
           × (waiting_in (but_job q.job (queue_of s.parts.queue).waiting) (but_listing q.job s.backlog) ≡ without_waiting w.waiting q.job)
       left = others (queue_of s.parts.queue).waiting s.backlog q.job kept.fit.listed
 
-      taken : Some (taken_by x.number v) ≡ Some (shown_running c r)
+      taken : Some (taken_by x.number v) ≡ Some (shown_running c (queue_of new.parts.queue) r)
       taken = λ i. Some (record { job = same_job i; listing = same_lines i ++ line.Selected x.number ∷ []; stage = world.Selected (same_first i) })
 
       waiting_now : without_waiting w.waiting v.job ≡ waiting_in (queue_of new.parts.queue).waiting new.backlog
@@ -115,15 +116,17 @@ module _ {Q : Type 0} (queue_of : Q → RecordQueue) (c : Config) (s : State Q) 
           ap (without_waiting w.waiting) same_job
           ∙ (sym left.1 ∙ (λ i. waiting_in (sym queue_is i).waiting (sym backlog i)))
 
-      initiators_now : with_running w.initiators place (shown_initiator c x) (Some (taken_by x.number v)) ≡ map (shown_initiator c) new.initiators.items
+      initiators_now : with_running w.initiators place (shown_initiator c (queue_of s.parts.queue) x) (Some (taken_by x.number v))
+          ≡ map (shown_initiator c (queue_of new.parts.queue)) new.initiators.items
       initiators_now =
-          ap (with_running w.initiators place (shown_initiator c x)) taken
-          ∙ (sym (map-set (shown_initiator c) s.initiators.items place (record x { running = Some r })) ∙ ap (map (shown_initiator c)) (sym after))
+          ap (with_running w.initiators place (shown_initiator c (queue_of s.parts.queue) x)) taken
+          ∙ (sym (shown_set c (queue_of s.parts.queue) (queue_of new.parts.queue) s.initiators.items place (record x { running = Some r }))
+          ∙ ap (map (shown_initiator c (queue_of new.parts.queue))) (sym after))
 
       abbrev then : World
       then = record w {
         waiting = without_waiting w.waiting v.job;
-        initiators = with_running w.initiators place (shown_initiator c x) (Some (taken_by x.number v));
+        initiators = with_running w.initiators place (shown_initiator c (queue_of s.parts.queue) x) (Some (taken_by x.number v));
       }
 
       then_is : then ≡ world_in queue_of c new

@@ -70,7 +70,10 @@ module _ {Q : Type 0} (queue_of : Q → RecordQueue) (c : Config) (s : State Q) 
     middle = with_shared w (shown queue_of p);
     does_so = h;
     reopened = unopened c.layout (shown queue_of p);
-    rest = λ i. record (with_shared w (shown queue_of p)) { waiting = waiting_in (queue_of (same i)).waiting s.backlog };
+    rest = λ i. record (with_shared w (shown queue_of p)) {
+      initiators = map (shown_initiator c (queue_of (same i))) s.initiators.items;
+      waiting = waiting_in (queue_of (same i)).waiting s.backlog;
+    };
   }
 
   fit_units : (units : List Operation) → All (λ o. Contains c.volumes o.serial) units → IsFit queue_of c (with_parts (record s.parts { units = units }))
@@ -146,15 +149,16 @@ module _ {Q : Type 0} (queue_of : Q → RecordQueue) (c : Config) (s : State Q) 
 
   -- an initiator more
   one_more : (x : Initiator) (rest : List Initiator) (o : Option Running) (n : ℕ) → n ≡ length rest →
-      display.busy (option_map (shown_running c) o) + n ≡ length (cond (is_some o) (x ∷ rest) rest)
+      display.busy (option_map (shown_running c (queue_of s.parts.queue)) o) + n ≡ length (cond (is_some o) (x ∷ rest) rest)
   one_more x rest None n e = omega (arith, e)
   one_more x rest (Some r) n e = omega (arith, e)
 
   busy_shown : (xs : List Initiator) →
-      sum_by (λ (x : world.Initiator). display.busy x.running) (map (shown_initiator c) xs) ≡ length (filter (λ (x : Initiator). is_some x.running) xs)
+      sum_by (λ (x : world.Initiator). display.busy x.running) (map (shown_initiator c (queue_of s.parts.queue)) xs)
+      ≡ length (filter (λ (x : Initiator). is_some x.running) xs)
   busy_shown [] = refl
   busy_shown (x ∷ xs) =
-      sum_by-cons (λ (y : world.Initiator). display.busy y.running) (shown_initiator c x) (map (shown_initiator c) xs)
+      sum_by-cons (λ (y : world.Initiator). display.busy y.running) (shown_initiator c (queue_of s.parts.queue) x) (map (shown_initiator c (queue_of s.parts.queue)) xs)
       ∙ one_more x (filter (λ (y : Initiator). is_some y.running) xs) x.running _ (busy_shown xs)
 
   pub showing : ListedAreQueued → (running : ℕ) → running ≡ length (filter (λ (x : Initiator). is_some x.running) s.initiators.items) → IsShowing queue_of c.volumes s.parts running w

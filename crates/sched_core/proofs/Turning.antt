@@ -3,7 +3,6 @@ use Rattle.std.proofs.Common.{◌≡◌, ◌≢◌, ◌≤◌, ◌⊎◌, inl, i
 use Rattle.std.specs.Option.{option_map}
 use Rattle.std.specs.Prelude.{slice_set}
 use Rattle.std.proofs.lemmas.Bool.{cases_eq}
-use Rattle.std.proofs.lemmas.List.{map-set}
 use Rattle.enq_core.specs.declared.table.Hold.{Hold}
 use Rattle.enq_core.specs.Holds.{HoldsNone}
 use Rattle.jcl_plan.specs.declared.entry.Entry.{Entry}
@@ -30,7 +29,7 @@ use Rattle.sched_core.specs.Going.{TurnsAt}
 use Rattle.sched_core.specs.Machines.{RunsIn, shown_initiator, world_in}
 use Rattle.sched_core.specs.declared.state.Initiator.{Initiator}
 use Rattle.sched_core.specs.declared.state.State.{State}
-use Rattle.sched_core.proofs.Seats.{RanIn, elsewhere, here, one_job, ran_cases, runs_at, shown_at}
+use Rattle.sched_core.proofs.Seats.{RanIn, elsewhere, here, one_job, ran_cases, runs_at, shown_at, shown_set}
 
 -- another job than the one that changed the holds is as ready as it was
 at_still : (c : Config) (old new : List Hold) (job : ℕ) (walk : Walk) (stage : Stage) → (HoldsNone old job → HoldsNone new job) →
@@ -55,10 +54,16 @@ module _ {Q : Type 0} (queue_of : Q → RecordQueue) (c : Config) (s : State Q) 
   abbrev pub runs : Option Running
   runs = runs_after t.turns.came
 
+  abbrev shown_it : world.Initiator
+  shown_it = shown_initiator c (queue_of s.parts.queue) t.it
+
+  abbrev shown_r : world.Running
+  shown_r = shown_running c (queue_of s.parts.queue) r
+
   abbrev pub middle : World
   middle = record w {
     shared = t.turns.went.middle;
-    initiators = with_running w.initiators place (shown_initiator c t.it) (option_map (shown_running c) runs);
+    initiators = with_running w.initiators place shown_it (option_map (shown_running c (queue_of new.parts.queue)) runs);
   }
 
   its : RunsIn s.initiators.items place r
@@ -67,12 +72,12 @@ module _ {Q : Type 0} (queue_of : Q → RecordQueue) (c : Config) (s : State Q) 
   after : new.initiators.items ≡ slice_set s.initiators.items place (record t.it { running = runs })
   after = t.leaves ∙ ap (λ (y : Initiator). slice_set s.initiators.items place y) t.turns.leaves
 
-  goes : ActsSo s.parts.store w place (shown_initiator c t.it) (Some (shown_running c r)) lines middle
+  goes : ActsSo s.parts.store w place shown_it (Some shown_r) lines middle
   goes = (
     record {
       job_lines = lines_told t.turns.came;
       shared = t.turns.went.middle;
-      runs = option_map (shown_running c) runs;
+      runs = option_map (shown_running c (queue_of new.parts.queue)) runs;
       goes = t.turns.went.goes;
       told = t.turns.told ∙ ap (told_with t.turns.running.job (lines_told t.turns.came)) t.turns.went.explained;
       leaves = refl;
@@ -83,13 +88,14 @@ module _ {Q : Type 0} (queue_of : Q → RecordQueue) (c : Config) (s : State Q) 
   acts : ActsAt s.parts.store w place lines middle
   acts x at =
       subst (λ (y : world.Initiator). ActsSo s.parts.store w place y y.running lines middle)
-      (one_there w.initiators place place (shown_initiator c t.it) x refl (shown_at c s.initiators.items place t.it t.at) at)
-      (subst (λ o. ActsSo s.parts.store w place (shown_initiator c t.it) o lines middle) (sym (ap (option_map (shown_running c)) t.turns.runs)) goes)
+      (one_there w.initiators place place shown_it x refl (shown_at c (queue_of s.parts.queue) s.initiators.items place t.it t.at) at)
+      (subst (λ o. ActsSo s.parts.store w place shown_it o lines middle)
+      (sym (ap (option_map (shown_running c (queue_of s.parts.queue))) t.turns.runs)) goes)
 
-  shown_after : map (shown_initiator c) new.initiators.items ≡ middle.initiators
+  shown_after : map (shown_initiator c (queue_of new.parts.queue)) new.initiators.items ≡ middle.initiators
   shown_after =
-      ap (map (shown_initiator c)) after
-      ∙ map-set (shown_initiator c) s.initiators.items place (record t.it { running = runs })
+      ap (map (shown_initiator c (queue_of new.parts.queue))) after
+      ∙ shown_set c (queue_of s.parts.queue) (queue_of new.parts.queue) s.initiators.items place (record t.it { running = runs })
 
   pub leads : LeadsTo (ActsAt s.parts.store w place lines) (world_in queue_of c new)
   leads = record {
@@ -107,7 +113,7 @@ module _ {Q : Type 0} (queue_of : Q → RecordQueue) (c : Config) (s : State Q) 
   }
 
   alone : IsThereAlone w place r.job
-  alone = kept.sound.alone place (shown_running c r) (runs_at queue_of c s place r its)
+  alone = kept.sound.alone place shown_r (runs_at queue_of c s place r its)
 
   ready : (other : ℕ) (q : Running) → RunsIn new.initiators.items other q → IsReady c new.parts.names q
   ready other q h = by_place (ran_cases s.initiators.items new.initiators.items place t.it runs t.at after other q h)
@@ -116,7 +122,7 @@ module _ {Q : Type 0} (queue_of : Q → RecordQueue) (c : Config) (s : State Q) 
       by_place (here same is) = (subst (IsLeft c new.parts.names r.job) is t.turns.went.left).ready
       by_place (elsewhere apart was) =
           ready_still c s.parts.names new.parts.names q
-          (t.turns.went.rest.others q.job (λ same. apart (alone.alone other (shown_running c q) (runs_at queue_of c s other q was) same)))
+          (t.turns.went.rest.others q.job (λ same. apart (alone.alone other (shown_running c (queue_of s.parts.queue) q) (runs_at queue_of c s other q was) same)))
           (kept.fit.ready other q was)
 
   seated : (q : Running) → runs ≡ Some q → RunsIn new.initiators.items place q

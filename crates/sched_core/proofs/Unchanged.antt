@@ -64,7 +64,7 @@ module _ {Q : Type 0} (queue_of : Q → RecordQueue) (c : Config) (s new : State
   same_world = λ i. record {
     config = c;
     shared = shown_with queue_of c s.parts new.parts parts (ap queue.shown queue_is) i;
-    initiators = map (shown_initiator c) (after i);
+    initiators = map (shown_initiator c (queue_is i)) (after i);
     waiting = waiting_in (queue_is i).waiting (backlog i);
     jobs = jobs i;
     events = events i;

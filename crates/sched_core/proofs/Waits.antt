@@ -110,7 +110,8 @@ module _ {Q : Type 0} (queue_of : Q → RecordQueue) (c : Config) (s : State Q) 
 
   pub at_none : IsAtNone s v.job
   at_none place r h same =
-      All-contains (λ x. x.job ≢ r.job) w.waiting v (kept.sound.alone place (shown_running c r) (runs_at queue_of c s place r h)).not_waiting waits (sym same)
+      All-contains (λ x. x.job ≢ r.job) w.waiting v
+      (kept.sound.alone place (shown_running c (queue_of s.parts.queue) r) (runs_at queue_of c s place r h)).not_waiting waits (sym same)
 
   pub nameless : HoldsNone s.parts.names v.job
   nameless = kept.fit.unnamed v.job at_none

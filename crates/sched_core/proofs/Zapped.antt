@@ -36,17 +36,18 @@ use Rattle.sched_core.specs.declared.fault.ApplyFault.{ApplyFault}
 use Rattle.sched_core.specs.declared.fault.ApplyFault.TheVariants.{Refused}
 use Rattle.sched_core.specs.declared.state.Initiator.{Initiator}
 use Rattle.sched_core.specs.declared.state.State.{State}
+use Rattle.sched_core.proofs.Seats.{shown_alike}
 use Rattle.sched_core.proofs.Unchanged.{good_with}
 
 -- whether a job has an initiator, as the machine's definitions have it
-job_runs : (c : Config) (job : ℕ) (o : Option Running) → runs_job job (option_map (shown_running c) o) ≡ has_job o job
-job_runs c job None = refl
-job_runs c job (Some r) = refl
+job_runs : (c : Config) (queue : RecordQueue) (job : ℕ) (o : Option Running) → runs_job job (option_map (shown_running c queue) o) ≡ has_job o job
+job_runs c queue job None = refl
+job_runs c queue job (Some r) = refl
 
-has_initiator : (c : Config) (job : ℕ) (xs : List Initiator) →
-    list_any (λ (x : world.Initiator). runs_job job x.running) (map (shown_initiator c) xs) ≡ list_any (λ (x : Initiator). has_job x.running job) xs
-has_initiator c job [] = refl
-has_initiator c job (x ∷ xs) = λ i. job_runs c job x.running i || has_initiator c job xs i
+has_initiator : (c : Config) (queue : RecordQueue) (job : ℕ) (xs : List Initiator) →
+    list_any (λ (x : world.Initiator). runs_job job x.running) (map (shown_initiator c queue) xs) ≡ list_any (λ (x : Initiator). has_job x.running job) xs
+has_initiator c queue job [] = refl
+has_initiator c queue job (x ∷ xs) = λ i. job_runs c queue job x.running i || has_initiator c queue job xs i
 
 -- and whether it waits
 job_waits : (job : ℕ) (queue : List Queued) (backlog : List Listing) → AreListed queue backlog →
@@ -81,7 +82,7 @@ module _ {Q : Type 0} (queue_of : Q → RecordQueue) (c : Config) (s : State Q) 
   module _ (listed : AreListed q.waiting s.backlog) (layout : c.layout ≡ q.layout) (inside : is_within q.layout.most_records n offset count ≡ true)
       (owner : ℕ) (its : IsOwner q n owner) where
     runs : zap.has_initiator w (owner_of w.shared.records n) ≡ list_any (λ (x : Initiator). has_job x.running owner) s.initiators.items
-    runs = ap (zap.has_initiator w) its.is ∙ has_initiator c owner s.initiators.items
+    runs = ap (zap.has_initiator w) its.is ∙ has_initiator c q owner s.initiators.items
 
     waits : zap.is_waiting w (owner_of w.shared.records n) ≡ list_any (λ (l : Listing). l.job == owner) s.backlog
     waits = ap (zap.is_waiting w) its.is ∙ job_waits owner q.waiting s.backlog listed
@@ -153,7 +154,7 @@ module _ {Q : Type 0} (queue_of : Q → RecordQueue) (c : Config) (s : State Q) 
       rest = λ i. record {
         config = c;
         shared = shown queue_of after.parts;
-        initiators = v.initiators;
+        initiators = map (shown_alike c (queue_of new) (queue_of s.parts.queue) i) s.initiators.items;
         waiting = waiting_in (o.waiting i) s.backlog;
         jobs = s.jobs;
         events = s.events;

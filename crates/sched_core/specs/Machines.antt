@@ -16,14 +16,14 @@ use Rattle.sched_core.specs.declared.state.State.{State}
 abbrev pub config_in : {Q : Type 0} → (Q → RecordQueue) → Profile → State Q → Config
 config_in queue_of p s = config_of p (queue_of s.parts.queue).layout
 
-abbrev pub shown_initiator : Config → Initiator → world.Initiator
-shown_initiator c x = record { number = x.number; classes = x.classes; running = option_map (shown_running c) x.running }
+abbrev pub shown_initiator : Config → RecordQueue → Initiator → world.Initiator
+shown_initiator c queue x = record { number = x.number; classes = x.classes; running = option_map (shown_running c queue) x.running }
 
 abbrev pub world_in : {Q : Type 0} → (Q → RecordQueue) → Config → State Q → World
 world_in queue_of c s = record {
   config = c;
   shared = shown queue_of s.parts;
-  initiators = map (shown_initiator c) s.initiators.items;
+  initiators = map (shown_initiator c (queue_of s.parts.queue)) s.initiators.items;
   waiting = waiting_in (queue_of s.parts.queue).waiting s.backlog;
   jobs = s.jobs;
   events = s.events;

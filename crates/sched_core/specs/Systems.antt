@@ -76,7 +76,7 @@ abbrev pub world_of : Machine → World
 world_of m = record {
   config = m.config;
   shared = shown itself m.parts;
-  initiators = map (shown_initiator m.config) m.initiators;
+  initiators = map (shown_initiator m.config m.parts.queue) m.initiators;
   waiting = waiting_in m.parts.queue.waiting m.backlog;
   jobs = m.jobs;
   events = m.events;

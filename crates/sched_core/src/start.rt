@@ -1,6 +1,6 @@
 //! The machine before its first event.
 ghost use Rattle.std.specs.Prelude.{◌≡◌, [], IfOk, map, None};
-ghost use Rattle.cb_meaning.specs.declared.layout.TheConstants.{LAYOUT_1};
+ghost use Rattle.cb_meaning.specs.declared.layout.TheConstants.{QUEUE_LAYOUT};
 ghost use Rattle.sched_core.specs.Starting.{IsForMachine};
 
 use crate::state::{Initiator, State};
@@ -22,8 +22,8 @@ use world_laws::first_layout_has_own_link;
 pub const FIRST_DAY: u32 = 25_567;
 
 /// The first layout is one for the machine's queue.
-pub fn first_layout_is_for_machine()
-    ensures { IsForMachine LAYOUT_1 }
+pub fn queue_layout_is_for_machine()
+    ensures { IsForMachine QUEUE_LAYOUT }
 {
     the_first_layout_holds_jobs();
     first_layout_has_own_link();

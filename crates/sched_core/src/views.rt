@@ -1,6 +1,7 @@
 //! What is seen of the machine between two events. Nothing changes, and no memory is taken.
 ghost use Rattle.std.specs.Prelude.{◌≡◌, Some, length, slice_get};
 ghost use Rattle.std.specs.Option.{option_map};
+ghost use Rattle.cb_queue.specs.RecordQueues.{RecordQueue};
 ghost use Rattle.init_core.specs.Running.{shown_running, shown_stage};
 ghost use Rattle.machine_core.specs.Shown.{shown};
 ghost use Rattle.spool_core.specs.Sets.{has_set};
@@ -70,7 +71,7 @@ fn phase_of(stage: &Stage) -> Phase
 }
 
 fn seen_job(running: &Running) -> SeenJob
-    ensures { (c : Config) → result ≡ seen_job (shown_running c running.now) }
+    ensures { (c : Config) (q : RecordQueue) → result ≡ seen_job (shown_running c q running.now) }
 {
     SeenJob {
         job: running.job,
@@ -79,7 +80,7 @@ fn seen_job(running: &Running) -> SeenJob
 }
 
 fn seen_initiator(x: &Initiator) -> SeenInitiator
-    ensures { (c : Config) → result ≡ seen_initiator (shown_initiator c x.now) }
+    ensures { (c : Config) (q : RecordQueue) → result ≡ seen_initiator (shown_initiator c q x.now) }
 {
     let job = match &x.running {
         None => None,

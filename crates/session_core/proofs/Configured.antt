@@ -8,7 +8,7 @@ use Rattle.session_text.specs.declared.fault.Fault.{Fault}
 use Rattle.session_text.specs.declared.fault.Fault.TheVariants.{NoEnd}
 use Rattle.session_text.specs.declared.statement.Says.TheVariants.{Config}
 use Rattle.session_text.specs.declared.statement.Statement.{Statement}
-use Rattle.session_core.specs.declared.Options.{Options}
+use Rattle.run_options.specs.declared.Options.{Options}
 use Rattle.session_core.specs.declared.SessionEnd.{SessionEnd}
 use Rattle.session_core.specs.declared.SessionFault.TheVariants.{Stopped}
 use Rattle.session_core.specs.Listings.{Lists}

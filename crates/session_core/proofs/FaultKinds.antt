@@ -5,7 +5,7 @@ use Rattle.std.specs.Str.{bytes_eq}
 use Rattle.jname_core.specs.Faults.{is_no_serial, name8_fault, unit_name_fault}
 use Rattle.machine_meaning.specs.declared.config.ConfigFault.{ConfigFault}
 use Rattle.machine_meaning.specs.declared.config.ConfigFault.TheVariants as config
-use Rattle.cb_meaning.specs.declared.layout.TheConstants.{LAYOUT_1, RECORD_BYTES}
+use Rattle.cb_meaning.specs.declared.layout.TheConstants.{QUEUE_LAYOUT, RECORD_BYTES}
 use Rattle.config_core.specs.Configs.{config_fault}
 use Rattle.session_input.specs.declared.event.Event.TheVariants as event
 use Rattle.session_input.specs.declared.event.TheConstants.{FIRST_OPEN}
@@ -158,7 +158,7 @@ module _ (kind : Fault → Bool) (bad : kind fault.BadValue ≡ false) (unknown 
   zap_by_free (n ∷ []) = bad
   zap_by_free (n ∷ offset ∷ []) = bad
   zap_by_free (n ∷ offset ∷ hex ∷ []) =
-      zap_with_free (number_within 1 LAYOUT_1.most_records n) (number_within FIRST_OPEN (RECORD_BYTES - 1) offset) (bytes_in hex)
+      zap_with_free (number_within 1 QUEUE_LAYOUT.most_records n) (number_within FIRST_OPEN (RECORD_BYTES - 1) offset) (bytes_in hex)
   zap_by_free (n ∷ offset ∷ hex ∷ another ∷ rest) = bad
 
   zap_free : (operands : List (List ℕ)) → says_kind kind (zap_of operands) ≡ false

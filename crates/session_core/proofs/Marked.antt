@@ -3,7 +3,7 @@ use Rattle.std.proofs.Common.{◌≡◌, ◌⊎◌, ℕ, ◌+◌, ◌-◌, ◌<�
 use Rattle.std.proofs.lemmas.List.{append-nil, at_drop_more, drop_all, take-append-le}
 use Rattle.std.proofs.Math.Seq.{take-append-add}
 use Rattle.session_text.specs.declared.statement.Statement.{Statement}
-use Rattle.session_core.specs.declared.Options.{Options}
+use Rattle.run_options.specs.declared.Options.{Options}
 use Rattle.session_core.specs.declared.listing.Mark.{Mark}
 use Rattle.session_core.specs.Listings.{StopsIn}
 use Rattle.session_core.specs.Marks.{AreMarks, IsListedLast}

@@ -1,6 +1,6 @@
 -- The machine of a configuration, before its first event, and the run that its steps are.
 use Rattle.std.proofs.Common.{Global, ◌≡◌, ℕ, Bool, List, [], ◌∷◌, map, None, refl, ap, subst, ◌∙◌}
-use Rattle.cb_meaning.specs.declared.layout.TheConstants.{LAYOUT_1}
+use Rattle.cb_meaning.specs.declared.layout.TheConstants.{QUEUE_LAYOUT}
 use Rattle.cb_queue.specs.RecordQueues.{RecordQueue, empty_queue}
 use Rattle.config_core.specs.Configs.{Configuration, unit_names}
 use Rattle.config_core.specs.Configured.{IsConfigured}
@@ -26,19 +26,19 @@ use Rattle.world_meaning.specs.Transitions.{Runs}
 use Rattle.world_meaning.specs.Worlds.{Config, World}
 use Rattle.session_core.specs.Running.{choice_of, options_in}
 use Rattle.session_core.specs.Sessions.{configuration_of, denoting_in, denoting_of, is_refusal, refuses_in, world_at_start}
-use Rattle.session_core.specs.declared.Options.{Options}
-use Rattle.session_core.specs.declared.RiskChoice.{RiskChoice}
-use Rattle.session_core.specs.declared.RiskChoice.TheVariants as risk
+use Rattle.run_options.specs.declared.Options.{Options}
+use Rattle.run_options.specs.declared.RiskChoice.{RiskChoice}
+use Rattle.run_options.specs.declared.RiskChoice.TheVariants as risk
 
 abbrev pub IsFirst : Options → Configuration → Machine → Type 0
-IsFirst o c first = IsStarted c (refuses_in o) o.views o.explains LAYOUT_1 first
+IsFirst o c first = IsStarted c (refuses_in o) o.views o.explains QUEUE_LAYOUT first
 
 abbrev without_job : ConfiguredInitiator → Initiator
 without_job x = record { number = x.number; classes = x.classes; running = None }
 
-idle_shown : (c : Config) (xs : List ConfiguredInitiator) → map (shown_initiator c) (map without_job xs) ≡ map idle xs
-idle_shown c [] = refl
-idle_shown c (x ∷ xs) = ap (λ ys. idle x ∷ ys) (idle_shown c xs)
+idle_shown : (c : Config) (queue : RecordQueue) (xs : List ConfiguredInitiator) → map (shown_initiator c queue) (map without_job xs) ≡ map idle xs
+idle_shown c queue [] = refl
+idle_shown c queue (x ∷ xs) = ap (λ ys. idle x ∷ ys) (idle_shown c queue xs)
 
 -- all allocators are one
 allocator : Global
@@ -46,12 +46,12 @@ allocator = record { memory = record { seal = tt } }
 
 abbrev begun : Bool → ℕ → Bool → Configuration → Machine
 begun refuses views explains c = record {
-  config = start_config c refuses views explains LAYOUT_1;
+  config = start_config c refuses views explains QUEUE_LAYOUT;
   unit_names = unit_names c.units;
   library = c.library;
   parts = record {
     store = record { alloc = allocator; catalog = c.catalog; volumes = c.volumes };
-    queue = empty_queue LAYOUT_1;
+    queue = empty_queue QUEUE_LAYOUT;
     names = [];
     units = [];
     cancels = [];
@@ -68,27 +68,27 @@ begun refuses views explains c = record {
 nothing_kept : (c : Configuration) → IsConfigured c → (serial : List ℕ) → kept_shown c.volumes serial ≡ []
 nothing_kept c k serial = nothing_shown (mounted_in c.volumes serial) (nothing_on c.volumes k.kept serial)
 
-begun_so : StartsOfConfigurations → IsForMachine LAYOUT_1 → (refuses : Bool) (views : ℕ) (explains : Bool) (c : Configuration) → IsConfigured c →
-    IsStarted c refuses views explains LAYOUT_1 (begun refuses views explains c)
+begun_so : StartsOfConfigurations → IsForMachine QUEUE_LAYOUT → (refuses : Bool) (views : ℕ) (explains : Bool) (c : Configuration) → IsConfigured c →
+    IsStarted c refuses views explains QUEUE_LAYOUT (begun refuses views explains c)
 begun_so law for_machine refuses views explains c k = record {
-  is_start = law c refuses views explains FIRST_DAY LAYOUT_1 k for_machine.link;
-  world = λ i. record (start_of c refuses views explains LAYOUT_1 FIRST_DAY) {
-    shared = record (start_of c refuses views explains LAYOUT_1 FIRST_DAY).shared { kept = λ serial. nothing_kept c k serial i };
-    initiators = idle_shown (start_config c refuses views explains LAYOUT_1) c.initiators i;
+  is_start = law c refuses views explains FIRST_DAY QUEUE_LAYOUT k for_machine.link;
+  world = λ i. record (start_of c refuses views explains QUEUE_LAYOUT FIRST_DAY) {
+    shared = record (start_of c refuses views explains QUEUE_LAYOUT FIRST_DAY).shared { kept = λ serial. nothing_kept c k serial i };
+    initiators = idle_shown (start_config c refuses views explains QUEUE_LAYOUT) (empty_queue QUEUE_LAYOUT) c.initiators i;
   };
   unit_names = refl;
   library = refl;
   volumes = refl;
 }
 
-begun_whole : IsForMachine LAYOUT_1 → (refuses : Bool) (views : ℕ) (explains : Bool) (c : Configuration) → IsConfigured c → IsWhole (begun refuses views explains c)
+begun_whole : IsForMachine QUEUE_LAYOUT → (refuses : Bool) (views : ℕ) (explains : Bool) (c : Configuration) → IsConfigured c → IsWhole (begun refuses views explains c)
 begun_whole for_machine refuses views explains c k = record {
   serials = refl;
   laid_out = k.laid_out;
-  records = all_records (empty_queue LAYOUT_1) (sound_empty LAYOUT_1 for_machine.holds.own_link);
+  records = all_records (empty_queue QUEUE_LAYOUT) (sound_empty QUEUE_LAYOUT for_machine.holds.own_link);
 }
 
-pub machine_begun : StartsOfConfigurations → IsForMachine LAYOUT_1 → (o : Options) (c : Configuration) → IsConfigured c →
+pub machine_begun : StartsOfConfigurations → IsForMachine QUEUE_LAYOUT → (o : Options) (c : Configuration) → IsConfigured c →
     (first : Machine) × IsFirst o c first × IsWhole first
 machine_begun law for_machine o c k = (
   begun (refuses_in o) o.views o.explains c,
@@ -107,7 +107,7 @@ same_options o c first started =
 
 -- a machine that was started so, with an empty queue of the first layout
 pub first_of : (o : Options) (c : Configuration) (refuses : Bool) (views : ℕ) (q : RecordQueue) (first : Machine) → refuses ≡ refuses_in o → views ≡ o.views →
-    q ≡ empty_queue LAYOUT_1 → IsStarted c refuses views o.explains q.layout first → IsFirst o c first × (options_in first.config ≡ o)
+    q ≡ empty_queue QUEUE_LAYOUT → IsStarted c refuses views o.explains q.layout first → IsFirst o c first × (options_in first.config ≡ o)
 first_of o c refuses views q first chosen viewed empty started =
     let by_choice : IsStarted c (refuses_in o) views o.explains q.layout first = subst (λ (b : Bool). IsStarted c b views o.explains q.layout first) chosen started in
     let by_views : IsStarted c (refuses_in o) o.views o.explains q.layout first = subst (λ (n : ℕ). IsStarted c (refuses_in o) n o.explains q.layout first) viewed by_choice in

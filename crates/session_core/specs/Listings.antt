@@ -6,13 +6,13 @@ use Rattle.jcl_plan.specs.declared.entry.Entry.TheVariants as entry
 use Rattle.jcl_plan.specs.declared.fault.Cause.TheVariants as cause
 use Rattle.jcl_plan.specs.declared.fault.EventFault.TheVariants as event_fault
 use Rattle.jcl_plan.specs.Lines.{text_of}
-use Rattle.cb_meaning.specs.declared.layout.TheConstants.{LAYOUT_1}
+use Rattle.cb_meaning.specs.declared.layout.TheConstants.{QUEUE_LAYOUT}
 use Rattle.session_input.specs.declared.event.Event.{Event}
 use Rattle.sched_core.specs.Starting.{IsStarted}
 use Rattle.sched_core.specs.Systems.{Drives, IsWhole, Machine}
 use Rattle.session_text.specs.declared.statement.Statement.{Statement}
 use Rattle.session_core.specs.Sessions.{configuration_of, events_in, events_of, refuses_in}
-use Rattle.session_core.specs.declared.Options.{Options}
+use Rattle.run_options.specs.declared.Options.{Options}
 
 -- the line of an event past the last that is done
 abbrev pub past_limit : List Entry
@@ -27,7 +27,7 @@ text_of_all entries = flat_map (λ lines. flat_map text_of lines) entries
 pub record Lists (o : Options) (config : List Statement) (events : List Event) (listing : List ℕ) : Type 0 where
   pub first : Machine
   pub last : Machine
-  pub started : IsStarted (configuration_of config) (refuses_in o) o.views o.explains LAYOUT_1 first
+  pub started : IsStarted (configuration_of config) (refuses_in o) o.views o.explains QUEUE_LAYOUT first
   pub whole : IsWhole first
   pub entries : List (List Entry)
   pub drives : Drives first events entries last

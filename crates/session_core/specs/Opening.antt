@@ -1,6 +1,6 @@
 -- A session that is opened: what stands before its first event configures a machine.
 use Rattle.std.specs.Prelude.{◌≡◌, List, drop}
-use Rattle.cb_meaning.specs.declared.layout.TheConstants.{LAYOUT_1}
+use Rattle.cb_meaning.specs.declared.layout.TheConstants.{QUEUE_LAYOUT}
 use Rattle.cb_queue.specs.RecordQueues.{empty_queue}
 use Rattle.config_core.specs.Configs.{Configuration}
 use Rattle.config_core.specs.Configured.{IsConfigured}
@@ -16,4 +16,4 @@ pub record IsOpened (all : List Statement) (x : Opened) : Type 0 where
   pub late : x.late ≡ late_in config (drop x.from all)
   pub sound : IsConfigured config
   pub apart : IsTakenApart config x.store x.fixed
-  pub empty : x.queue ≡ empty_queue LAYOUT_1
+  pub empty : x.queue ≡ empty_queue QUEUE_LAYOUT

@@ -1,32 +1,18 @@
--- The promise of each ASSURED line of a session, that what each job is answered is exact, and what its volumes decide: along the chain of machines that its
--- listing has.
+-- The promise of each ASSURED line of a session, along the chain of machines that its listing has.
 use Rattle.std.specs.Prelude.{ℕ, List, map}
 use Rattle.session_input.specs.declared.event.Event.{Event}
-use Rattle.machine_laws.specs.Answers.{AreExactAlong}
-use Rattle.machine_laws.specs.Deciding.{AreDecidedAlong}
 use Rattle.sched_core.specs.Promised.{ArePromisedAlong}
 use Rattle.sched_core.specs.Systems.{meant_by, world_of}
 use Rattle.world_meaning.specs.Transitions.{Runs}
 use Rattle.session_text.specs.declared.statement.Statement.{Statement}
 use Rattle.session_core.specs.Listings.{Lists}
 use Rattle.session_core.specs.Sessions.{denoting_of, world_at_start}
-use Rattle.session_core.specs.declared.Options.{Options}
+use Rattle.run_options.specs.declared.Options.{Options}
 
 -- with whichever options, each ASSURED line among the entries of a listing is kept, from there on
 abbrev pub PromisesOfSession : Type 0
 PromisesOfSession = (o : Options) (config : List Statement) (events : List Event) (listing : List ℕ) → (l : Lists o config events listing) →
     ArePromisedAlong l.first events l.entries l.last l.drives
-
--- With whichever options, each line of a listing that answers a job holds of it in the machine as it was, and is the only answer: BROKEN, ASSURED, WAIT SPACE,
--- RISK, TOOMANY.
-abbrev pub AnswersOfSession : Type 0
-AnswersOfSession = (o : Options) (config : List Statement) (events : List Event) (listing : List ℕ) → (l : Lists o config events listing) →
-    AreExactAlong l.first events l.entries l.last l.drives
-
--- And each event of it is decided by the volumes of the machine before it.
-abbrev pub VolumesDecideSession : Type 0
-VolumesDecideSession = (o : Options) (config : List Statement) (events : List Event) (listing : List ℕ) → (l : Lists o config events listing) →
-    AreDecidedAlong l.first events l.entries l.last l.drives
 
 -- That chain is a run of the machine's definitions, from what the statements configure.
 abbrev pub ListingsAreRuns : Type 0

@@ -3,7 +3,7 @@ use Rattle.std.specs.Prelude.{ℕ, Bool, true, false, List, [], ◌∷◌, ◌++
 use Rattle.std.specs.List.{flat_map, list_any}
 use Rattle.machine_meaning.specs.declared.config.ConfigFault.{ConfigFault}
 use Rattle.machine_meaning.specs.declared.config.ConfigFault.TheVariants as config
-use Rattle.cb_meaning.specs.declared.layout.TheConstants.{LAYOUT_1}
+use Rattle.cb_meaning.specs.declared.layout.TheConstants.{QUEUE_LAYOUT}
 use Rattle.config_core.specs.Configs.{Configuration, config_fault, configured, nothing_configured, unit_names}
 use Rattle.config_core.specs.Starts.{start_of}
 use Rattle.session_input.specs.declared.event.Event.{Event}
@@ -11,9 +11,9 @@ use Rattle.jcl_job.specs.Jobs.{job_of}
 use Rattle.sched_core.specs.declared.start.TheConstants.{FIRST_DAY}
 use Rattle.world_meaning.specs.Readings.{Denoting}
 use Rattle.world_meaning.specs.Worlds.{World}
-use Rattle.session_core.specs.declared.Options.{Options}
-use Rattle.session_core.specs.declared.RiskChoice.{RiskChoice}
-use Rattle.session_core.specs.declared.RiskChoice.TheVariants as risk
+use Rattle.run_options.specs.declared.Options.{Options}
+use Rattle.run_options.specs.declared.RiskChoice.{RiskChoice}
+use Rattle.run_options.specs.declared.RiskChoice.TheVariants as risk
 use Rattle.session_text.specs.declared.fault.Fault.{Fault}
 use Rattle.session_text.specs.declared.fault.Fault.TheVariants as fault
 use Rattle.session_text.specs.declared.statement.Ending.{Ending}
@@ -50,7 +50,7 @@ refuses_in o = is_refusal o.risk
 
 -- the machine that they configure, before its first event, started with these options, and the job that a deck denotes in it
 abbrev pub start_in : Options → Configuration → World
-start_in o c = start_of c (refuses_in o) o.views o.explains LAYOUT_1 FIRST_DAY
+start_in o c = start_of c (refuses_in o) o.views o.explains QUEUE_LAYOUT FIRST_DAY
 
 abbrev pub world_at_start : Options → List Statement → World
 world_at_start o statements = start_in o (configuration_of statements)

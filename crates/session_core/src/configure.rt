@@ -4,7 +4,7 @@ ghost use Rattle.config_core.specs.Configs.{config_fault, nothing_configured};
 ghost use Rattle.session_core.specs.Configuring.{IsConfiguredBy, late_in};
 ghost use Rattle.session_core.specs.Outcomes.{IsOutcome, is_write_fault};
 ghost use Rattle.session_core.specs.Sessions.{session_behind, told, unless_late};
-ghost use Rattle.session_core.specs.declared.Options.{Options};
+ghost use Rattle.run_options.specs.declared.Options.{Options};
 ghost use Rattle.session_core.specs.declared.SessionEnd.{SessionEnd};
 
 use crate::SessionFault;

@@ -1,17 +1,16 @@
 //! Laws of sessions. They have no code: the contract of such a function is the law, and it calls the laws that it rests on.
-ghost use Rattle.cb_meaning.specs.declared.layout.TheConstants.{LAYOUT_1};
+ghost use Rattle.cb_meaning.specs.declared.layout.TheConstants.{QUEUE_LAYOUT};
 ghost use Rattle.config_core.specs.Configs.{Configuration};
 ghost use Rattle.config_core.specs.Configured.{IsConfigured};
 ghost use Rattle.sched_core.specs.Starting.{IsStarted};
 ghost use Rattle.sched_core.specs.Systems.{IsWhole, Machine};
-ghost use Rattle.session_core.specs.Promises.{AnswersOfSession, ListingsAreRuns, PromisesOfSession, VolumesDecideSession};
+ghost use Rattle.session_core.specs.Promises.{ListingsAreRuns, PromisesOfSession};
 ghost use Rattle.session_core.specs.Sessions.{refuses_in};
-ghost use Rattle.session_core.specs.declared.Options.{Options};
+ghost use Rattle.run_options.specs.declared.Options.{Options};
 
 use config_core::laws::configuration_is_start;
-use machine_laws::{answers_are_exact, growth_is_refused, primary_is_refused, sets_are_placed};
 use sched_core::laws::{chains_are_runs, chains_keep_promises};
-use sched_core::start::first_layout_is_for_machine;
+use sched_core::start::queue_layout_is_for_machine;
 
 /// From any listing of a session, each ASSURED line among its entries is kept.
 pub fn promises_of_a_session()
@@ -29,25 +28,8 @@ pub fn listings_are_runs()
 
 /// Each configuration has a machine before its first event, a whole one, with whichever options it is started.
 pub fn configuration_has_a_machine()
-    ensures { (o : Options) (c : Configuration) → IsConfigured c → (first : Machine) × IsStarted c (refuses_in o) o.views o.explains LAYOUT_1 first × IsWhole first }
+    ensures { (o : Options) (c : Configuration) → IsConfigured c → (first : Machine) × IsStarted c (refuses_in o) o.views o.explains QUEUE_LAYOUT first × IsWhole first }
 {
     configuration_is_start();
-    first_layout_is_for_machine();
-}
-
-/// What each job of a session is answered is exact, in the machine as it was.
-pub fn answers_of_a_session()
-    ensures { AnswersOfSession }
-{
-    answers_are_exact();
-}
-
-/// Along a session SB37 stands in the place of a request only where the volumes, as they were before its event, had no room for the tracks that it asked for; F6
-/// is told of a DD with a key only where the configured volume on which its set is looked for had none for its primary; and sets are placed by the rule.
-pub fn volumes_decide_a_session()
-    ensures { VolumesDecideSession }
-{
-    growth_is_refused();
-    primary_is_refused();
-    sets_are_placed();
+    queue_layout_is_for_machine();
 }

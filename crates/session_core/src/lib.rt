@@ -19,6 +19,7 @@ ghost use Rattle.session_text.specs.declared.statement.Ending.TheVariants.{ReadF
 
 use crate::stream::{Sink, Source};
 use crate::transfer::read_text;
+use run_options::{Options, RiskChoice};
 use session_text::fault::Fault;
 use session_text::parse::statements;
 use std::alloc::Global;
@@ -28,32 +29,13 @@ use thiserror::Error;
 /// The most bytes of a session.
 pub const MOST_BYTES: usize = 1_048_576;
 
-/// What becomes of a job that is at risk.
-#[derive(Clone, Copy, PartialEq, Eq)]
-pub enum RiskChoice {
-    Run,
-    Refuse,
-}
-
-/// How a session is run.
-#[derive(Clone, Copy, PartialEq, Eq)]
-pub struct Options {
-    pub risk: RiskChoice,
-    /// The most views of the verifier.
-    pub views: u16,
-    /// The path of a risk is shown.
-    pub explains: bool,
-}
-
-impl Options {
-    /// A job at risk is refused.
-    pub(crate) fn refuses(&self) -> bool
-        ensures { result ≡ refuses_in self.now }
-    {
-        match self.risk {
-            RiskChoice::Run => false,
-            RiskChoice::Refuse => true,
-        }
+/// Whether a job at risk is refused.
+pub(crate) fn refuses(options: Options) -> bool
+    ensures { result ≡ refuses_in options }
+{
+    match options.risk {
+        RiskChoice::Run => false,
+        RiskChoice::Refuse => true,
     }
 }
 

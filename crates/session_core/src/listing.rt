@@ -9,7 +9,7 @@ ghost use Rattle.session_core.specs.Marks.{AreMarks};
 ghost use Rattle.session_core.specs.Outcomes.{IsOutcome, WritesOutcome, is_write_fault};
 ghost use Rattle.session_core.specs.Sessions.{Session};
 ghost use Rattle.session_core.specs.Streams.{sink_state};
-ghost use Rattle.session_core.specs.declared.Options.{Options};
+ghost use Rattle.run_options.specs.declared.Options.{Options};
 ghost use Rattle.session_core.specs.declared.SessionEnd.{SessionEnd};
 
 use crate::stream::Sink;

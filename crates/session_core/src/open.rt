@@ -1,6 +1,6 @@
 //! A session is opened, and its machine started.
 ghost use Rattle.std.specs.Prelude.{◌≡◌, [], Err, IfErr, IfOk, false};
-ghost use Rattle.cb_meaning.specs.declared.layout.TheConstants.{LAYOUT_1};
+ghost use Rattle.cb_meaning.specs.declared.layout.TheConstants.{QUEUE_LAYOUT};
 ghost use Rattle.cb_queue.specs.RecordQueues.{empty_queue};
 ghost use Rattle.config_core.specs.Configs.{Configuration};
 ghost use Rattle.config_core.specs.Configured.{IsConfigured};
@@ -9,16 +9,17 @@ ghost use Rattle.sched_core.specs.Starting.{IsStarted};
 ghost use Rattle.session_core.specs.Opening.{IsOpened};
 ghost use Rattle.session_core.specs.Outcomes.{IsOutcome, is_write_fault};
 ghost use Rattle.session_core.specs.Sessions.{refuses_in, session_behind};
-ghost use Rattle.session_core.specs.declared.Options.{Options};
+ghost use Rattle.run_options.specs.declared.Options.{Options};
 ghost use Rattle.session_core.specs.declared.SessionEnd.{SessionEnd};
 
 use crate::configure::{configure, late_in};
-use crate::{Options, SessionFault};
-use cb_meaning::layout::LAYOUT_1;
+use crate::{SessionFault, refuses};
+use cb_meaning::layout::QUEUE_LAYOUT;
 use cb_queue::list_store::ListStore;
 use config_core::config::Config;
 use config_core::start::Fixed;
-use sched_core::start::first_layout_is_for_machine;
+use run_options::Options;
+use sched_core::start::queue_layout_is_for_machine;
 use sched_core::system::System;
 use session_text::fault::Fault;
 use session_text::statement::Statement;
@@ -37,10 +38,10 @@ pub struct Opened {
 
 /// The queue of a machine that begins: no record is in use.
 fn first_queue(alloc: Global) -> Result<ListStore, AllocError>
-    ensures { IfOk result (λ queue. queue ≡ empty_queue LAYOUT_1) }
+    ensures { IfOk result (λ queue. queue ≡ empty_queue QUEUE_LAYOUT) }
 {
-    first_layout_is_for_machine();
-    let queue = ListStore::new(alloc, LAYOUT_1)?;
+    queue_layout_is_for_machine();
+    let queue = ListStore::new(alloc, QUEUE_LAYOUT)?;
     Ok(queue)
 }
 
@@ -81,18 +82,18 @@ pub fn start<'c>(
     options: Options,
 ) -> Result<System<'c, ListStore>, AllocError>
     requires configured { (c : Configuration) × IsConfigured c × IsTakenApart c store fixed.now }
-    requires empty { queue ≡ empty_queue LAYOUT_1 }
+    requires empty { queue ≡ empty_queue QUEUE_LAYOUT }
     ensures { IfOk result (λ m. (c : Configuration) → IsConfigured c → IsTakenApart c store fixed.now →
-        IsStarted c (refuses_in options) options.views options.explains LAYOUT_1 m) }
+        IsStarted c (refuses_in options) options.views options.explains QUEUE_LAYOUT m) }
 {
-    first_layout_is_for_machine();
+    queue_layout_is_for_machine();
     let views = usize::from(options.views);
     let system = System::new(
         alloc,
         store,
         queue,
         fixed,
-        options.refuses(),
+        refuses(options),
         views,
         options.explains,
     )?;

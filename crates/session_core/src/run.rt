@@ -1,6 +1,6 @@
 //! The events of the statements, and their lines.
 ghost use Rattle.std.specs.Prelude.{◌≡◌, [], Bool, OnErr, OnOk, drop, false, is_some, replicate, true};
-ghost use Rattle.cb_meaning.specs.declared.layout.TheConstants.{LAYOUT_1};
+ghost use Rattle.cb_meaning.specs.declared.layout.TheConstants.{QUEUE_LAYOUT};
 ghost use Rattle.session_input.specs.declared.statement.ConfigStatement.{ConfigStatement};
 ghost use Rattle.config_core.specs.Configs.{Configuration};
 ghost use Rattle.session_core.specs.Configuring.{IsConfiguredBy, late_in};
@@ -16,9 +16,10 @@ ghost use Rattle.sched_core.specs.Systems.{IsNext, IsSameFixed};
 use crate::listing::{Listing, MOST_HELD, Mark};
 use crate::open::{Opened, open, start};
 use crate::stream::Sink;
-use crate::{Options, SessionEnd, SessionFault};
+use crate::{SessionEnd, SessionFault};
 use cb_queue::list_store::ListStore;
 use jcl_plan::entry::Entry;
+use run_options::Options;
 use sched_core::fault::ApplyFault;
 use sched_core::system::System;
 use session_input::event::Event;
@@ -111,7 +112,7 @@ pub fn run_from<W: Write>(
     sink: &mut Sink<'_, W>,
 ) -> Result<SessionEnd, SessionFault>
     requires configured { (c : Configuration) × IsConfiguredBy statements.now from c × (late ≡ late_in c (drop from statements.now))
-        × IsStarted c (refuses_in (options_in system.old.config)) system.old.config.most_views system.old.config.explains LAYOUT_1 system.old }
+        × IsStarted c (refuses_in (options_in system.old.config)) system.old.config.most_views system.old.config.explains QUEUE_LAYOUT system.old }
     requires unfailed { sink.old.failed ≡ false }
     ensures outcome { WritesOutcome (options_in system.old.config) (sink_state W.contents sink.old) (sink_state W.contents sink.new) [] (session_behind [] statements.now) result }
     ensures left { is_write_fault result ≡ false → WritesWhole (sink_state W.contents sink.old) (sink_state W.contents sink.new) system.old system.new }

@@ -5,7 +5,7 @@ use Rattle.std.proofs.lemmas.List.Splits.{length-slice_split}
 use Rattle.hex.specs.Hex.{decode_of}
 use Rattle.hex.specs.declared.error.FromHexError.{FromHexError}
 use Rattle.hex.proofs.HexLemmas.{decode_of-ok}
-use Rattle.cb_meaning.specs.declared.layout.TheConstants.{LAYOUT_1}
+use Rattle.cb_meaning.specs.declared.layout.TheConstants.{QUEUE_LAYOUT}
 use Rattle.session_input.specs.declared.event.TheConstants.{FIRST_OPEN, MOST_ZAPPED}
 use Rattle.jname_core.specs.Decimals.{number_within}
 use Rattle.session_text.specs.Fields.{listed_in}
@@ -62,6 +62,6 @@ few_is (Some n) (Some offset) (Some bytes) = few_by (nat_le (length bytes) MOST_
 
 pub zap_kept : (fields : List (List ℕ)) (operand : List ℕ) (three : List ℕ × List ℕ × List ℕ) → only_of fields ≡ Some operand →
     three_of (listed_in operand) ≡ Some three →
-    zap_with (number_within 1 LAYOUT_1.most_records three.0) (number_within FIRST_OPEN last_open three.1) (few_of (bytes_in three.2)) ≡ zap_of fields
+    zap_with (number_within 1 QUEUE_LAYOUT.most_records three.0) (number_within FIRST_OPEN last_open three.1) (few_of (bytes_in three.2)) ≡ zap_of fields
 zap_kept fields operand three one h =
     few_is _ _ (bytes_in three.2) ∙ ap zap_by (sym (three_parts_are (listed_in operand) three h)) ∙ ap zap_of (sym (only_field_is fields operand one))

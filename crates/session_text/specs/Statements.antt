@@ -4,7 +4,7 @@ use Rattle.std.specs.List.{list_any, position}
 use Rattle.std.specs.Result.{result_ok}
 use Rattle.std.specs.Str.{bytes_eq}
 use Rattle.hex.specs.Hex.{decode_of}
-use Rattle.cb_meaning.specs.declared.layout.TheConstants.{LAYOUT_1, RECORD_BYTES}
+use Rattle.cb_meaning.specs.declared.layout.TheConstants.{QUEUE_LAYOUT, RECORD_BYTES}
 use Rattle.session_input.specs.declared.event.TheConstants.{FIRST_OPEN, MOST_ZAPPED}
 use Rattle.extent_core.specs.declared.extent.Extent.{Extent}
 use Rattle.jname_core.specs.Faults.{is_no_serial, name8_fault, unit_name_fault}
@@ -131,7 +131,7 @@ zap_with (Some n) (Some offset) (Some bytes) = zap_within n offset bytes
 
 abbrev pub zap_by : List (List ℕ) → Says
 zap_by (n ∷ offset ∷ hex ∷ []) =
-    zap_with (number_within 1 LAYOUT_1.most_records n) (number_within FIRST_OPEN (RECORD_BYTES - 1) offset) (bytes_in hex)
+    zap_with (number_within 1 QUEUE_LAYOUT.most_records n) (number_within FIRST_OPEN (RECORD_BYTES - 1) offset) (bytes_in hex)
 zap_by _ = bad
 
 abbrev pub zap_of : List (List ℕ) → Says

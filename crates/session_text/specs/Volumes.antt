@@ -4,12 +4,13 @@ use Rattle.std.specs.List.{position}
 use Rattle.std.specs.Option.{option_map}
 use Rattle.std.specs.Str.{bytes_eq}
 use Rattle.extent_core.specs.declared.extent.Extent.{Extent}
+use Rattle.jcl_plan.specs.declared.plan.TheConstants.{MOST_TRACKS}
 use Rattle.jname_core.specs.Decimals.{number_within}
 use Rattle.session_text.specs.Fields.{listed_in}
 
 -- `a` or `a-b`: the tracks from a to b, or a alone; tracks count from 0
 abbrev pub track_in : List ℕ → Option ℕ
-track_in text = number_within 0 3999 text
+track_in text = number_within 0 (MOST_TRACKS - 1) text
 
 abbrev pub hyphen_in : List ℕ → Option ℕ
 hyphen_in item = position (λ b. b == 45) item

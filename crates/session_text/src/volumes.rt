@@ -1,5 +1,6 @@
 //! What a line says of a volume.
 ghost use Rattle.std.specs.Prelude.{◌≡◌, ◌==◌, ◌<◌, IfOk, IfSome, length, position};
+ghost use Rattle.jcl_plan.specs.declared.plan.TheConstants.{MOST_TRACKS};
 ghost use Rattle.session_text.specs.Fields.{fields_of, listed_in};
 ghost use Rattle.session_text.specs.Statements.{volume_of, volume_with};
 ghost use Rattle.session_text.specs.Volumes.{extent_of, extent_with, extents_in, first_track, hyphen_in, last_track, track_in, used_of};
@@ -9,6 +10,7 @@ use crate::fields::{next_field, only_field};
 use crate::statement::{Says, configures};
 use crate::values::{comma_in, serial_in};
 use extent_core::extent::Extent;
+use jcl_plan::plan::MOST_TRACKS;
 use jname_core::decimal::number_within;
 use jname_core::serial::Serial;
 use plain::listed::Listed;
@@ -17,9 +19,9 @@ use std::alloc::{AllocError, Global};
 
 fn track_in(text: &[u8]) -> Option<u16>
     ensures track { result ≡ track_in text.now }
-    ensures bound { IfSome result (λ track. track < 4000) }
+    ensures bound { IfSome result (λ track. track < MOST_TRACKS) }
 {
-    number_within(0, 3_999, text)
+    number_within(0, MOST_TRACKS - 1, text)
 }
 
 fn hyphen_in(item: &[u8]) -> Option<usize>
@@ -31,7 +33,7 @@ fn hyphen_in(item: &[u8]) -> Option<usize>
 
 fn first_track(item: &[u8]) -> Option<u16>
     ensures track { result ≡ first_track (hyphen_in item.now) item.now }
-    ensures bound { IfSome result (λ track. track < 4000) }
+    ensures bound { IfSome result (λ track. track < MOST_TRACKS) }
 {
     match hyphen_in(item) {
         None => track_in(item),
@@ -41,7 +43,7 @@ fn first_track(item: &[u8]) -> Option<u16>
 
 fn last_track(item: &[u8]) -> Option<u16>
     ensures track { result ≡ last_track (hyphen_in item.now) item.now }
-    ensures bound { IfSome result (λ track. track < 4000) }
+    ensures bound { IfSome result (λ track. track < MOST_TRACKS) }
 {
     match hyphen_in(item) {
         None => track_in(item),

@@ -1,6 +1,6 @@
 //! The line that writes into a record.
 ghost use Rattle.std.specs.Prelude.{◌≡◌, ◌∷◌, [], IfNone, IfOk, IfSome};
-ghost use Rattle.cb_meaning.specs.declared.layout.TheConstants.{LAYOUT_1, RECORD_BYTES};
+ghost use Rattle.cb_meaning.specs.declared.layout.TheConstants.{QUEUE_LAYOUT, RECORD_BYTES};
 ghost use Rattle.session_input.specs.declared.event.TheConstants.{FIRST_OPEN};
 ghost use Rattle.jname_core.specs.Decimals.{number_within};
 ghost use Rattle.session_text.specs.Fields.{fields_of, listed_in};
@@ -14,7 +14,7 @@ use crate::lines::Row;
 use crate::statement::Says;
 use crate::values::comma_in;
 use boxed_core::Boxed;
-use cb_meaning::layout::{LAYOUT_1, RECORD_BYTES};
+use cb_meaning::layout::{QUEUE_LAYOUT, RECORD_BYTES};
 use jname_core::decimal::number_within;
 use plain::short::Short;
 use session_input::event::{Event, FIRST_OPEN, MOST_ZAPPED};
@@ -54,9 +54,9 @@ fn three_parts<'a>(text: &'a [u8]) -> Option<(Row<'a>, Row<'a>, Row<'a>)>
 
 /// The number of a record that the text is; they count from 1.
 fn record_in(text: &[u8]) -> Option<u32>
-    ensures { result ≡ number_within 1 LAYOUT_1.most_records text.now }
+    ensures { result ≡ number_within 1 QUEUE_LAYOUT.most_records text.now }
 {
-    match number_within(1, LAYOUT_1.most_records as u16, text) {
+    match number_within(1, QUEUE_LAYOUT.most_records as u16, text) {
         None => None,
         Some(number) => Some(u32::from(number)),
     }

@@ -23,10 +23,10 @@ use Rattle.value_core.specs.Units.{unit}
 use Rattle.value_core.specs.VolumeNames.{volume_name}
 use Rattle.cb_meaning.specs.Writable.{IsCard, IsName}
 use Rattle.jcl_cards.specs.declared.coded.Coded.TheVariants.{Value}
-use Rattle.jcl_cards.specs.declared.dd.Word.TheVariants.{Cards, Dummy}
-use Rattle.jcl_cards.specs.DdCards.{behind_period, card_of, dd_name, dd_name_faults, dd_name_of, dd_with, excludes, has_two_words, is_key, is_sysout, is_word, keyword_faults, label, positional_faults, spelled, sysout, unknown_on_dd, word_of}
-use Rattle.jcl_cards.specs.Keywords.{coded_in, twice_faults}
+use Rattle.jcl_cards.specs.Keywords.{coded_in, spelled, twice_faults}
 use Rattle.jcl_cards.proofs.ExecNames.{and_first}
+use Rattle.jcl_dds.specs.declared.dd.Word.TheVariants.{Cards, Dummy}
+use Rattle.jcl_dds.specs.DdCards.{behind_period, card_of, dd_name, dd_name_faults, dd_name_of, dd_with, excludes, has_two_words, is_key, is_sysout, is_word, keyword_faults, label, positional_faults, sysout, unknown_on_dd, word_of}
 use Rattle.statement_laws.specs.CardLaws.{AreCards, DdCardsAreSound}
 use Rattle.statement_laws.specs.Ranges.{CodesName, IsSoundClass, IsSoundDd, IsSoundKey, IsSoundSpace, IsSoundVolume, IsSoundWord}
 use Rattle.statement_laws.proofs.Faultless.{ReadIs, coded_is, name_is, told_is, when_none}

@@ -7,12 +7,12 @@ use Rattle.operand_core.specs.Faults.{when}
 use Rattle.value_core.specs.Reads.{Read, good}
 use Rattle.jcl_cards.specs.declared.coded.Coded.{Coded}
 use Rattle.jcl_cards.specs.declared.coded.Coded.TheVariants.{NotGiven, Nullified, Value}
-use Rattle.jcl_cards.specs.declared.dd.DdCard.{DdCard}
-use Rattle.jcl_cards.specs.declared.dd.Word.{Word}
-use Rattle.jcl_cards.specs.declared.dd.Word.TheVariants.{Cards, Dummy}
-use Rattle.jcl_cards.specs.DdCards.{excludes}
 use Rattle.jcl_cards.specs.Keywords.{is_given}
-use Rattle.jcl_cards.specs.Merging.{by_itself, keyword_by_keyword, merged, overridden, replaces, settled, without_dummy, without_sysout}
+use Rattle.jcl_dds.specs.declared.dd.DdCard.{DdCard}
+use Rattle.jcl_dds.specs.declared.dd.Word.{Word}
+use Rattle.jcl_dds.specs.declared.dd.Word.TheVariants.{Cards, Dummy}
+use Rattle.jcl_dds.specs.DdCards.{excludes}
+use Rattle.jcl_dds.specs.Merging.{by_itself, keyword_by_keyword, merged, overridden, replaces, settled, without_dummy, without_sysout}
 use Rattle.statement_laws.specs.CardLaws.{ByItselfIsSound, MergedIsSound, MergedKeepsName}
 use Rattle.statement_laws.specs.Ranges.{CodesName, IsSoundClass, IsSoundDd, IsSoundKey, IsSoundSpace, IsSoundVolume, IsSoundWord}
 

@@ -2,11 +2,11 @@
 use Rattle.std.specs.Prelude.{◌≡◌, ℕ, List, Option, Some, None, All}
 use Rattle.operand_core.specs.Faults.{told}
 use Rattle.cb_meaning.specs.Writable.{IsCard}
-use Rattle.jcl_cards.specs.declared.dd.DdCard.{DdCard}
-use Rattle.jcl_cards.specs.DdCards.{dd_card}
 use Rattle.jcl_cards.specs.ExecCards.{exec_card}
 use Rattle.jcl_cards.specs.JobCards.{job_card}
-use Rattle.jcl_cards.specs.Merging.{by_itself, merged}
+use Rattle.jcl_dds.specs.declared.dd.DdCard.{DdCard}
+use Rattle.jcl_dds.specs.DdCards.{dd_card}
+use Rattle.jcl_dds.specs.Merging.{by_itself, merged}
 use Rattle.statement_laws.specs.Ranges.{IsSoundDd, IsSoundExec, IsSoundJob}
 
 -- A JOB of which no fault is told holds values in their ranges.

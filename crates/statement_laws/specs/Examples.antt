@@ -14,11 +14,11 @@ use Rattle.value_core.specs.declared.set.VolumeName.TheVariants as volume
 use Rattle.value_core.specs.Reads.{Read, good}
 use Rattle.jcl_cards.specs.declared.coded.Coded.{Coded}
 use Rattle.jcl_cards.specs.declared.coded.Coded.TheVariants.{Value}
-use Rattle.jcl_cards.specs.declared.dd.DdCard.{DdCard}
 use Rattle.jcl_cards.specs.declared.exec.Runs.TheVariants.{Program, Procedure}
-use Rattle.jcl_cards.specs.DdCards.{dd_card}
 use Rattle.jcl_cards.specs.ExecCards.{exec_card}
 use Rattle.jcl_cards.specs.JobCards.{job_card}
+use Rattle.jcl_dds.specs.declared.dd.DdCard.{DdCard}
+use Rattle.jcl_dds.specs.DdCards.{dd_card}
 
 abbrev pub greatest_test : CodedTest
 greatest_test = record { code = 4095; operator = Lt; step = None }

@@ -14,14 +14,14 @@ use Rattle.cb_meaning.specs.Writable.{IsCard, IsName, IsSpace}
 use Rattle.list_values.specs.declared.condition.Condition.{Condition}
 use Rattle.jcl_cards.specs.declared.coded.Coded.{Coded}
 use Rattle.jcl_cards.specs.declared.coded.Coded.TheVariants.{NotGiven, Nullified, Value}
-use Rattle.jcl_cards.specs.declared.dd.DdCard.{DdCard}
-use Rattle.jcl_cards.specs.declared.dd.Word as positional
-use Rattle.jcl_cards.specs.declared.dd.Word.TheVariants as positional_word
 use Rattle.jcl_cards.specs.declared.exec.ExecCard.{ExecCard}
 use Rattle.jcl_cards.specs.declared.exec.Runs.{Runs}
 use Rattle.jcl_cards.specs.declared.exec.Runs.TheVariants.{Program, Procedure}
 use Rattle.jcl_cards.specs.declared.exec.StepCondition.{StepCondition}
 use Rattle.jcl_cards.specs.declared.job.JobCard.{JobCard}
+use Rattle.jcl_dds.specs.declared.dd.DdCard.{DdCard}
+use Rattle.jcl_dds.specs.declared.dd.Word as positional
+use Rattle.jcl_dds.specs.declared.dd.Word.TheVariants as positional_word
 
 -- the name of a set, where DSNAME codes one
 abbrev pub CodesName : (Key → Type 0) → Coded SetName → Type 0

@@ -3,19 +3,16 @@ ghost use Rattle.std.specs.Prelude.{◌≡◌, ◌<◌, ◌≤◌, ◌++◌, ◌
 ghost use Rattle.std.specs.Option.{option_copied};
 ghost use Rattle.group_core.specs.Entries.{volume_in};
 ghost use Rattle.jname_core.specs.Generations.{base_of};
-ghost use Rattle.jname_core.specs.declared.key.Key.TheVariants as key;
 ghost use Rattle.jcl_meaning.specs.Lists.{is_at, is_of, member_copied, without_entries, without_sets};
-ghost use Rattle.jcl_meaning.specs.Stores.{entry_in, group_of, is_later, member_of, resolution_of, set_in, store_of, volume_of, with_entry, with_set};
+ghost use Rattle.jcl_meaning.specs.Stores.{entry_in, group_of, is_later, member_of, set_in, store_of, volume_of, with_entry, with_set};
 
 use group_core::entry::CatEntry;
-use group_core::group::{Group, GroupFault};
+use group_core::group::Group;
 use jcl_meaning::names::same_key;
-use jcl_meaning::state::Resolution;
 use jcl_meaning::store::{DataSet, SoloEntry, SoloSet, SoloStore};
 use jcl_plan::day::Day;
-use jcl_plan::fault::Fault;
-use jname_core::ds_name::{DsName, MOST_OF_A_BASE};
-use jname_core::key::{Key, Sign};
+use jname_core::ds_name::DsName;
+use jname_core::key::Key;
 use jname_core::serial::Serial;
 use plain::listed::Listed;
 use std::alloc::{AllocError, Global};
@@ -110,40 +107,6 @@ pub(crate) fn volume_of(store: &SoloStore, name: &DsName) -> Option<Serial>
     match member_of(store, name) {
         Some((number, group)) => group.find(number),
         None => own_volume(store, name),
-    }
-}
-
-/// What a key means: a relative number by the generations of its group.
-pub(crate) fn resolution_of(store: &SoloStore, key: &Key) -> Resolution
-    ensures { result ≡ resolution_of (store_of store.now) key.now }
-{
-    match key {
-        Key::Relative { base, sign, amount } => relative(store, base, *sign, *amount),
-        Key::Named(name) => Resolution::Means(Key::Named(*name)),
-        Key::Temporary(name) => Resolution::Means(Key::Temporary(*name)),
-        Key::Unnamed { step, dd } => Resolution::Means(Key::Unnamed {
-            step: *step,
-            dd: *dd,
-        }),
-    }
-}
-
-fn relative(store: &SoloStore, base: &DsName, sign: Sign, amount: u8) -> Resolution
-    ensures { result ≡ resolution_of (store_of store.now) (key.Relative base.now sign amount) }
-{
-    if base.as_slice().len() > MOST_OF_A_BASE {
-        return Resolution::Fails(Fault::F5);
-    }
-    let Some(group) = group_of(store, base) else {
-        return Resolution::Fails(Fault::F5);
-    };
-    match group.resolve(sign, amount) {
-        Ok(number) => match base.generation(number) {
-            Some(name) => Resolution::Means(Key::Named(name)),
-            None => Resolution::Fails(Fault::F5),
-        },
-        Err(GroupFault::TooHigh) => Resolution::Fails(Fault::F9),
-        Err(_) => Resolution::Fails(Fault::F5),
     }
 }
 

@@ -4,6 +4,7 @@ use cat_core::catalog::Catalog;
 use group_core::entry::CatEntry;
 use group_core::group::Group;
 use jcl_meaning::store::{SoloEntry, SoloSet};
+use jcl_plan::plan::MOST_TRACKS;
 use jname_core::ds_name::DsName;
 use mount_core::mounted::Mounted;
 use mount_core::place::KeptPlace;
@@ -30,7 +31,7 @@ fn unusable_of(alloc: Global, used: &[Used], told: &mut Told) -> Option<Listed<E
 
 /// An empty volume.
 fn mounted(alloc: Global, volume: &CaseVolume, told: &mut Told) -> Option<Mounted> {
-    if volume.tracks > 4000 {
+    if volume.tracks > MOST_TRACKS {
         return None;
     }
     let unusable = unusable_of(alloc, volume.used.as_slice(), told)?;

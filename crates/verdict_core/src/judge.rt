@@ -9,7 +9,6 @@ ghost use Rattle.verdict_core.specs.Judging.{IsJudged};
 
 use crate::known::KnownPlan;
 use crate::verdict::{Finding, verdict_in};
-use disp_core::resolve::meanings_of;
 use jcl_meaning::meanings::Meanings;
 use jcl_meaning::state::Place;
 use jcl_plan::day::Day;
@@ -18,6 +17,7 @@ use place_core::place::place_sets;
 use plain::listed::Listed;
 use shared_core::store::SharedStore;
 use std::alloc::{AllocError, Global};
+use store_core::meanings::{SeenBy, meanings_of};
 
 /// Where a job's sets are placed, what its keys mean, and what may become of it so.
 #[derive(Drop)]
@@ -46,7 +46,11 @@ pub fn judge(
     ensures same { known.new ≡ known.old }
 {
     let places = place_sets(alloc, store, job, known.plan(), units)?;
-    let meanings = meanings_of(alloc, known.plan(), &*store, job)?;
+    let seen = SeenBy {
+        store: &*store,
+        job,
+    };
+    let meanings = meanings_of(alloc, known.plan(), &seen)?;
     let finding = verdict_in(
         alloc,
         &*store,

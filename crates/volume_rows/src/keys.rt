@@ -1,6 +1,8 @@
 //! Names, keys and tracks as words.
 ghost use Rattle.std.specs.Prelude.{◌≤◌};
+ghost use Rattle.jcl_plan.specs.declared.plan.TheConstants.{MOST_TRACKS};
 
+use jcl_plan::plan::MOST_TRACKS;
 use jname_core::ds_name::{DsName, read_ds_name};
 use row_table::desk::Line;
 use row_table::names::{ds_name, name8};
@@ -80,10 +82,10 @@ pub(crate) fn keys_in(alloc: Global, line: &mut Line<'_>) -> Vec<SetKey> {
 
 /// Takes the next word as the tracks of a volume, 4,000 at most.
 pub(crate) fn volume_tracks(words: &mut Words<'_>) -> u16
-    ensures { result ≤ 4000 }
+    ensures { result ≤ MOST_TRACKS }
 {
     let tracks = words.short();
-    if tracks <= 4000 {
+    if tracks <= MOST_TRACKS {
         return tracks;
     }
     words.refuse();

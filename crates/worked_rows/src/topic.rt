@@ -40,7 +40,7 @@ impl Subject for Topic {
             Topic::Records => record_rows::answer(alloc, input, told),
             Topic::Machine => machine_rows::answer(alloc, input, told),
             Topic::Stores => store_rows::answer(alloc, input, told),
-            Topic::Sessions => session_rows::answer(alloc, input, told),
+            Topic::Sessions => crate::sessions::answer(alloc, input, told),
             Topic::Paths => path_rows::answer(alloc, input, told),
         }
     }

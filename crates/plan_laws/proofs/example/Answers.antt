@@ -6,7 +6,7 @@ use Rattle.jcl_cards.specs.declared.coded.Coded.TheVariants.{NotGiven, Value}
 use Rattle.value_core.specs.declared.reference.DdReference.TheVariants.{Dd}
 use Rattle.value_core.specs.declared.set.SetName.TheVariants as name
 use Rattle.value_core.specs.declared.set.VolumeName.TheVariants as coded_volume
-use Rattle.jcl_cards.specs.declared.dd.DdCard.{DdCard}
+use Rattle.jcl_dds.specs.declared.dd.DdCard.{DdCard}
 use Rattle.plan_laws.specs.Examples.{a_step, card}
 use Rattle.statement_laws.specs.Ranges.{IsSoundDd}
 use Rattle.deck_laws.specs.Sound.{IsSoundStep}

@@ -36,8 +36,9 @@ returns c =
     ∙ ap (λ (r : Rule). record r { long = Some (codes "explain") }) c.new-3.ensures.rule) in
     let explain_own : c.help-explain.result.global ≡ false = ap (λ (a : Arg). a.global) c.help-explain.ensures ∙ ap (λ (a : Arg). a.global) c.action.ensures
     ∙ ap (λ (a : Arg). a.global) c.long-3.ensures ∙ c.new-3.ensures.optional.1 in
-    let base_is : app_of c.override_usage.result ≡ with_version (new_app c.args.program.now.name.now) = search rules in
+    let base_is : app_of c.override_usage-command.result ≡ with_version (new_app c.args.program.now.name.now) = search rules in
+    let named_is : app_of c.with_end.result ≡ with_version (new_app c.args.program.now.name.now) = c.with_end.ensures ∙ base_is in
     let words_are : AreChoices c.as_slice.result = ap (map (λ word. word.now)) c.as_slice.ensures in
     is_program _ _ _ _ c.with_flags.result c.with_flags.ensures words_are (c.in_ok-command.ensures.shape explain_own
     ∙ ap₂ with_rule (c.in_ok-arg-2.ensures.shape views_own
-    ∙ ap₂ with_rule (c.in_ok-arg.ensures.shape own ∙ ap₂ with_rule base_is risk_is) views_is) explain_is)
+    ∙ ap₂ with_rule (c.in_ok-arg.ensures.shape own ∙ ap₂ with_rule named_is risk_is) views_is) explain_is)

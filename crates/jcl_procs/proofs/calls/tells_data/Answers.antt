@@ -1,8 +1,8 @@
 use Rattle.std.proofs.Common.{◌≡◌, sym, ap, ◌∙◌}
 use Rattle.std.proofs.lemmas.Result.{IfOk-weaker}
 use Rattle.operand_core.specs.Operands.{first_of, operand_of}
-use Rattle.jcl_cards.specs.DdCards.{dd_card, has_data}
-use Rattle.jcl_cards.specs.Dds.{is_data_word}
+use Rattle.jcl_dds.specs.DdCards.{dd_card, has_data}
+use Rattle.jcl_dds.specs.Dds.{is_data_word}
 use Rattle.jcl_procs.specs.Calling.{TellsData}
 use Rattle.jcl_procs.proofs.Called.{data_is, read_value}
 use Rattle.jcl_procs.proofs.calls.tells_data.Goals as goal

@@ -1,5 +1,5 @@
 use Rattle.std.proofs.lemmas.Grind.{common_steps}
-use Rattle.jcl_cards.specs.declared.dd.DdCard.{DdCard}
+use Rattle.jcl_dds.specs.declared.dd.DdCard.{DdCard}
 use Rattle.std.proofs.Common.{◌≡◌, Some, slice_get, ◌∙◌, ap, sym, rules, arith, ◌+◌, Result, Ok}
 use Rattle.std.proofs.lemmas.Result.{err_from_is_err_and}
 use Rattle.jcl_plan.specs.declared.fault.Cause.{Cause}

@@ -1,7 +1,7 @@
 use Rattle.std.proofs.Common.{ℕ, List, ◌++◌, drop, length}
 use Rattle.session_text.specs.declared.statement.Statement.{Statement}
 use Rattle.session_core.specs.Marks.{AreMarks}
-use Rattle.session_core.specs.declared.Options.{Options}
+use Rattle.run_options.specs.declared.Options.{Options}
 use Rattle.session_core.proofs.Marked.{Passed}
 use Rattle.session_core.proofs.listing.line_at.Given as goal
 

@@ -8,4 +8,4 @@ returns c = λ config sound apart.
     (first_of c.args.options config _ _ _ c.in_ok-system.system c.refuses.ensures c.from-views.ensures c.requires.empty (c.in_ok-system.ensures.started config sound apart)).0
 
 pub new-requires-clause-layout : goal.new-requires-clause-layout
-new-requires-clause-layout c = subst (λ q. IsForMachine q.layout) (sym c.requires.empty) c.first_layout_is_for_machine.ensures
+new-requires-clause-layout c = subst (λ q. IsForMachine q.layout) (sym c.requires.empty) c.queue_layout_is_for_machine.ensures

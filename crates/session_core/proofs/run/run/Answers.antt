@@ -1,5 +1,5 @@
 use Rattle.std.proofs.Common.{[], refl, sym, subst, inr}
-use Rattle.session_core.specs.declared.Options.{Options}
+use Rattle.run_options.specs.declared.Options.{Options}
 use Rattle.session_core.proofs.Progress.{with_options}
 use Rattle.session_core.proofs.Started.{IsFirst, same_options}
 use Rattle.session_core.proofs.Streams.{appended_none}

@@ -1,6 +1,6 @@
 use Rattle.std.proofs.Common.{Result, ◌++◌, map, sym, subst}
 use Rattle.jcl_plan.specs.declared.fault.Cause.{Cause}
-use Rattle.jcl_cards.specs.DdCards.{dd_card}
+use Rattle.jcl_dds.specs.DdCards.{dd_card}
 use Rattle.jcl_deck.specs.Decks.{Place, dd_place_faults, not_first}
 use Rattle.jcl_deck.specs.Places.{Moves, denoted, with_dd}
 use Rattle.jcl_deck.proofs.Taken.{taken_card, taken_refused}

@@ -1,7 +1,7 @@
 use Rattle.std.proofs.Common.{ℕ, List, ap, ◌∙◌, subst}
 use Rattle.operand_core.specs.Faults.{told}
 use Rattle.value_core.specs.Reads.{Gives, answer}
-use Rattle.jcl_cards.specs.DdCards.{dd_card}
+use Rattle.jcl_dds.specs.DdCards.{dd_card}
 use Rattle.jcl_procs.specs.Calls.{dd_faults}
 use Rattle.jcl_procs.specs.Calling.{dd_faults_with, denoted}
 use Rattle.jcl_procs.proofs.Called.{dd_faults_are, placed_is}

@@ -3,7 +3,7 @@ use Rattle.std.proofs.lemmas.Result.{err_from_is_err_and}
 use Rattle.operand_core.specs.Faults.{told}
 use Rattle.value_core.specs.Reads.{Gives, answer}
 use Rattle.jcl_symbols.specs.Substitutions.{substituted}
-use Rattle.jcl_cards.specs.DdCards.{dd_card, dd_name_faults}
+use Rattle.jcl_dds.specs.DdCards.{dd_card, dd_name_faults}
 use Rattle.jcl_procs.specs.Calls.{dd_faults}
 use Rattle.jcl_procs.specs.Calling.{call_of, dd_placed, denoted, or_earliest}
 use Rattle.jcl_procs.proofs.Called.{read_refused, read_whole}

@@ -1,6 +1,0 @@
-use Rattle.std.proofs.Common.{◌≡◌, ◌++◌, [], drop}
-use Rattle.answer_core.specs.Telling.{decks_from}
-use Rattle.answer_core.proofs.session.add_all_unread.Given as goal
-
-abbrev pub invariant-loop-at : goal.invariant-loop-at
-invariant-loop-at l = l.fn.decks.items ++ decks_from l.fn.from (drop l.fn.from l.statements) [] ≡ l.decks.items ++ decks_from l.at (drop l.at l.statements) []

@@ -1,5 +1,0 @@
-use Rattle.answer_core.proofs.Owning.{HasRun}
-use Rattle.answer_core.proofs.session.run_own.Given as goal
-
-abbrev pub invariant-loop-at : goal.invariant-loop-at
-invariant-loop-at l = HasRun l.statements l.fn.from l.at l.fn.system l.system l.decks.items l.fn.by_job.items l.by_job.items

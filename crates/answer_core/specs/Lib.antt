@@ -1,4 +1,0 @@
-pub mod Answers
-pub mod Reading
-pub mod Telling
-pub mod Words

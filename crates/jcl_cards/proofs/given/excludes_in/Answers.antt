@@ -1,8 +1,0 @@
-use Rattle.std.proofs.Common.{sym, ◌∙◌}
-use Rattle.std.specs.Option.{option_copied}
-use Rattle.jcl_cards.proofs.Absent.{unasked}
-use Rattle.jcl_cards.proofs.given.excludes_in.Goals as goal
-
-pub returns-then-not-may_exclude : goal.returns-then-not-may_exclude
-returns-then-not-may_exclude c =
-    sym (unasked (option_copied c.args.first) c.args.keywords.now (sym c.may_exclude.ensures ∙ c.if-not-may_exclude.true))

@@ -1,0 +1,11 @@
+//! What admission answers the jobs of a session, told for each deck that the session reads, and that in words.
+
+pub mod answer;
+mod cause;
+mod names;
+mod noted;
+mod path;
+mod risk;
+pub mod session;
+mod told;
+pub mod words;
