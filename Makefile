@@ -1,6 +1,9 @@
 # Needs the Rattle toolchain (`rt` on the path).
 
-.PHONY: help test run mvt tools check play picture test-check test-play pictures examples documents rows hostile bench
+.PHONY: help test run mvt tools install check play picture test-check test-play test-install pictures examples documents rows hostile bench
+
+# Where `make install` copies the programs to.
+PREFIX ?= /usr/local
 
 # The session that `make run`, `make check`, `make play` and `make picture` read.
 SESSION ?= examples/first.session
@@ -16,6 +19,8 @@ help:
 	@echo '                          moves, and ./mvt-picture, which draws one'
 	@echo 'make check [SESSION=FILE]    says why the decks of a session are refused; make play [SESSION=FILE] plays it on;'
 	@echo '                          make picture [SESSION=FILE] draws it to picture.svg: with the programs as they stand, not proved'
+	@echo 'make install [PREFIX=DIR]  copies the programs that make mvt and make tools built, with a manual page for each, to DIR (/usr/local)'
+	@echo 'make test-install         installs them to a folder of its own, and looks at what is there'
 	@echo 'make test-check           compares the sessions of tests/check/ with ./mvt-check'
 	@echo 'make pictures             draws each session of examples/ with ./mvt-picture and reads the pictures as XML'
 	@echo 'make test-play            compares the sessions of tests/play/ with ./mvt-play and ./mvt'
@@ -57,6 +62,13 @@ mvt-play: $(SOURCES)
 mvt-picture: $(SOURCES)
 	cd crates/mvt_picture && rt run </dev/null >/dev/null
 	cp crates/mvt_picture/out/mvt_picture mvt-picture
+
+# Copies the proved programs and their manual pages, which are made from what they print of themselves. Nothing is built.
+install:
+	@tests/install.sh '$(DESTDIR)$(PREFIX)'
+
+test-install: mvt tools
+	tests/install.sh --test
 
 # The tools on a session. Nothing is proved.
 check: mvt-check-unproved
