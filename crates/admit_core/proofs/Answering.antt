@@ -13,7 +13,7 @@ use Rattle.path_meaning.specs.Verdicts.{IsEarliest, IsFirstWithMore, IsFree}
 use Rattle.path_search.specs.declared.verdict.RiskReport.{RiskReport}
 use Rattle.path_search.specs.declared.verdict.Verdict.{Verdict}
 use Rattle.path_search.specs.declared.verdict.Verdict.TheVariants as verdict
-use Rattle.reach_laws.specs.Paths.{MadeIsConfigured}
+use Rattle.path_laws.specs.Paths.{MadeIsConfigured}
 use Rattle.world_meaning.specs.Admissions.{explained}
 use Rattle.world_meaning.specs.Lenses.{seen}
 use Rattle.shared_core.specs.Shown.{world_store_of}

@@ -32,13 +32,13 @@ use Rattle.case_laws.proofs.KeptAlone.{without_none}
 use Rattle.case_laws.proofs.Placing.{placed}
 use Rattle.case_laws.proofs.Unmade.{in_none, no_places, none_kept}
 use Rattle.law_core.proofs.Elements.{contains_first}
-use Rattle.reach_laws.specs.Deciding.{SomeFault}
-use Rattle.reach_laws.proofs.Deciding.{decided}
-use Rattle.reach_laws.proofs.Before.{stands_before}
-use Rattle.reach_laws.proofs.Making.{made_configured}
-use Rattle.reach_laws.proofs.Parts.{path_ends}
-use Rattle.view_laws.proofs.PartsLeave.{part_leaves}
-use Rattle.view_laws.proofs.PartsSee.{part_sees}
+use Rattle.path_laws.specs.Deciding.{SomeFault}
+use Rattle.path_laws.proofs.Deciding.{decided}
+use Rattle.path_laws.proofs.Before.{stands_before}
+use Rattle.path_laws.proofs.Making.{made_configured}
+use Rattle.path_laws.proofs.Parts.{path_ends}
+use Rattle.path_laws.proofs.PartsLeave.{part_leaves}
+use Rattle.path_laws.proofs.PartsSee.{part_sees}
 
 -- some lines, with what they leave to all jobs and to the initiator
 abbrev pub WentOn : Config → Shared → Running → Stage → Type 0

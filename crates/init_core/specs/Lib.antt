@@ -7,3 +7,5 @@ pub mod Extents
 pub mod Choosing
 pub mod Providing
 pub mod Answering
+pub use Rattle.admit_core.specs.Admissions
+pub use Rattle.admit_core.specs.Told

@@ -5,7 +5,8 @@ ghost use Rattle.init_core.specs.declared.running.Progress.TheVariants as progre
 ghost use Rattle.machine_meaning.specs.declared.config.TheConstants.{MOST_UNITS};
 ghost use Rattle.plain.specs.Lists.{all_different};
 
-use admit_core::admission::{AdmittedJob, NamedJob};
+use admit_core::admission::AdmittedJob;
+pub use admit_core::admission::NamedJob;
 use enq_core::table::Want;
 use jcl_plan::entry::JobLine;
 use jcl_plan::plan::JobPlan;

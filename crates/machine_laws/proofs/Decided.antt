@@ -13,8 +13,8 @@ use Rattle.world_meaning.specs.Choices.{AtAction, Choice}
 use Rattle.world_meaning.specs.Turns.{Advanced}
 use Rattle.world_meaning.specs.Worlds.{Admission, World}
 use Rattle.turn_core.specs.Performing.{growth_by, growth_granted, primary_by}
-use Rattle.init_core.specs.Choosing.{IsChosenByVolumes}
-use Rattle.init_core.specs.Turning.{answers_of}
+use Rattle.sched_core.specs.Choosing.{IsChosenByVolumes}
+use Rattle.sched_core.specs.Turning.{answers_of}
 use Rattle.machine_laws.specs.Deciding.{ActionsAreTold, GrowthIsRefused, IsAction, PrimaryIsRefused, SetsArePlaced}
 use Rattle.sched_core.specs.Systems.{Machine, Steps, denoting, meant_by, world_of}
 use Rattle.machine_laws.proofs.ActionFacts.{ToldOf, at_step}

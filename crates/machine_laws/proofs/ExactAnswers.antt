@@ -13,7 +13,7 @@ use Rattle.jcl_meaning.specs.Agendas.{agenda}
 use Rattle.cb_meaning.specs.Walks.{first_fault}
 use Rattle.walk_laws.specs.WalkLaws.{DenotedHasNoFault, DenotesSome}
 use Rattle.path_meaning.specs.Verdicts.{IsNeverTwo}
-use Rattle.reach_laws.specs.OneAnswer.{IsOneAnswer}
+use Rattle.path_laws.specs.OneAnswer.{IsOneAnswer}
 use Rattle.world_meaning.specs.declared.event.Event.{Event}
 use Rattle.world_meaning.specs.declared.event.Event.TheVariants as event
 use Rattle.world_meaning.specs.Cancels.{admitted as cancels_admitted, no_job, selected as cancels_selected, waiting as cancels_waiting}
@@ -30,9 +30,9 @@ use Rattle.world_meaning.specs.Worlds.{Admission, Admitted, Initiator, IsAt, Nam
 use Rattle.world_meaning.specs.Zaps.{not_owned, selected as zaps_selected, zapped}
 use Rattle.law_core.proofs.Over.{advance_stands, fewer, unanswered}
 use Rattle.law_core.proofs.PlainLines.{is_of_admission}
-use Rattle.admit_core.specs.Told.{IsTold, assured, fixed_by_room, no_space, risk, too_many}
+use Rattle.sched_core.specs.Told.{IsTold, assured, fixed_by_room, no_space, risk, too_many}
 use Rattle.jcl_meaning.specs.declared.state.Place.{Place}
-use Rattle.init_core.specs.Choosing.{IsAdmittedByVolumes, IsChosenByVolumes, lines_answered, with_refusal}
+use Rattle.sched_core.specs.Choosing.{IsAdmittedByVolumes, IsChosenByVolumes, lines_answered, with_refusal}
 use Rattle.machine_laws.specs.Answers.{AnswersAreExact, AreExact, IsBroken, IsExact, IsExactly, IsThere}
 use Rattle.sched_core.specs.Systems.{Machine, denoting, meant_by, world_of}
 use Rattle.machine_laws.proofs.OnlyAnswers.{only_one}

@@ -8,12 +8,12 @@ use Rattle.jcl_meaning.specs.declared.state.Place.{Place}
 use Rattle.jcl_meaning.specs.Agendas.{budget_of}
 use Rattle.jcl_meaning.specs.States.{Fixed}
 use Rattle.path_meaning.specs.Verdicts.{IsNeverTwo}
-use Rattle.reach_laws.specs.OneAnswer.{IsOneAnswer}
+use Rattle.path_laws.specs.OneAnswer.{IsOneAnswer}
 use Rattle.world_meaning.specs.Admissions.{tracks_asked}
 use Rattle.world_meaning.specs.Lenses.{seen}
 use Rattle.shared_core.specs.Shown.{world_store_of}
 use Rattle.shared_core.specs.declared.store.SharedStore.{SharedStore}
-use Rattle.admit_core.specs.Told.{IsTold, assured, no_space, refused_by, risk, too_many}
+use Rattle.sched_core.specs.Told.{IsTold, assured, no_space, refused_by, risk, too_many}
 use Rattle.machine_laws.specs.Answers.{IsSameAnswer}
 
 some_value : (a : Option (List ℕ)) (s t : List ℕ) → a ≡ Some s → a ≡ Some t → t ≡ s

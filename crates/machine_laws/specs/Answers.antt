@@ -13,7 +13,7 @@ use Rattle.walk_laws.specs.WalkLaws.{DenotesSome}
 use Rattle.session_input.specs.declared.event.Event.{Event}
 use Rattle.world_meaning.specs.Worlds.{Named, Running, Selected, Stage, World}
 use Rattle.law_core.specs.Soundness.{RunsAt}
-use Rattle.admit_core.specs.Told.{IsTold, fixed_by_room}
+use Rattle.sched_core.specs.Told.{IsTold, fixed_by_room}
 use Rattle.sched_core.specs.Systems.{Along, Drives, IsDriven, Machine, Steps, world_of}
 
 -- the job of an initiator, so far

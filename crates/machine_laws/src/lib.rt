@@ -9,8 +9,8 @@ ghost use Rattle.machine_laws.specs.Next.{NextVolumesAreDecided};
 ghost use Rattle.machine_laws.specs.Sessions.{AnswersOfSession, VolumesDecideSession};
 
 use next_laws::next_store_is_decided;
+use path_laws::is_one_answer;
 use path_meaning::is_never_two;
-use reach_laws::is_one_answer;
 use walk_laws::denoted_has_no_fault;
 
 /// What a session puts into the machine and the events that it can bring are the same, one by one.

@@ -6,7 +6,7 @@ use Rattle.std.proofs.lemmas.Bool.{cases_lt}
 use Rattle.jcl_plan.specs.declared.plan.JobPlan.{JobPlan}
 use Rattle.jcl_plan.specs.declared.plan.StepPlan.{StepPlan}
 use Rattle.jcl_plan.specs.declared.plan.Test.{Test}
-use Rattle.view_laws.proofs.PartsSee.{behind}
+use Rattle.path_laws.proofs.PartsSee.{behind}
 use Rattle.view_core.specs.Bits.{bits_kept, kept_tests}
 use Rattle.packed_core.specs.declared.room.Room.{Room}
 use Rattle.packed_core.specs.Rooms.{count_in, room_at}

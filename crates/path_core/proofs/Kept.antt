@@ -54,7 +54,7 @@ use Rattle.jcl_meaning.specs.Views.{View, kind_refers, ran_to, refers, shown_set
 use Rattle.path_core.specs.KeptSets.{AtMostKeeps, IsAtMostKept, IsKept, is_new, keeps, keeps_after_abend}
 use Rattle.path_core.specs.Untested.{HasNoTests}
 use Rattle.path_meaning.specs.Verdicts.{IsFree}
-use Rattle.reach_laws.specs.Paths.{AreAllViews, AreFew}
+use Rattle.path_laws.specs.Paths.{AreAllViews, AreFew}
 
 -- a set that was taken, was not made, and is there
 record StandsTaken (store : Store) (t : TakenSet) : Type 0 where

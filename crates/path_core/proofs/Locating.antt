@@ -12,11 +12,11 @@ use Rattle.jcl_meaning.specs.Solo.{at_start, given, run}
 use Rattle.jcl_meaning.specs.States.{Fixed, State}
 use Rattle.jcl_meaning.specs.Stores.{Store}
 use Rattle.jcl_meaning.specs.Views.{ran_to}
-use Rattle.reach_laws.specs.Paths.{before_part}
-use Rattle.reach_laws.proofs.Parts.{cut_at_part, cut_behind, front_and_part, front_of, get_behind, last_part}
+use Rattle.path_laws.specs.Paths.{before_part}
+use Rattle.path_laws.proofs.Parts.{cut_at_part, cut_behind, front_and_part, front_of, get_behind, last_part}
 use Rattle.solo_core.specs.Meets.{meets_in}
 use Rattle.solo_core.proofs.Runs.{meets_in-append}
-use Rattle.view_laws.specs.PathParts.{path_part}
+use Rattle.path_laws.specs.PathParts.{path_part}
 use Rattle.path_core.proofs.Members.{get_front}
 use Rattle.path_core.proofs.MetPlaces.{meets_size}
 

@@ -26,16 +26,16 @@ use Rattle.path_meaning.specs.Paths.{FaultPlace, fates_in, fault_place, path_sho
 use Rattle.path_meaning.specs.Verdicts.{IsEarliest}
 use Rattle.path_search.proofs.PartPlaces.{all_of_part, at_place}
 use Rattle.path_search.proofs.Across.{drop_inside}
-use Rattle.reach_laws.specs.Paths.{before_part}
-use Rattle.reach_laws.proofs.Before.{fits_before}
-use Rattle.reach_laws.proofs.Fates.{tells_fates}
-use Rattle.reach_laws.proofs.Faults.{met_within}
-use Rattle.reach_laws.proofs.Parts.{cut_at_part, front_of, path_begins}
+use Rattle.path_laws.specs.Paths.{before_part}
+use Rattle.path_laws.proofs.Before.{fits_before}
+use Rattle.path_laws.proofs.Fates.{tells_fates}
+use Rattle.path_laws.proofs.Faults.{met_within}
+use Rattle.path_laws.proofs.Parts.{cut_at_part, front_of, path_begins}
 use Rattle.solo_core.specs.Meets.{meets_in}
 use Rattle.solo_core.proofs.Runs.{meets_in-append}
-use Rattle.view_laws.specs.PathParts.{IsBefore, next_outcome, part_from, part_runs, path_part}
-use Rattle.view_laws.specs.ViewLaws.{DidTheSame}
-use Rattle.view_laws.proofs.PartsSee.{part_sees}
+use Rattle.path_laws.specs.PathParts.{IsBefore, next_outcome, part_from, part_runs, path_part}
+use Rattle.path_laws.specs.ViewLaws.{DidTheSame}
+use Rattle.path_laws.proofs.PartsSee.{part_sees}
 use Rattle.path_core.proofs.Locating.{Located, locate, meets_at_part}
 use Rattle.path_core.proofs.Members.{get_front}
 use Rattle.path_core.proofs.MetPlaces.{meets_from, meets_size, met_from}

@@ -8,7 +8,7 @@ use Rattle.jcl_plan.specs.declared.outcome.Fate.{Fate}
 use Rattle.jcl_plan.specs.declared.outcome.Outcome.{Outcome}
 use Rattle.path_meaning.specs.Certificates.{AreOfFates}
 use Rattle.path_meaning.specs.Paths.{fate_told, fates_in}
-use Rattle.reach_laws.proofs.Seeing.{fates_append}
+use Rattle.path_laws.proofs.Seeing.{fates_append}
 use Rattle.path_core.specs.FatesMet.{IsOfFateAt}
 
 -- a line more

@@ -16,16 +16,16 @@ use Rattle.jcl_meaning.specs.Views.{ran_to}
 use Rattle.meaning_laws.specs.Laws.{behind, joined}
 use Rattle.part_laws.specs.Fits.{Fits}
 use Rattle.path_meaning.specs.Paths.{fates_in, path_shown}
-use Rattle.reach_laws.specs.Paths.{before_part, part_ran}
-use Rattle.reach_laws.proofs.Before.{both_clean, fits_before, one_step_more, stands_before}
-use Rattle.reach_laws.proofs.Fates.{tells_fates}
-use Rattle.reach_laws.proofs.Parts.{get_behind, get_in_front, path_begins}
-use Rattle.reach_laws.proofs.Seeing.{fates_append}
-use Rattle.step_laws.proofs.Starting.{step_starts}
-use Rattle.view_laws.specs.PathParts.{IsBefore, part_runs}
-use Rattle.view_laws.specs.ViewLaws.{DidTheSame}
-use Rattle.view_laws.proofs.PartsLeave.{part_leaves}
-use Rattle.view_laws.proofs.PartsSee.{part_sees}
+use Rattle.path_laws.specs.Paths.{before_part, part_ran}
+use Rattle.path_laws.proofs.Before.{both_clean, fits_before, one_step_more, stands_before}
+use Rattle.path_laws.proofs.Fates.{tells_fates}
+use Rattle.path_laws.proofs.Parts.{get_behind, get_in_front, path_begins}
+use Rattle.path_laws.proofs.Seeing.{fates_append}
+use Rattle.path_laws.proofs.Starting.{step_starts}
+use Rattle.path_laws.specs.PathParts.{IsBefore, part_runs}
+use Rattle.path_laws.specs.ViewLaws.{DidTheSame}
+use Rattle.path_laws.proofs.PartsLeave.{part_leaves}
+use Rattle.path_laws.proofs.PartsSee.{part_sees}
 use Rattle.path_core.proofs.ShownOutcomes.{next_shown}
 
 module _ (fixed : Fixed) (plan : JobPlan) (store : Store) where

@@ -14,7 +14,7 @@ use Rattle.jcl_meaning.specs.History.{IsStepOutcome, is_abend, met_by}
 use Rattle.jcl_meaning.specs.RequestActs.{head_or}
 use Rattle.path_meaning.specs.Certificates.{AreOfFates, IsOfFate}
 use Rattle.path_meaning.specs.Paths.{path_shown, shown_code, shown_of}
-use Rattle.view_laws.specs.PathParts.{IsOneClass, MeetAlike, next_outcome}
+use Rattle.path_laws.specs.PathParts.{IsOneClass, MeetAlike, next_outcome}
 
 pub shown_size : (fates : List Fate) (os : List Outcome) → length (path_shown fates os) ≡ length fates
 shown_size [] os = refl

@@ -14,7 +14,7 @@ use jcl_plan::plan::{
 };
 use jname_core::ds_name::DsName;
 use jname_core::key::Key;
-use reach_laws::are_few;
+use path_laws::are_few;
 use store_core::job_store::JobStore;
 
 fn is_new(status: Status) -> bool

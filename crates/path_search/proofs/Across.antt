@@ -18,11 +18,11 @@ use Rattle.jcl_meaning.specs.Stores.{Store}
 use Rattle.jcl_meaning.specs.Views.{IsViewAfter, View, ran_to}
 use Rattle.part_laws.specs.Fits.{Fits}
 use Rattle.path_meaning.specs.Paths.{Makes}
-use Rattle.reach_laws.specs.Paths.{part_ran}
+use Rattle.path_laws.specs.Paths.{part_ran}
 use Rattle.view_domain.specs.declared.crossed.Crossed.{Crossed}
 use Rattle.view_domain.specs.declared.crossed.Crossed.TheVariants as crossed
 use Rattle.view_domain.specs.Crossings.{CameTo, IsCrossed}
-use Rattle.view_laws.specs.PathParts.{next_outcome}
+use Rattle.path_laws.specs.PathParts.{next_outcome}
 use Rattle.path_search.specs.declared.stops.Found.{Found}
 use Rattle.path_search.specs.Crossings.{AreStopsNoted, IsAcross, IsAlong, IsCrossing, IsKnown, IsLinked, IsMet, IsNothing, Known, NoneBefore}
 use Rattle.path_search.specs.Makings.{AreMarked, IsMarked, IsOfDd, made_of, no_rows, row_at}

@@ -23,12 +23,12 @@ use Rattle.jcl_meaning.specs.Views.{IsViewAfter, View, ran_to, view_at, view_of}
 use Rattle.meaning_laws.specs.Laws.{behind, joined}
 use Rattle.part_laws.specs.Fits.{Fits}
 use Rattle.path_meaning.specs.Paths.{Makes, fate_told, fates_in, path_shown, shown_of}
-use Rattle.reach_laws.specs.Paths.{before_part, part_ran}
+use Rattle.path_laws.specs.Paths.{before_part, part_ran}
 use Rattle.view_domain.specs.declared.crossed.Crossed.{Crossed}
 use Rattle.view_domain.specs.declared.crossed.Move.{Move}
 use Rattle.view_domain.specs.Crossings.{CameTo, ComesFrom, IsCrossed}
-use Rattle.view_laws.specs.PathParts.{next_outcome}
-use Rattle.view_laws.specs.ViewLaws.{DidTheSame}
+use Rattle.path_laws.specs.PathParts.{next_outcome}
+use Rattle.path_laws.specs.ViewLaws.{DidTheSame}
 use Rattle.path_search.specs.Crossings.{IsAlong, LeadsTo}
 use Rattle.path_search.specs.PathLaws.{PathLaws}
 

@@ -24,7 +24,7 @@ use Rattle.jcl_meaning.specs.Stores.{Store}
 use Rattle.jcl_meaning.specs.Views.{IsViewAfter, View, ran_to, view_at}
 use Rattle.part_laws.specs.Fits.{Fits}
 use Rattle.path_meaning.specs.Paths.{Makes, fates_in, shown_code, shown_of}
-use Rattle.reach_laws.specs.Paths.{part_ran}
+use Rattle.path_laws.specs.Paths.{part_ran}
 use Rattle.view_domain.specs.declared.crossed.Branch.{Branch}
 use Rattle.view_domain.specs.declared.crossed.Branch.TheVariants as branch
 use Rattle.view_domain.specs.declared.crossed.Crossed.{Crossed}
@@ -32,7 +32,7 @@ use Rattle.view_domain.specs.declared.crossed.Crossed.TheVariants as crossed
 use Rattle.view_domain.specs.declared.crossed.Move.{Move}
 use Rattle.view_domain.specs.declared.crossed.Stop.{Stop}
 use Rattle.view_domain.specs.Crossings.{AreFounded, CameTo, ComesFrom, IsBehindEnd, IsByAbend, IsByCode, IsCrossed, IsStop, branch_of, views_of}
-use Rattle.view_laws.specs.PathParts.{next_outcome, path_part}
+use Rattle.path_laws.specs.PathParts.{next_outcome, path_part}
 use Rattle.path_search.specs.declared.stops.Found.{Found}
 use Rattle.path_search.specs.declared.trail.Link.{Link}
 use Rattle.path_search.specs.Crossings.{AreStopsNoted, IsAlong, IsCrossing, IsKnown, IsLinked, IsMet, Known, LeadsTo, NoneBefore}

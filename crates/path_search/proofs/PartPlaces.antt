@@ -21,8 +21,8 @@ use Rattle.jcl_meaning.specs.States.{Done, Fixed, State, at_step, goes, if_runs,
 use Rattle.jcl_meaning.specs.TakeActs.{fate_at}
 use Rattle.path_meaning.specs.Paths.{FaultPlace, fates_in, fault_place}
 use Rattle.path_meaning.specs.Verdicts.{steps_over}
-use Rattle.reach_laws.specs.Paths.{before_part}
-use Rattle.view_laws.specs.PathParts.{part_from, path_part}
+use Rattle.path_laws.specs.Paths.{before_part}
+use Rattle.path_laws.specs.PathParts.{part_from, path_part}
 
 append_all : (P : Action → Type 0) (xs ys : List Action) → AllByRecursion P xs → AllByRecursion P ys → AllByRecursion P (xs ++ ys)
 append_all P [] ys a b = b

@@ -19,7 +19,7 @@ use Rattle.meaning_laws.specs.Laws.{behind, joined}
 use Rattle.part_laws.specs.Fits.{Fits}
 use Rattle.path_meaning.specs.Paths.{HasMoreViews, Makes}
 use Rattle.path_meaning.specs.Verdicts.{AreRising, FewViewsUpTo, IsFirstWithMore, IsFree, NoFaultUpTo}
-use Rattle.reach_laws.specs.Paths.{AreAllViews, before_part, part_ran}
+use Rattle.path_laws.specs.Paths.{AreAllViews, before_part, part_ran}
 use Rattle.path_search.specs.declared.stops.Found.{Found}
 use Rattle.path_search.specs.declared.trail.Link.{Link}
 use Rattle.path_search.specs.Crossings.{AreStopsNoted, IsAcross, IsAlong, IsLinked, Known, LeadsTo, NoneBefore}

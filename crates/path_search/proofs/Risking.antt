@@ -24,9 +24,9 @@ use Rattle.meaning_laws.specs.Laws.{behind, joined}
 use Rattle.part_laws.specs.Fits.{Fits}
 use Rattle.path_meaning.specs.Paths.{MeetsFault, fate_told, fault_place, fates_in, path_shown, shown_code, shown_of}
 use Rattle.path_meaning.specs.Verdicts.{FewViewsUpTo, IsEarliest}
-use Rattle.reach_laws.specs.Paths.{before_part, part_ran}
+use Rattle.path_laws.specs.Paths.{before_part, part_ran}
 use Rattle.view_domain.specs.Crossings.{IsStop}
-use Rattle.view_laws.specs.PathParts.{path_part}
+use Rattle.path_laws.specs.PathParts.{path_part}
 use Rattle.path_search.specs.declared.stops.Found.{Found}
 use Rattle.path_search.specs.declared.trail.Link.{Link}
 use Rattle.path_search.specs.declared.verdict.RiskReport.{RiskReport}

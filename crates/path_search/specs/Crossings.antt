@@ -12,7 +12,7 @@ use Rattle.jcl_meaning.specs.States.{Fixed}
 use Rattle.jcl_meaning.specs.Stores.{Store}
 use Rattle.jcl_meaning.specs.Views.{View, ran_to, view_at, view_of}
 use Rattle.path_meaning.specs.Paths.{Makes, fates_in, path_shown}
-use Rattle.reach_laws.specs.Paths.{part_ran}
+use Rattle.path_laws.specs.Paths.{part_ran}
 use Rattle.view_domain.specs.declared.crossed.Crossed.{Crossed}
 use Rattle.view_domain.specs.Crossings.{IsCrossed, IsStop}
 use Rattle.path_search.specs.declared.behind.Behind.{Behind}

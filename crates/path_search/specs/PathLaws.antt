@@ -1,6 +1,6 @@
 -- The laws of paths that the analysis rests on, together.
-use Rattle.reach_laws.specs.Paths.{AgendaHas, AreFew, FitsBefore, MadeByStep, NoneMadeAtEnd, PathBegins, PathEnds, PathGoesOn, PathSees, StandsBefore}
-use Rattle.reach_laws.specs.Paths.{TellsFates}
+use Rattle.path_laws.specs.Paths.{AgendaHas, AreFew, FitsBefore, MadeByStep, NoneMadeAtEnd, PathBegins, PathEnds, PathGoesOn, PathSees, StandsBefore}
+use Rattle.path_laws.specs.Paths.{TellsFates}
 
 pub record PathLaws : Type 0 where
   pub goes_on : PathGoesOn

@@ -9,7 +9,7 @@ use Rattle.jcl_meaning.specs.Stores.{Store}
 use Rattle.jcl_meaning.specs.Views.{View, ran_to}
 use Rattle.path_meaning.specs.Paths.{Makes}
 use Rattle.path_meaning.specs.Verdicts.{AreRising, FewViewsUpTo, NoFaultUpTo}
-use Rattle.reach_laws.specs.Paths.{AreAllViews}
+use Rattle.path_laws.specs.Paths.{AreAllViews}
 use Rattle.path_search.specs.declared.trail.Link.{Link}
 use Rattle.path_search.specs.Crossings.{LeadsTo}
 use Rattle.path_search.specs.Trails.{path_at}

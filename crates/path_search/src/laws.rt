@@ -1,7 +1,7 @@
 //! The laws of paths that the analysis rests on.
 ghost use Rattle.path_search.specs.PathLaws.{PathLaws};
 
-use reach_laws::{
+use path_laws::{
     agenda_has, are_few, fits_before, made_by_step, none_made_at_end, path_begins, path_ends,
     path_goes_on, path_sees, stands_before, tells_fates,
 };

@@ -17,8 +17,7 @@ use Rattle.shared_core.specs.Shown.{kept_extents, mounted_in}
 use Rattle.shared_core.specs.Tracks.{kept_tracks}
 use Rattle.shared_core.proofs.ShownLists.{any_shown}
 use Rattle.place_core.specs.Placings.{NothingKeptFor}
-use Rattle.admit_core.specs.declared.admission.NamedJob.{NamedJob}
-use Rattle.init_core.specs.Providing.{IsForAdmission, IsProvided, IsProvidedAt}
+use Rattle.init_core.specs.Providing.{IsProvided, IsProvidedAt}
 use Rattle.init_core.specs.Running.{shown_running, shown_stage}
 use Rattle.init_core.specs.declared.running.Running.{Running}
 use Rattle.init_core.specs.declared.running.Stage.{Stage}
@@ -59,14 +58,6 @@ module _ {Q : Type 0} (queue_of : Q → RecordQueue) (c : Config) (s : State Q) 
   nothing_kept unassured serial at same =
       none_for r.job (mounted_in s.parts.store.volumes serial) at same (none_before w kept.sound kept.supplied.kept place shown_r runs unassured serial)
 
-  for_admission : (named : NamedJob) → r.stage ≡ Named named → IsForAdmission s.parts r.job named.plan
-  for_admission named is = record {
-    nothing = nothing_kept (ap (λ (x : Stage). is_assured_at (shown_stage c r.walk x)) is);
-    formed = plan_formed c.layout.most_steps _ named.plan
-        (kept.sound.denoted place shown_r named.plan runs (ap (λ (x : Stage). plan_read (shown_stage c r.walk x)) is)).denoted.in_range;
-    groups = kept.sound.groups r.job;
-  }
-
   can_go_on : (stage : Stage) → r.stage ≡ stage → CanGoOn c w.shared r.job (shown_stage c r.walk stage)
   can_go_on stage is = subst (λ (x : Stage). CanGoOn c w.shared r.job (shown_stage c r.walk x)) is (kept.supplied.running place shown_r runs)
 
@@ -77,7 +68,12 @@ module _ {Q : Type 0} (queue_of : Q → RecordQueue) (c : Config) (s : State Q) 
   provided_at : (stage : Stage) → r.stage ≡ stage → IsProvidedAt queue_of c s.parts r.job r.walk stage
   provided_at (Selected first) is = tt
   provided_at (Wanting plan wants) is = tt
-  provided_at (Named named) is = for_admission named is
+  provided_at (Named named) is = record {
+    nothing = nothing_kept (ap (λ (x : Stage). is_assured_at (shown_stage c r.walk x)) is);
+    formed = plan_formed c.layout.most_steps _ named.plan
+        (kept.sound.denoted place shown_r named.plan runs (ap (λ (x : Stage). plan_read (shown_stage c r.walk x)) is)).denoted.in_range;
+    groups = kept.sound.groups r.job;
+  }
   provided_at (Admitted a) is = λ assured. record {
     programs = kept.sound.programs;
     fits = its_fit (Admitted a) is;

@@ -18,7 +18,7 @@ use Rattle.turn_core.specs.declared.walk.Walk.{Walk}
 use Rattle.machine_core.specs.Shown.{shown}
 use Rattle.machine_core.specs.declared.parts.Parts.{Parts}
 use Rattle.init_core.specs.Going.{IsToldOnce, Went}
-use Rattle.admit_core.specs.Admissions.{named_of}
+use Rattle.init_core.specs.Admissions.{named_of}
 use Rattle.init_core.specs.Running.{shown_admission, shown_running, shown_stage}
 use Rattle.init_core.specs.declared.running.Progress.TheVariants as progress
 use Rattle.init_core.specs.declared.running.Running.{Running}

@@ -14,3 +14,6 @@ pub mod Starting
 pub mod Zapping
 pub mod Views
 pub mod Promised
+pub use Rattle.init_core.specs.Choosing
+pub use Rattle.init_core.specs.Told
+pub use Rattle.init_core.specs.Turning

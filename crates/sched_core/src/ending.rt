@@ -1,9 +1,8 @@
 //! The end of the machine.
 use crate::state::{Initiator, State};
-use admit_core::admission::NamedJob;
 use cb_queue::store::RecordStore;
 use enq_core::table::EnqTable;
-use init_core::running::{Running, Stage};
+use init_core::running::{NamedJob, Running, Stage};
 
 /// What a job at an initiator holds is given free.
 fn spend(names: &mut EnqTable, x: Initiator) {

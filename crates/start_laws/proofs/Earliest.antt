@@ -17,12 +17,12 @@ use Rattle.jcl_meaning.specs.Views.{ran_to}
 use Rattle.meaning_laws.specs.Laws.{behind}
 use Rattle.path_meaning.specs.Paths.{FaultPlace, fates_in, fault_place, path_shown}
 use Rattle.path_meaning.specs.Verdicts.{IsEarliest, steps_over}
-use Rattle.reach_laws.specs.Paths.{before_part}
-use Rattle.reach_laws.proofs.Fates.{tells_fates}
-use Rattle.reach_laws.proofs.Faults.{met_within}
-use Rattle.reach_laws.proofs.Parts.{front_of, path_begins}
-use Rattle.reach_laws.proofs.Seeing.{fates_append}
-use Rattle.view_laws.specs.ViewLaws.{DidTheSame}
+use Rattle.path_laws.specs.Paths.{before_part}
+use Rattle.path_laws.proofs.Fates.{tells_fates}
+use Rattle.path_laws.proofs.Faults.{met_within}
+use Rattle.path_laws.proofs.Parts.{front_of, path_begins}
+use Rattle.path_laws.proofs.Seeing.{fates_append}
+use Rattle.path_laws.specs.ViewLaws.{DidTheSame}
 use Rattle.start_laws.specs.Starts.{IsAnalysed, SeesSame}
 use Rattle.start_laws.proofs.Ended.{ended_within}
 use Rattle.start_laws.proofs.Runs.{same_path, same_to, step_same}

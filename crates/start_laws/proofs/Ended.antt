@@ -11,8 +11,8 @@ use Rattle.jcl_meaning.specs.Agendas.{Action, Ask, Dispose, Finish, Left, Over, 
 use Rattle.jcl_meaning.specs.Agendas.{steps_from, takes_from}
 use Rattle.jcl_meaning.specs.Programs.{moves_of}
 use Rattle.path_meaning.specs.Paths.{FaultPlace, fault_place}
-use Rattle.reach_laws.specs.Paths.{before_part}
-use Rattle.reach_laws.proofs.Parts.{behind_front, cut_behind, front_of}
+use Rattle.path_laws.specs.Paths.{before_part}
+use Rattle.path_laws.proofs.Parts.{behind_front, cut_behind, front_of}
 
 -- an action of the steps up to this one
 abbrev IsOfSteps : ℕ → Action → Type 0

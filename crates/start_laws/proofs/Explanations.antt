@@ -30,7 +30,7 @@ use Rattle.jcl_meaning.specs.Stores.{Store}
 use Rattle.jcl_meaning.specs.TakeActs.{decided, takes, takes_set}
 use Rattle.jcl_meaning.proofs.Budgets.{budget_is-length}
 use Rattle.path_meaning.specs.Explanations.{path_lines, tells_fault, up_to_fault}
-use Rattle.reach_laws.proofs.Parts.{none_asked}
+use Rattle.path_laws.proofs.Parts.{none_asked}
 use Rattle.start_laws.proofs.Lines.{IsGiven, path_given}
 
 -- lines of which at most one is kept, before what is kept of the lines behind them

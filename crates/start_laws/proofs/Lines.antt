@@ -22,9 +22,9 @@ use Rattle.jcl_meaning.specs.Stores.{Store}
 use Rattle.part_laws.specs.Fits.{Fits}
 use Rattle.part_laws.proofs.ActsFit.{act_fits}
 use Rattle.part_laws.proofs.TakesAlike.{at}
-use Rattle.reach_laws.proofs.Parts.{none_asked}
-use Rattle.view_laws.proofs.PartsSee.{shown_of}
-use Rattle.view_laws.proofs.Sights.{ShowAlike}
+use Rattle.path_laws.proofs.Parts.{none_asked}
+use Rattle.path_laws.proofs.PartsSee.{shown_of}
+use Rattle.path_laws.proofs.Sights.{ShowAlike}
 use Rattle.start_laws.specs.Starts.{IsAnalysed, SeesSame}
 use Rattle.start_laws.proofs.LinesEnded.{dispose_same, finished_same, left_same}
 use Rattle.start_laws.proofs.LinesTaken.{StandAlike, WroteAlike, goes_on, if_runs_wrote, take_same}

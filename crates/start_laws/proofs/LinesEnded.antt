@@ -29,9 +29,9 @@ use Rattle.part_laws.specs.Fits.{AreTaken, IsDdHeld, IsHeldFor, IsPassed, sees_s
 use Rattle.part_laws.proofs.SameReads.{IsSeen}
 use Rattle.part_laws.proofs.Taken.{passed_there, taken_seen}
 use Rattle.part_laws.proofs.TakesAlike.{at}
-use Rattle.view_laws.proofs.ShownReads.{disposed_alike}
-use Rattle.view_laws.proofs.ShownWrites.{changed_alike, released_alike}
-use Rattle.view_laws.proofs.Sights.{ShowAlike}
+use Rattle.path_laws.proofs.ShownReads.{disposed_alike}
+use Rattle.path_laws.proofs.ShownWrites.{changed_alike, released_alike}
+use Rattle.path_laws.proofs.Sights.{ShowAlike}
 use Rattle.start_laws.proofs.LinesTaken.{WroteAlike, either_wrote, goes_on}
 
 module _ (names : List HeldName) (fixed : Fixed) (s t : Store) (h : ShowAlike names fixed.date s t) (own : Own) (answers : Answers) where

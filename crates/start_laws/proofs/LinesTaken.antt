@@ -22,9 +22,9 @@ use Rattle.jcl_meaning.specs.TakeActs.{decided, decision_at, refused, takes, tak
 use Rattle.jcl_meaning.specs.Takes.{decide, first_passed, is_known, looked_at, target_of}
 use Rattle.part_laws.specs.Fits.{IsDdHeld, IsHeldFor, IsVolumeHeld, sees_set}
 use Rattle.part_laws.proofs.TakesAlike.{at}
-use Rattle.view_laws.proofs.ShownReads.{catalogued_alike, there_alike, where_alike}
-use Rattle.view_laws.proofs.ShownWrites.{all_given_back_alike, made_alike}
-use Rattle.view_laws.proofs.Sights.{ShowAlike, TookAlike}
+use Rattle.path_laws.proofs.ShownReads.{catalogued_alike, there_alike, where_alike}
+use Rattle.path_laws.proofs.ShownWrites.{all_given_back_alike, made_alike}
+use Rattle.path_laws.proofs.Sights.{ShowAlike, TookAlike}
 
 -- stores that show the same, the same own state, and the same answers to come
 pub record StandAlike (names : List HeldName) (date : ℕ) (s t : State) : Type 0 where

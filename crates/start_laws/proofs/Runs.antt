@@ -17,14 +17,14 @@ use Rattle.jcl_meaning.specs.Stores.{Store}
 use Rattle.jcl_meaning.specs.Takes.{dd_volume}
 use Rattle.jcl_meaning.specs.Views.{ran_to, steps_refer, view_at}
 use Rattle.meaning_laws.specs.Laws.{behind, joined}
-use Rattle.reach_laws.specs.Paths.{before_part, part_ran}
-use Rattle.reach_laws.proofs.Before.{both_clean, fits_before, one_step_more, stands_before}
-use Rattle.reach_laws.proofs.Parts.{path_ends}
-use Rattle.reach_laws.proofs.Seeing.{fates_append}
-use Rattle.view_laws.specs.PathParts.{MeetAlike, next_outcome}
-use Rattle.view_laws.specs.ViewLaws.{DidTheSame}
-use Rattle.view_laws.proofs.PartsLeave.{part_leaves}
-use Rattle.view_laws.proofs.PartsSee.{part_sees}
+use Rattle.path_laws.specs.Paths.{before_part, part_ran}
+use Rattle.path_laws.proofs.Before.{both_clean, fits_before, one_step_more, stands_before}
+use Rattle.path_laws.proofs.Parts.{path_ends}
+use Rattle.path_laws.proofs.Seeing.{fates_append}
+use Rattle.path_laws.specs.PathParts.{MeetAlike, next_outcome}
+use Rattle.path_laws.specs.ViewLaws.{DidTheSame}
+use Rattle.path_laws.proofs.PartsLeave.{part_leaves}
+use Rattle.path_laws.proofs.PartsSee.{part_sees}
 use Rattle.start_laws.specs.Starts.{IsAnalysed, SeesSame}
 
 -- what it sees is the same both ways

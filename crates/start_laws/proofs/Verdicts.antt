@@ -11,10 +11,10 @@ use Rattle.jcl_meaning.specs.Stores.{Store}
 use Rattle.jcl_meaning.specs.Views.{IsViewAfter, View, ran_to}
 use Rattle.path_meaning.specs.Paths.{HasMoreViews, IsSafe, Makes}
 use Rattle.path_meaning.specs.Verdicts.{FewViewsUpTo, IsFirstWithMore, IsFree, NoFaultUpTo}
-use Rattle.reach_laws.specs.Paths.{before_part, part_ran}
-use Rattle.reach_laws.proofs.Before.{both_clean}
-use Rattle.reach_laws.proofs.Parts.{path_ends}
-use Rattle.view_laws.specs.ViewLaws.{DidTheSame}
+use Rattle.path_laws.specs.Paths.{before_part, part_ran}
+use Rattle.path_laws.proofs.Before.{both_clean}
+use Rattle.path_laws.proofs.Parts.{path_ends}
+use Rattle.path_laws.specs.ViewLaws.{DidTheSame}
 use Rattle.start_laws.specs.Starts.{IsAnalysed, SeesSame}
 use Rattle.start_laws.proofs.Runs.{as_clean, both_ways, same_path, same_to}
 

@@ -9,7 +9,7 @@ use Rattle.jcl_meaning.specs.States.{Fixed}
 use Rattle.jcl_meaning.specs.Stores.{Store}
 use Rattle.path_meaning.specs.Paths.{FaultPlace, MeetsFault, fault_place}
 use Rattle.path_meaning.specs.Verdicts.{IsNeverTwo}
-use Rattle.reach_laws.specs.OneAnswer.{IsOneAnswer}
+use Rattle.path_laws.specs.OneAnswer.{IsOneAnswer}
 use Rattle.path_search.specs.declared.verdict.Verdict.{Verdict}
 use Rattle.path_search.specs.declared.verdict.Verdict.TheVariants.{Risk, Safe, TooMany}
 use Rattle.path_search.specs.Verdicts.{IsVerdict}

@@ -19,9 +19,9 @@ use Rattle.jcl_meaning.specs.Stores.{Store}
 use Rattle.jcl_meaning.specs.Views.{ran_to}
 use Rattle.path_meaning.specs.Paths.{FaultPlace, MeetsFault, fates_in, fault_place, path_shown}
 use Rattle.path_search.proofs.PartPlaces.{at_place}
-use Rattle.reach_laws.proofs.Fates.{tells_fates}
-use Rattle.reach_laws.proofs.Parts.{path_begins}
-use Rattle.reach_laws.proofs.Seeing.{fates_append}
+use Rattle.path_laws.proofs.Fates.{tells_fates}
+use Rattle.path_laws.proofs.Parts.{path_begins}
+use Rattle.path_laws.proofs.Seeing.{fates_append}
 
 -- an action of one of so many steps, or of the job's end
 module _ (steps : ℕ) where

@@ -26,12 +26,12 @@ use Rattle.jcl_meaning.specs.Takes.{dd_volume}
 use Rattle.jcl_meaning.specs.Views.{View, kind_refers, steps_refer, view_at}
 use Rattle.part_laws.specs.Fits.{Fits}
 use Rattle.path_meaning.specs.Paths.{fates_in}
-use Rattle.view_laws.specs.PathParts.{IsBefore, next_outcome, part_from, path_part}
-use Rattle.view_laws.proofs.PartsSee.{behind, volume_if, volume_of}
-use Rattle.step_laws.specs.Steps.{DoTheSame, PassesOver, ShowTheSame, StartsFrom, behind_start}
-use Rattle.step_laws.proofs.Ending.{step_ends}
-use Rattle.step_laws.proofs.Showing.{step_does}
-use Rattle.step_laws.proofs.Starting.{step_passes, step_starts}
+use Rattle.path_laws.specs.PathParts.{IsBefore, next_outcome, part_from, path_part}
+use Rattle.path_laws.proofs.PartsSee.{behind, volume_if, volume_of}
+use Rattle.path_laws.specs.Steps.{DoTheSame, PassesOver, ShowTheSame, StartsFrom, behind_start}
+use Rattle.path_laws.proofs.StepEnding.{step_ends}
+use Rattle.path_laws.proofs.Showing.{step_does}
+use Rattle.path_laws.proofs.Starting.{step_passes, step_starts}
 use Rattle.view_domain.specs.declared.crossed.Stop.{Stop}
 use Rattle.view_domain.specs.Crossings.{IsStop}
 use Rattle.view_core.specs.declared.scene.Scene.{Scene}

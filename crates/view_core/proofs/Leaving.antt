@@ -15,8 +15,8 @@ use Rattle.jcl_meaning.specs.States.{Fixed, State}
 use Rattle.jcl_meaning.specs.Stores.{store_of}
 use Rattle.jcl_meaning.specs.Views.{View, view_at}
 use Rattle.part_laws.specs.Fits.{Fits}
-use Rattle.step_laws.proofs.Showing.{end_does}
-use Rattle.view_laws.specs.PathParts.{part_from, path_part}
+use Rattle.path_laws.proofs.Showing.{end_does}
+use Rattle.path_laws.specs.PathParts.{part_from, path_part}
 use Rattle.view_domain.specs.declared.crossed.Crossed.{Crossed}
 use Rattle.view_domain.specs.declared.crossed.Crossed.TheVariants as crossed
 use Rattle.view_domain.specs.declared.crossed.Stop.{Stop}

@@ -19,8 +19,8 @@ use Rattle.jcl_meaning.specs.Stores.{Store, store_of}
 use Rattle.jcl_meaning.specs.TakeActs.{fate_at}
 use Rattle.jcl_meaning.specs.Takes.{dd_volume}
 use Rattle.jcl_meaning.specs.Views.{View, shown_set, steps_refer, view_at}
-use Rattle.step_laws.specs.Steps.{HasStarted, ShowTheSame}
-use Rattle.view_laws.specs.PathParts.{IsBefore}
+use Rattle.path_laws.specs.Steps.{HasStarted, ShowTheSame}
+use Rattle.path_laws.specs.PathParts.{IsBefore}
 use Rattle.view_core.specs.declared.scene.Scene.{Scene}
 use Rattle.view_core.specs.Bits.{fate_shown, kept_tests, some_met}
 use Rattle.view_core.specs.PlainViews.{shown_parts, shown_so}

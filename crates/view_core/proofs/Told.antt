@@ -24,8 +24,8 @@ use Rattle.jcl_meaning.specs.Solo.{Ran, run}
 use Rattle.jcl_meaning.specs.States.{Fixed, State}
 use Rattle.jcl_meaning.specs.Views.{View, view_at}
 use Rattle.part_laws.specs.Fits.{Fits}
-use Rattle.step_laws.specs.Steps.{behind_start}
-use Rattle.view_laws.specs.PathParts.{IsBefore, next_outcome, path_part}
+use Rattle.path_laws.specs.Steps.{behind_start}
+use Rattle.path_laws.specs.PathParts.{IsBefore, next_outcome, path_part}
 use Rattle.view_domain.specs.declared.crossed.Branch.{Branch}
 use Rattle.view_domain.specs.declared.crossed.Branch.TheVariants as branch
 use Rattle.view_domain.specs.declared.crossed.Crossed.TheVariants as crossed

@@ -15,7 +15,7 @@ use Rattle.jcl_meaning.specs.Stores.{store_of}
 use Rattle.path_meaning.specs.Paths.{FaultPlace}
 use Rattle.disp_core.specs.Courses.{CarriedEnd, Does}
 use Rattle.disp_core.specs.declared.course.Course.{Course}
-use Rattle.step_laws.specs.Steps.{behind_start}
+use Rattle.path_laws.specs.Steps.{behind_start}
 use Rattle.view_domain.specs.declared.crossed.Stop.{Stop}
 use Rattle.view_core.specs.declared.scene.Scene.{Scene}
 use Rattle.view_core.specs.declared.walk.Under.{Under}

@@ -10,7 +10,7 @@ use Rattle.jcl_meaning.specs.declared.state.Place.{Place}
 use Rattle.jcl_meaning.specs.Agendas.{lefts_from}
 use Rattle.jcl_meaning.specs.Solo.{run}
 use Rattle.jcl_meaning.specs.States.{Fixed}
-use Rattle.step_laws.specs.Steps.{behind_start}
+use Rattle.path_laws.specs.Steps.{behind_start}
 use Rattle.view_domain.specs.declared.crossed.Stop.{Stop}
 use Rattle.view_core.specs.declared.leave.LeftDd.{LeftDd}
 use Rattle.view_core.specs.declared.legs.Legs.{Legs}

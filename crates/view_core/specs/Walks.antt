@@ -11,7 +11,7 @@ use Rattle.jcl_meaning.specs.Solo.{Ran, run}
 use Rattle.jcl_meaning.specs.States.{Answers, Fixed, State}
 use Rattle.jcl_meaning.specs.Stores.{store_of}
 use Rattle.path_meaning.specs.Paths.{fault_place}
-use Rattle.step_laws.specs.Steps.{behind_start}
+use Rattle.path_laws.specs.Steps.{behind_start}
 use Rattle.view_domain.specs.declared.crossed.Stop.{Stop}
 use Rattle.view_core.specs.declared.scene.Scene.{Scene}
 use Rattle.view_core.specs.declared.walk.Under.{Under}

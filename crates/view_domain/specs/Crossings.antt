@@ -15,7 +15,7 @@ use Rattle.jcl_meaning.specs.States.{Fixed, State}
 use Rattle.jcl_meaning.specs.Views.{View, view_at}
 use Rattle.part_laws.specs.Fits.{Fits}
 use Rattle.path_meaning.specs.Paths.{fates_in, fault_place}
-use Rattle.view_laws.specs.PathParts.{IsBefore, next_outcome, path_part}
+use Rattle.path_laws.specs.PathParts.{IsBefore, next_outcome, path_part}
 use Rattle.view_domain.specs.declared.crossed.Branch.{Branch}
 use Rattle.view_domain.specs.declared.crossed.Branch.TheVariants as branch
 use Rattle.view_domain.specs.declared.crossed.Crossed.{Crossed}

@@ -4,7 +4,7 @@ use Rattle.jcl_plan.specs.declared.plan.StepPlan.{StepPlan}
 use Rattle.jcl_meaning.specs.Solo.{run}
 use Rattle.jcl_meaning.specs.States.{Fixed}
 use Rattle.disp_core.specs.Courses.{fixed_by}
-use Rattle.step_laws.specs.Steps.{behind_start}
+use Rattle.path_laws.specs.Steps.{behind_start}
 use Rattle.view_core.specs.declared.walk.Under.{Under}
 use Rattle.view_core.specs.Scenes.{state_on}
 use Rattle.view_core.specs.Walks.{LeavesScene, TakesAll}

@@ -1,5 +1,0 @@
-use Rattle.reach_laws.proofs.Parts.{agenda_has}
-use Rattle.reach_laws.proofs.agenda_has.Goals as goal
-
-pub returns : goal.returns
-returns c = agenda_has

@@ -1,5 +1,0 @@
-use Rattle.reach_laws.proofs.Fewness.{are_few}
-use Rattle.reach_laws.proofs.are_few.Goals as goal
-
-pub returns : goal.returns
-returns c = are_few

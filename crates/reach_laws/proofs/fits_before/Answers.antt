@@ -1,5 +1,0 @@
-use Rattle.reach_laws.proofs.Before.{fits_before}
-use Rattle.reach_laws.proofs.fits_before.Goals as goal
-
-pub returns : goal.returns
-returns c = fits_before

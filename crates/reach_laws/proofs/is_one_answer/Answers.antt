@@ -1,5 +1,0 @@
-use Rattle.reach_laws.proofs.OneAnswer.{is_one_answer}
-use Rattle.reach_laws.proofs.is_one_answer.Goals as goal
-
-pub returns : goal.returns
-returns c = is_one_answer

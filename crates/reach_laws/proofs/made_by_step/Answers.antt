@@ -1,5 +1,0 @@
-use Rattle.reach_laws.proofs.Making.{made_by_step}
-use Rattle.reach_laws.proofs.made_by_step.Goals as goal
-
-pub returns : goal.returns
-returns c = made_by_step

@@ -1,5 +1,0 @@
-use Rattle.reach_laws.proofs.Faults.{met_within}
-use Rattle.reach_laws.proofs.met_within.Goals as goal
-
-pub returns : goal.returns
-returns c = met_within

@@ -1,5 +1,0 @@
-use Rattle.reach_laws.proofs.Parts.{path_begins}
-use Rattle.reach_laws.proofs.path_begins.Goals as goal
-
-pub returns : goal.returns
-returns c = path_begins

@@ -1,5 +1,0 @@
-use Rattle.step_laws.proofs.Showing.{end_does}
-use Rattle.step_laws.proofs.end_does.Goals as goal
-
-pub returns : goal.returns
-returns c = end_does

@@ -1,5 +1,0 @@
-use Rattle.step_laws.proofs.Starting.{step_passes}
-use Rattle.step_laws.proofs.step_passes.Goals as goal
-
-pub returns : goal.returns
-returns c = step_passes

@@ -1,5 +1,0 @@
-use Rattle.step_laws.proofs.Starting.{step_starts}
-use Rattle.step_laws.proofs.step_starts.Goals as goal
-
-pub returns : goal.returns
-returns c = step_starts

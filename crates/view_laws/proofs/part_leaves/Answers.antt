@@ -1,5 +1,0 @@
-use Rattle.view_laws.proofs.PartsLeave.{part_leaves}
-use Rattle.view_laws.proofs.part_leaves.Goals as goal
-
-pub returns : goal.returns
-returns c = part_leaves

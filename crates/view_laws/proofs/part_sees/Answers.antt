@@ -1,5 +1,0 @@
-use Rattle.view_laws.proofs.PartsSee.{part_sees}
-use Rattle.view_laws.proofs.part_sees.Goals as goal
-
-pub returns : goal.returns
-returns c = part_sees

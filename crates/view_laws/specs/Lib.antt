@@ -1,2 +1,0 @@
-pub mod PathParts
-pub mod ViewLaws
