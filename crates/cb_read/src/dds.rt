@@ -15,6 +15,7 @@ use cb_records::siot::{SiotView, has_cards, is_set, is_sysout};
 use cb_walk::arrival::bring;
 use jcl_plan::plan::{DdKind, DdPlan};
 use plain::listed::Listed;
+use plain::shared::Shared;
 use std::alloc::{AllocError, Global};
 
 /// What a DD is, by its SIOT.
@@ -38,7 +39,8 @@ fn kind_read<S: RecordStore>(
     } else if is_sysout(s.bytes) {
         Ok(DdKind::Sysout(s.class()))
     } else if has_cards(s.bytes) {
-        Ok(DdKind::Cards(cards_read(alloc, store, s.below())?))
+        let cards = cards_read(alloc, store, s.below())?;
+        Ok(DdKind::Cards(Shared::new(alloc, cards)?))
     } else {
         Ok(DdKind::Dummy)
     }

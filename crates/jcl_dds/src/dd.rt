@@ -1,5 +1,5 @@
 //! The DD statement. (GC28-6704, "DD statement")
-ghost use Rattle.std.specs.Prelude.{◌≡◌, None, count_by, nat_lt, true};
+ghost use Rattle.std.specs.Prelude.{◌≡◌, None, count_by, nat_lt, true, IfOk};
 ghost use Rattle.std.specs.Option.{option_copied};
 ghost use Rattle.operand_core.specs.Faults.{told};
 ghost use Rattle.operand_core.specs.Operands.{Operand as Denoted};
@@ -24,7 +24,8 @@ use operand_core::keyword::is_long;
 use operand_core::operand::{Keyword, Operand, Positional, first_of, operand_of};
 use operand_core::qualified::{head_len, head_of, is_qualified};
 use plain::listed::Listed;
-use std::alloc::Global;
+use plain::shared::Shared;
+use std::alloc::{AllocError, Global};
 use value_core::reads::{both, name as read_name};
 use value_core::reference::DdReference;
 use value_core::refusal::ReadError;
@@ -34,7 +35,7 @@ use value_core::set::{Disposition, SetName, VolumeName};
 #[derive(Drop)]
 pub enum Word {
     /// `*` or DATA, with the cards behind the statement.
-    Cards(Listed<DataCard>),
+    Cards(Shared<DataCard>),
     Dummy,
 }
 
@@ -135,13 +136,23 @@ fn positional_fault(part: Option<&[u8]>) -> Option<Cause>
 }
 
 /// The positional operand, with the cards behind the statement.
-fn word_of(alloc: Global, part: Option<&[u8]>, cards: Option<Listed<DataCard>>) -> Option<Word>
-    ensures { result ≡ word_of (option_copied part.entry) cards }
+fn word_of(
+    alloc: Global,
+    part: Option<&[u8]>,
+    cards: Option<Listed<DataCard>>,
+) -> Result<Option<Word>, AllocError>
+    ensures { IfOk result (λ word. word ≡ word_of (option_copied part.entry) cards) }
 {
-    match part? {
-        b"DUMMY" => Some(Word::Dummy),
-        b"*" | b"DATA" => Some(Word::Cards(cards.unwrap_or(Listed::empty(alloc)))),
-        _ => None,
+    let Some(text) = part else {
+        return Ok(None);
+    };
+    match text {
+        b"DUMMY" => Ok(Some(Word::Dummy)),
+        b"*" | b"DATA" => {
+            let cards = cards.unwrap_or(Listed::empty(alloc));
+            Ok(Some(Word::Cards(Shared::new(alloc, cards)?)))
+        }
+        _ => Ok(None),
     }
 }
 
@@ -216,9 +227,10 @@ fn read_operand(
     match last {
         Some(fault) => Err(ReadError::Refused(fault)),
         None => {
+            let word = word_of(alloc, first, cards)?;
             card.qualifier = names.qualifier;
             card.name = names.name;
-            card.word = word_of(alloc, first, cards);
+            card.word = word;
             Ok(())
         }
     }
@@ -238,9 +250,10 @@ fn read_word(
 {
     match dd_names(name) {
         Ok((qualifier, name)) => {
+            let word = word_of(alloc, Some(operand), cards)?;
             card.qualifier = qualifier;
             card.name = name;
-            card.word = word_of(alloc, Some(operand), cards);
+            card.word = word;
             Ok(())
         }
         Err(fault) => Err(ReadError::Refused(fault)),

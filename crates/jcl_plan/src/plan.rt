@@ -9,6 +9,7 @@ use jname_core::key::Key;
 use jname_core::name8::Name8;
 use jname_core::serial::Serial;
 use plain::listed::Listed;
+use plain::shared::Shared;
 
 /// A record or a card: 80 columns.
 pub type Record = [u8; 80];
@@ -147,8 +148,8 @@ pub enum DdKind {
     /// Output of this class.
     Sysout(u8),
     Dummy,
-    /// Input from the deck.
-    Cards(Listed<Record>),
+    /// Input from the deck, which the statement shares.
+    Cards(Shared<Record>),
     Set(SetPlan),
 }
 

@@ -271,15 +271,12 @@ fn key_of(dd: &DdCard, named: Result<Option<Key>, Cause>) -> Option<Key>
 }
 
 /// A DD that is for no set.
-fn setless(alloc: Global, dd: &DdCard) -> Result<DdKind, AllocError>
+fn setless(dd: &DdCard) -> Result<DdKind, AllocError>
     ensures { IfOk result (λ kind. kind ≡ setless (own_kind dd.now)) }
 {
     match &dd.word {
         Some(Positional::Dummy) => Ok(DdKind::Dummy),
-        Some(Positional::Cards(cards)) => Ok(DdKind::Cards(Listed::copy_of(
-            alloc,
-            cards.as_slice(),
-        )?)),
+        Some(Positional::Cards(cards)) => Ok(DdKind::Cards(cards.share()?)),
         None => match dd.sysout {
             Coded::NotGiven | Coded::Nullified => Ok(DdKind::Dummy),
             Coded::Value(class) => Ok(DdKind::Sysout(class)),
@@ -361,7 +358,7 @@ fn is_dummy_alone(dd: &DdCard) -> bool
 }
 
 /// A DD as it is planned at its place, or the lowest of its faults.
-fn plan_of(alloc: Global, spot: &Spot<'_>, dd: &DdCard) -> Result<DdPlan, ReadError>
+fn plan_of(spot: &Spot<'_>, dd: &DdCard) -> Result<DdPlan, ReadError>
     requires { FewPlanned spot.now }
     ensures { Gives result (plan_of (spot_of spot.now) dd.now) }
 {
@@ -377,7 +374,7 @@ fn plan_of(alloc: Global, spot: &Spot<'_>, dd: &DdCard) -> Result<DdPlan, ReadEr
         }),
         None => Ok(DdPlan {
             name: dd.name,
-            kind: setless(alloc, dd)?,
+            kind: setless(dd)?,
         }),
     }
 }
@@ -414,7 +411,7 @@ pub(crate) fn planned_dds(
             step: k as u16,
             dd: planned.len() as u16 + 1,
         };
-        let plan = plan_of(alloc, &spot, dd)?;
+        let plan = plan_of(&spot, dd)?;
         planned.push(plan)?;
     }
     Ok(planned)

@@ -18,6 +18,7 @@ use jname_core::serial::Serial;
 use mount_core::mounted::Mounted;
 use place_core::place::place_sets;
 use plain::listed::Listed;
+use plain::shared::Shared;
 use row_table::desk::Line;
 use row_table::names::{name8, serial};
 use row_table::told::Told;
@@ -110,7 +111,7 @@ fn kind_in(alloc: Global, words: &mut Words<'_>) -> Option<DdKind> {
     Some(match plain {
         Plain::Sysout => DdKind::Sysout(b'A'),
         Plain::Dummy => DdKind::Dummy,
-        Plain::Cards => DdKind::Cards(Listed::empty(alloc)),
+        Plain::Cards => DdKind::Cards(Shared::new(alloc, Listed::empty(alloc)).ok()?),
     })
 }
 

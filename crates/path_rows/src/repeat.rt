@@ -150,7 +150,7 @@ fn kind_again(kind: &DdKind, numbers: &Numbers<'_>) -> Result<DdKind, AllocError
     match kind {
         DdKind::Sysout(class) => Ok(DdKind::Sysout(*class)),
         DdKind::Dummy => Ok(DdKind::Dummy),
-        DdKind::Cards(cards) => Ok(DdKind::Cards(cards.clone()?)),
+        DdKind::Cards(cards) => Ok(DdKind::Cards(cards.share()?)),
         DdKind::Set(set) => Ok(DdKind::Set(numbers.of_set(set))),
     }
 }

@@ -4,6 +4,7 @@
 pub mod draft;
 pub mod lent;
 pub mod listed;
+pub mod shared;
 pub mod short;
 pub mod small;
 pub mod text;

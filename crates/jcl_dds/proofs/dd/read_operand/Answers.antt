@@ -23,8 +23,8 @@ returns-in-Some c = λ denoted is.
     c.excluded_fault.ensures c.earlier-last.ensures in
     ap (λ (o : Operand). answer (dd_with name o cards)) (sym same) ∙ refused (dd_with name operand cards) last c.in-Some.is
 
-pub returns-in-None : goal.returns-in-None
-returns-in-None c = λ denoted is.
+pub returns-in_ok-word-in-None : goal.returns-in_ok-word-in-None
+returns-in_ok-word-in-None c = λ denoted is.
     let name = c.args.name.now in
     let cards = c.args.cards in
     let ks = c.as_slice-keywords.result.now in
@@ -41,4 +41,4 @@ returns-in-None c = λ denoted is.
     let named_well = no_name_fault name operand held.0 c.names_of-names.ensures.told in
     ap (λ (o : Operand). answer (dd_with name o cards)) (sym same) ∙ read (dd_with name operand cards) none
     (sym (put_names c.read_keywords.new.card (c.names_of-names.ensures.qualifier named_well) (c.names_of-names.ensures.name named_well)
-    (c.word_of.ensures ∙ ap (λ first. word_of first cards) c.first_of-first.ensures) held.1))
+    (c.in_ok-word-in-None.ensures ∙ ap (λ first. word_of first cards) c.first_of-first.ensures) held.1))
