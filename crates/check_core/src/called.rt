@@ -27,7 +27,7 @@ struct Brought<'a> {
 }
 
 /// The first part of an operand.
-fn first_part(behind: &[u8]) -> &[u8] {
+pub(crate) fn first_part(behind: &[u8]) -> &[u8] {
     match behind.split(|c| *c == b',' || *c == b' ').next() {
         Some(part) => part,
         None => b"",
@@ -35,7 +35,7 @@ fn first_part(behind: &[u8]) -> &[u8] {
 }
 
 /// The procedure that an EXEC statement calls by the first part of its operand.
-fn procedure_called(part: &[u8]) -> Option<Name8> {
+pub(crate) fn procedure_called(part: &[u8]) -> Option<Name8> {
     let name = if part.starts_with(b"PROC=") {
         &part[5..]
     } else {

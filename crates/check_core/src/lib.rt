@@ -10,5 +10,6 @@ mod known;
 mod mark;
 mod mended;
 pub mod report;
+pub mod stands;
 pub mod text;
 pub mod warnings;

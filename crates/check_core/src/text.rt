@@ -111,7 +111,7 @@ fn push_shown(text: &mut Vec<u8>, columns: &[u8]) -> Result<(), AllocError>
 }
 
 /// A card as it can be printed: what is no printable character is a question mark.
-fn push_card(text: &mut Vec<u8>, card: &[u8]) -> Result<(), AllocError>
+pub fn push_card(text: &mut Vec<u8>, card: &[u8]) -> Result<(), AllocError>
     ensures { OnOk result (text.new.items ≡ text.old.items ++ card_text card.now) }
 {
     text.extend_from_slice(b"    ")?;

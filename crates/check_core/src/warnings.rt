@@ -6,7 +6,7 @@ use card_core::field::{fields_of, operand_text};
 use card_core::statement::{Card, DataCard};
 use itoa::Buffer;
 use jname_core::name8::{is_first, is_name_character};
-use std::alloc::AllocError;
+use std::alloc::{AllocError, Global};
 
 /// The first column, from 0, that is not read, and the last before it.
 const LAST_READ: usize = 70;
@@ -114,20 +114,36 @@ fn tells_hint(report: &Report, n: usize) -> bool {
     report.spot.card == Some(n) && !report.hint.is_empty()
 }
 
-/// Writes what the cards of a deck warn of, of which this is told. Its first card stands on this line of the session.
-pub fn push_warnings(
-    text: &mut Vec<u8>,
-    first_line: usize,
+/// A card, which counts from 0, and what it warns of.
+#[derive(Clone, Copy)]
+pub struct Warned {
+    pub card: usize,
+    pub words: &'static [u8],
+}
+
+/// What a card of a deck warns of, of which this is told.
+fn warned_at(line: &[u8], checked: &Checked, card: usize) -> Option<Warned> {
+    let warning = warning_of(line)?;
+    if is_told(checked, card) {
+        return None;
+    }
+    Some(Warned {
+        card,
+        words: words_of(warning),
+    })
+}
+
+/// What the cards of a deck warn of, of which this is told, in their order.
+pub fn warnings_of(
+    alloc: Global,
     lines: &[Card<'_>],
     checked: &Checked,
-) -> Result<(), AllocError> {
-    for (n, line) in lines.iter().enumerate() {
-        if let Some(warning) = warning_of(line.as_slice()) {
-            if is_told(checked, n) {
-                continue;
-            }
-            push_warning(text, first_line.saturating_add(n), words_of(warning))?;
+) -> Result<Vec<Warned>, AllocError> {
+    let mut warned = Vec::new(alloc);
+    for (card, line) in lines.iter().enumerate() {
+        if let Some(warning) = warned_at(line.as_slice(), checked, card) {
+            warned.push(warning)?;
         }
     }
-    Ok(())
+    Ok(warned)
 }

@@ -1,5 +1,5 @@
 -- A session that is stopped has a fault.
-use Rattle.std.proofs.Common.{List, [], sym, ap, ◌∙◌, inl}
+use Rattle.std.proofs.Common.{List, [], sym, ap, inl, subst}
 use Rattle.std.specs.Prelude.{IfOk, Result, Ok, Err, is_some}
 use Rattle.session_text.specs.declared.statement.Statement.{Statement}
 use Rattle.session_core.specs.Outcomes.{IsOutcome}
@@ -8,7 +8,7 @@ use Rattle.run_options.specs.declared.Options.{Options}
 use Rattle.session_core.specs.declared.SessionEnd.{SessionEnd}
 use Rattle.session_core.specs.declared.SessionFault.{SessionFault}
 use Rattle.session_core.specs.declared.SessionFault.TheVariants.{Memory, Stopped, WriteFailed}
-use Rattle.mvt_check.specs.Checking.{IsFound, TellsStop, fault_text}
+use Rattle.mvt_check.specs.Checking.{IsFound, TellsFault, TellsStop}
 use Rattle.mvt_check.specs.declared.session.Found.{Found}
 
 module _ (o : Options) (statements : List Statement) where
@@ -16,7 +16,7 @@ module _ (o : Options) (statements : List Statement) where
       IsFound o statements found
   stop_found (Stopped fault line) found outcome told = inl (record {
     fault = ap is_some outcome.0;
-    text = told.0 ∙ ap fault_text (sym outcome.0);
+    text = subst (λ f. TellsFault f found.text.items) (sym outcome.0) told.0;
     refused = told.1;
     calm = told.2;
   })

@@ -7,3 +7,4 @@ pub mod Noting
 pub mod Owning
 pub mod Reading
 pub mod Runs
+pub mod Findings

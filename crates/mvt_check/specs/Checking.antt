@@ -5,6 +5,7 @@ use Rattle.std.specs.List.{list_any}
 use Rattle.mvt_check.specs.declared.answers.answer.Answer.{Answer}
 use Rattle.mvt_check.specs.declared.answers.answer.Answer.TheVariants as answer
 use Rattle.mvt_check.specs.declared.answers.answer.Answers.{Answers}
+use Rattle.mvt_check.specs.Brief.{brief_of, warnings_in}
 use Rattle.mvt_check.specs.Telling.{AreAnswered}
 use Rattle.check_core.specs.declared.report.Checked.{Checked}
 use Rattle.check_core.specs.declared.report.Checked.TheVariants.{Refused, Taken}
@@ -139,17 +140,22 @@ abbrev pub risks_in : List (Option Answer) → ℕ
 risks_in [] = 0
 risks_in (a ∷ answers) = one (is_risk a) + risks_in answers
 
+-- what is told of the session's own fault, if it has one: its sentence, and behind it the line and the reason
+abbrev pub TellsFault : Option (Fault × ℕ) → List ℕ → Type 0
+TellsFault None text = text ≡ []
+TellsFault (Some fault) text = GoesOn (fault_text (Some fault)) text
+
 -- no deck is looked at, for the session has a fault
 pub record IsUnopened (statements : List Statement) (found : Found) : Type 0 where
   pub fault : is_some (fault_of statements) ≡ true
-  pub text : found.text.items ≡ fault_text (fault_of statements)
+  pub text : TellsFault (fault_of statements) found.text.items
   pub refused : found.refused ≡ true
   pub calm : found.at_risk ≡ false
 
 -- what is found of a session that stops at a fault before its first event; of one for which memory is wanting nothing is
 abbrev pub TellsStop : SessionFault → Found → Type 0
 TellsStop (Stopped fault line) found =
-    (found.text.items ≡ fault_text (Some (fault, line))) × (found.refused ≡ true) × (found.at_risk ≡ false)
+    TellsFault (Some (fault, line)) found.text.items × (found.refused ≡ true) × (found.at_risk ≡ false)
 TellsStop (WriteFailed line) found = ⊥
 TellsStop Memory found = ⊥
 
@@ -157,8 +163,7 @@ TellsStop Memory found = ⊥
 pub record AddsOpened (units : List (List ℕ)) (library : List LibraryProcedure) (statements : List Statement) (risks : ℕ) (old new : List ℕ) : Type 0 where
   pub body : List ℕ
   pub decks : AddsAll units library statements old body
-  pub warnings : ℕ
-  pub sums : new ≡ body ++ sums_text (refused_decks units library statements) risks warnings
+  pub sums : new ≡ body ++ sums_text (refused_decks units library statements) risks (warnings_in body)
 
 -- the decks are looked at with the units and procedures that the session configures
 pub record IsLookedAt (o : Options) (statements : List Statement) (found : Found) : Type 0 where
@@ -167,8 +172,9 @@ pub record IsLookedAt (o : Options) (statements : List Statement) (found : Found
   pub refused : found.refused ≡ (is_some (fault_of statements) || some_refused (unit_names opened.fixed.units) opened.fixed.library statements)
   pub answers : Answers
   pub answered : AreAnswered o statements answers
-  pub text : AddsOpened (unit_names opened.fixed.units) opened.fixed.library statements (risks_in answers.by_job.items)
-      (fault_text (fault_of statements)) found.text.items
+  pub told : List ℕ
+  pub fault : TellsFault (fault_of statements) told
+  pub text : AddsOpened (unit_names opened.fixed.units) opened.fixed.library statements (risks_in answers.by_job.items) told found.text.items
   pub risk : found.at_risk ≡ list_any is_risk answers.by_job.items
 
 abbrev pub IsFound : Options → List Statement → Found → Type 0
@@ -180,7 +186,7 @@ IsTold sink sink_after text fails status =
     Appends sink.contents sink_after.contents text × (status ≡ (if fails then 1 else 0))
     ⊎ ((n : ℕ) × Appends sink.contents sink_after.contents (take n text)) × (status ≡ 1)
 
--- a session was read, and what is found of it is written: where it is not asked for in brief, the whole text
+-- a session was read, and what is found of it is written: the whole text, or in brief where that is asked for
 pub record Checks (o : Options) (brief : Bool) (source source_after : SourceState) (sink sink_after : SinkState) (status : ℕ) : Type 0 where
   pub text : List ℕ
   pub ending : Ending
@@ -188,7 +194,7 @@ pub record Checks (o : Options) (brief : Bool) (source source_after : SourceStat
   pub found : Found
   pub is : IsFound o (statements_of ending text) found
   pub written : List ℕ
-  pub whole : brief ≡ false → written ≡ found.text.items
+  pub whole : written ≡ (if brief then brief_of found.text.items else found.text.items)
   pub told : IsTold sink sink_after written (found.refused || found.at_risk) status
 
 -- memory was wanting, and nothing is written

@@ -3,3 +3,4 @@ pub mod Answers
 pub mod Reading
 pub mod Telling
 pub mod Words
+pub mod Brief

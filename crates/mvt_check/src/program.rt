@@ -1,6 +1,7 @@
 //! What the program does, over its streams: its status, and what it says on the stream of errors.
-ghost use Rattle.std.specs.Prelude.{◌≡◌, ◌⊎◌, IfOk, false};
+ghost use Rattle.std.specs.Prelude.{◌≡◌, ◌⊎◌, IfOk, false, if◌then◌else◌};
 ghost use Rattle.session_core.specs.Streams.{sink_state, source_state};
+ghost use Rattle.mvt_check.specs.Brief.{brief_of};
 ghost use Rattle.mvt_check.specs.Checking.{Checks, IsTold, Starves};
 
 use crate::brief::brief_of;
@@ -30,7 +31,7 @@ pub(crate) fn mvt_check<'a>() -> Program<'a> {
 
 /// What is written of a text: all of it, or a line for each finding.
 fn shown(alloc: Global, text: Vec<u8>, brief: bool) -> Result<Vec<u8>, AllocError>
-    ensures { IfOk result (λ shown. brief ≡ false → shown.items ≡ text.items) }
+    ensures { IfOk result (λ shown. shown.items ≡ (if brief then brief_of text.items else text.items)) }
 {
     if brief {
         brief_of(alloc, text.as_slice())
@@ -82,7 +83,8 @@ pub(crate) fn run_program<R: Read, W: Write, E: Write>(
     let Ok(statements) = statements(alloc, input.text.as_slice(), input.ending) else {
         return end_out_of_memory(errors);
     };
-    let Ok(found) = check_session(alloc, statements.as_slice(), options) else {
+    let Ok(found) = check_session(alloc, input.text.as_slice(), statements.as_slice(), options)
+    else {
         return end_out_of_memory(errors);
     };
     let fails = found.fails();

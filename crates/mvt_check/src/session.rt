@@ -6,19 +6,22 @@ ghost use Rattle.config_core.specs.Configs.{unit_names};
 ghost use Rattle.jcl_job.specs.Jobs.{job_of};
 ghost use Rattle.proc_library.specs.declared.library.LibraryProcedure.{LibraryProcedure};
 ghost use Rattle.session_core.specs.Opening.{IsOpened};
-ghost use Rattle.mvt_check.specs.Checking.{AddsAll, AddsDeck, AddsEvent, AddsFound, AddsOpened, AddsSaid, IsFound, IsLookedAt, TellsStop, fault_at, fault_of, fault_text, is_refused, is_refused_event, is_refused_so, is_risk, one, refused_decks, risks_in, some_refused, sums_text, warnings_text};
+ghost use Rattle.mvt_check.specs.Checking.{AddsAll, AddsDeck, AddsEvent, AddsFound, AddsOpened, AddsSaid, GoesOn, IsFound, IsLookedAt, TellsFault, TellsStop, fault_at, fault_of, fault_text, is_refused, is_refused_event, is_refused_so, is_risk, one, refused_decks, risks_in, some_refused, sums_text, warnings_text};
 
 use crate::answers::answer::{Answer, Answers, DeckRead};
 use crate::answers::session::answers_of;
 use crate::answers::words::push_answer;
+use crate::brief::count_warnings;
 use check_core::deck::{Sources, check_deck};
 use check_core::report::Checked;
-use check_core::text::push_checked;
-use check_core::warnings::{push_warning, push_warnings};
+use check_core::stands::Stands;
+use check_core::text::{push_card, push_checked};
+use check_core::warnings::{Warned, push_warning, warnings_of};
 use config_core::start::Fixed;
 use itoa::Buffer;
 use jcl_meaning::program::is_iefbr14;
 use jcl_plan::plan::JobPlan;
+use jname_core::name8::Name8;
 use plain::lent::Lent;
 use plain::text::Text;
 use run_options::Options;
@@ -28,6 +31,7 @@ use session_input::event::Event;
 use session_input::statement::ConfigStatement;
 use session_text::fault::Fault;
 use session_text::statement::{Says, Statement};
+use session_words::words::push_fault_words;
 use std::alloc::{AllocError, Global};
 
 /// What is found of a session, as text, whether a deck is refused or the session has a fault, and whether a job may fail.
@@ -53,6 +57,18 @@ fn push_number(text: &mut Vec<u8>, number: u64) -> Result<(), AllocError>
     let mut buffer = Buffer::new();
     text.extend_from_slice(buffer.format(number).as_bytes())?;
     Ok(())
+}
+
+/// The line of this number, which counts from 1.
+fn line_at(text: &[u8], number: usize) -> &[u8] {
+    let mut left = number;
+    for line in text.split(|c| *c == b'\n') {
+        left = left.saturating_sub(1);
+        if left == 0 {
+            return line;
+        }
+    }
+    b""
 }
 
 /// Writes a fault of a session.
@@ -96,33 +112,52 @@ fn later_fault(opened: &Opened, statements: &[Statement<'_>]) -> Option<(Fault, 
     None
 }
 
-/// What is found of a session that has this fault.
-fn found_stopped(alloc: Global, fault: Fault, line: usize) -> Result<Found, AllocError>
-    ensures text { IfOk result (λ found. found.text.items ≡ fault_text (Some (fault, line))) }
+/// Writes a fault of a session, and behind it its line and the reason.
+fn fault_words(
+    alloc: Global,
+    input: &[u8],
+    fault: Fault,
+    line: usize,
+) -> Result<Vec<u8>, AllocError>
+    ensures { IfOk result (λ text. GoesOn (fault_text (Some (fault, line))) text.items) }
+{
+    let mut text = fault_line(alloc, fault, line)?;
+    push_fault_words(&mut text, fault.number(), line_at(input, line))?;
+    Ok(text)
+}
+
+/// What is found of a session of this text that has this fault.
+fn found_stopped(
+    alloc: Global,
+    input: &[u8],
+    fault: Fault,
+    line: usize,
+) -> Result<Found, AllocError>
+    ensures text { IfOk result (λ found. TellsFault (Some (fault, line)) found.text.items) }
     ensures refused { IfOk result (λ found. found.refused ≡ true) }
     ensures calm { IfOk result (λ found. found.at_risk ≡ false) }
 {
     Ok(Found {
-        text: fault_line(alloc, fault, line)?,
+        text: fault_words(alloc, input, fault, line)?,
         refused: true,
         at_risk: false,
     })
 }
 
 /// What is found of a session that is not opened, by the fault at which it stops.
-fn found_unopened(alloc: Global, why: SessionFault) -> Result<Found, AllocError>
+fn found_unopened(alloc: Global, input: &[u8], why: SessionFault) -> Result<Found, AllocError>
     ensures { IfOk result (TellsStop why) }
 {
     match why {
-        SessionFault::Stopped(fault, line) => found_stopped(alloc, fault, line),
+        SessionFault::Stopped(fault, line) => found_stopped(alloc, input, fault, line),
         SessionFault::WriteFailed(_) => Err(AllocError),
         SessionFault::Memory => Err(AllocError),
     }
 }
 
 /// What is found of a session by its own fault, if it has one.
-fn found_by(alloc: Global, fault: Option<(Fault, usize)>) -> Result<Found, AllocError>
-    ensures text { IfOk result (λ found. found.text.items ≡ fault_text fault) }
+fn found_by(alloc: Global, input: &[u8], fault: Option<(Fault, usize)>) -> Result<Found, AllocError>
+    ensures text { IfOk result (λ found. TellsFault fault found.text.items) }
     ensures refused { IfOk result (λ found. found.refused ≡ is_some fault) }
     ensures calm { IfOk result (λ found. found.at_risk ≡ false) }
 {
@@ -133,7 +168,7 @@ fn found_by(alloc: Global, fault: Option<(Fault, usize)>) -> Result<Found, Alloc
             at_risk: false,
         }),
         Some((fault, line)) => {
-            let found = found_stopped(alloc, fault, line)?;
+            let found = found_stopped(alloc, input, fault, line)?;
             Ok(found)
         }
     }
@@ -148,24 +183,77 @@ fn is_taken(fixed: &Fixed, class: u8) -> bool {
         .any(|initiator| initiator.classes.as_slice().contains(&class))
 }
 
-/// Warns of a class that no initiator takes, and of programs that are not there. The deck's first card stands on this line.
-fn push_unconfigured(
+/// A deck that denotes a job: the line of the session on which its first card stands, its lines, and the job.
+#[derive(Clone, Copy)]
+struct Taken<'a, 'b> {
+    first: usize,
+    lines: &'a [Lent<'b>],
+    plan: &'a JobPlan,
+}
+
+/// What is told of a job at a card of its deck, which counts from 0.
+#[derive(Drop)]
+struct Aside {
+    card: usize,
+    text: Vec<u8>,
+}
+
+/// Puts it behind what is told at this card or before it.
+fn put_aside(asides: &mut Vec<Aside>, aside: Aside) -> Result<(), AllocError> {
+    let behind = asides
+        .iter()
+        .take_while(|other| other.card <= aside.card)
+        .count();
+    asides.insert(behind.min(asides.len()), aside)?;
+    Ok(())
+}
+
+/// A warning at this card of a deck whose first card stands on this line.
+fn warning_at(alloc: Global, first: usize, card: usize, words: &[u8]) -> Result<Aside, AllocError> {
+    let mut text = Vec::new(alloc);
+    push_warning(&mut text, first.saturating_add(card), words)?;
+    Ok(Aside { card, text })
+}
+
+/// Warns of a class that no initiator takes.
+fn warn_of_class(
+    alloc: Global,
     fixed: &Fixed,
-    text: &mut Vec<u8>,
-    first_line: usize,
-    plan: &JobPlan,
+    deck: Taken<'_, '_>,
+    asides: &mut Vec<Aside>,
 ) -> Result<(), AllocError> {
-    if !is_taken(fixed, plan.class) {
-        let mut words = *b"no initiator takes class ?: the job waits for one";
-        words[25] = plan.class;
-        push_warning(text, first_line, words.as_slice())?;
+    if is_taken(fixed, deck.plan.class) {
+        return Ok(());
     }
-    for step in plan.steps.as_slice() {
+    let mut words = *b"no initiator takes class ?: the job waits for one";
+    words[25] = deck.plan.class;
+    put_aside(asides, warning_at(alloc, deck.first, 0, words.as_slice())?)
+}
+
+/// What is said of a program that is not there.
+fn no_program(alloc: Global, program: &Name8) -> Result<Vec<u8>, AllocError> {
+    let mut words = Vec::from_slice(alloc, b"there is no program ")?;
+    words.extend_from_slice(program.as_slice())?;
+    words.extend_from_slice(b": its step ends with ABEND S806")?;
+    Ok(words)
+}
+
+/// Warns of each program that is not there, at the EXEC statement that runs it.
+fn warn_of_programs(
+    alloc: Global,
+    fixed: &Fixed,
+    deck: Taken<'_, '_>,
+    stands: &Stands<'_>,
+    asides: &mut Vec<Aside>,
+) -> Result<(), AllocError> {
+    for (n, step) in deck.plan.steps.as_slice().iter().enumerate() {
         if !is_iefbr14(&step.program) && !fixed.programs.has(&step.program) {
-            let mut words = Vec::from_slice(*text.allocator(), b"there is no program ")?;
-            words.extend_from_slice(step.program.as_slice())?;
-            words.extend_from_slice(b": its step ends with ABEND S806")?;
-            push_warning(text, first_line, words.as_slice())?;
+            let words = no_program(alloc, &step.program)?;
+            let card = stands.step_card(n.saturating_add(1)).unwrap_or(0);
+            put_aside(
+                asides,
+                warning_at(alloc, deck.first, card, words.as_slice())?,
+            )?;
         }
     }
     Ok(())
@@ -186,22 +274,106 @@ fn answer_of<'a>(answers: &'a Answers, deck: &DeckRead) -> Option<&'a Answer> {
     }
 }
 
-/// What else is told of a job: what is not configured for it, and what admission answers it.
-fn push_job(
-    known: Known<'_>,
-    text: &mut Vec<u8>,
-    first: usize,
-    plan: &JobPlan,
-    deck: Option<DeckRead>,
-) -> Result<(), AllocError> {
-    push_unconfigured(known.fixed, text, first, plan)?;
-    match deck {
-        Some(deck) => push_answer(text, first, plan, deck.job, answer_of(known.answers, &deck)),
-        None => Ok(()),
+/// The card of which an answer tells, if it tells of one: that of the DD which may fail, or of the step that has too many paths.
+fn card_of(stands: &Stands<'_>, plan: &JobPlan, answer: Option<&Answer>) -> Option<usize> {
+    match answer {
+        Some(Answer::Risk { step, dd, .. }) => stands.dd_card(plan, *step, *dd),
+        Some(Answer::TooMany(step)) => stands.step_card(*step),
+        _ => None,
     }
 }
 
-/// What else is told of a deck: what it warns of, and what is told of its job.
+/// What is said of a card, with the card behind its first line.
+fn with_card(alloc: Global, said: &[u8], card: &[u8]) -> Result<Vec<u8>, AllocError> {
+    let line = said.iter().take_while(|c| **c != b'\n').count();
+    let (first, behind) = said.split_at(line.saturating_add(1).min(said.len()));
+    let mut text = Vec::from_slice(alloc, first)?;
+    push_card(&mut text, card)?;
+    text.extend_from_slice(behind)?;
+    Ok(text)
+}
+
+/// What admission answers the job of a deck, at the card of which it tells, or at the first.
+fn answer_at(
+    alloc: Global,
+    known: Known<'_>,
+    deck: Taken<'_, '_>,
+    card: Option<usize>,
+    read: &DeckRead,
+) -> Result<Aside, AllocError> {
+    let place = card.unwrap_or(0);
+    let line = deck.first.saturating_add(place);
+    let mut text = Vec::new(alloc);
+    push_answer(
+        &mut text,
+        line,
+        deck.plan,
+        read.job,
+        answer_of(known.answers, read),
+    )?;
+    let shown = match card {
+        Some(n) => deck.lines.get(n),
+        None => None,
+    };
+    if let Some(shown) = shown {
+        text = with_card(alloc, text.as_slice(), shown.as_slice())?;
+    }
+    Ok(Aside { card: place, text })
+}
+
+/// What else is told of a job, card by card: what is not configured for it, and what admission answers it.
+fn job_asides(
+    alloc: Global,
+    known: Known<'_>,
+    deck: Taken<'_, '_>,
+    read: Option<DeckRead>,
+) -> Result<Vec<Aside>, AllocError> {
+    let stands = Stands::of(alloc, &known.fixed.library, deck.lines)?;
+    let mut asides = Vec::new(alloc);
+    warn_of_class(alloc, known.fixed, deck, &mut asides)?;
+    warn_of_programs(alloc, known.fixed, deck, &stands, &mut asides)?;
+    if let Some(read) = read {
+        let card = card_of(&stands, deck.plan, answer_of(known.answers, &read));
+        put_aside(&mut asides, answer_at(alloc, known, deck, card, &read)?)?;
+    }
+    Ok(asides)
+}
+
+/// Writes these warnings.
+fn push_warned(text: &mut Vec<u8>, first: usize, warned: &[Warned]) -> Result<(), AllocError> {
+    for warning in warned {
+        push_warning(text, first.saturating_add(warning.card), warning.words)?;
+    }
+    Ok(())
+}
+
+/// How many warnings in front are of cards up to this one.
+fn count_up_to(warned: &[Warned], card: usize) -> usize {
+    warned
+        .iter()
+        .take_while(|warning| warning.card <= card)
+        .count()
+}
+
+/// Writes warnings of cards, and what is told of the job, in the order of cards.
+fn push_in_order(
+    text: &mut Vec<u8>,
+    first: usize,
+    warned: &[Warned],
+    asides: &[Aside],
+) -> Result<(), AllocError> {
+    let mut left = warned;
+    for aside in asides {
+        let count = count_up_to(left, aside.card).min(left.len());
+        let (due, behind) = left.split_at(count);
+        push_warned(text, first, due)?;
+        text.extend_from_slice(aside.text.as_slice())?;
+        left = behind;
+    }
+    push_warned(text, first, left)
+}
+
+/// What else is told of a deck: what it warns of, and what is told of its job, in the order of cards.
 fn asides_of(
     alloc: Global,
     known: Known<'_>,
@@ -210,12 +382,13 @@ fn asides_of(
     checked: &Checked,
     deck: Option<DeckRead>,
 ) -> Result<Vec<u8>, AllocError> {
+    let warned = warnings_of(alloc, lines, checked)?;
+    let asides = match checked {
+        Checked::Taken(plan) => job_asides(alloc, known, Taken { first, lines, plan }, deck)?,
+        Checked::Refused { .. } => Vec::new(alloc),
+    };
     let mut text = Vec::new(alloc);
-    push_warnings(&mut text, first, lines, checked)?;
-    match checked {
-        Checked::Taken(plan) => push_job(known, &mut text, first, plan, deck)?,
-        Checked::Refused { .. } => {}
-    }
+    push_in_order(&mut text, first, warned.as_slice(), asides.as_slice())?;
     Ok(text)
 }
 
@@ -384,23 +557,6 @@ fn count_risks(answers: &[Option<Answer>]) -> usize
     count
 }
 
-/// Whether a line of what is found is a warning: behind its number.
-fn is_warning(line: &[u8]) -> bool {
-    let Some(numbered) = line.strip_prefix(b"line ".as_slice()) else {
-        return false;
-    };
-    let digits = numbered.iter().take_while(|c| c.is_ascii_digit()).count();
-    let (_, behind) = numbered.split_at(digits.min(numbered.len()));
-    behind.starts_with(b": warning: ".as_slice())
-}
-
-/// How many lines of what is found are warnings.
-fn count_warnings(text: &[u8]) -> usize {
-    text.split(|c| *c == b'\n')
-        .filter(|line| is_warning(*line))
-        .count()
-}
-
 fn warnings_text(n: usize) -> &'static [u8]
     ensures { result.now ≡ warnings_text n }
 {
@@ -489,7 +645,7 @@ fn check_opened(
         procedure_lines: names.lines.as_slice(),
     };
     let (own, refused) = check_statements(alloc, &sources, *known, statements, &mut found.text)?;
-    let warnings = count_warnings(found.text.as_slice());
+    let warnings = count_warnings(alloc, found.text.as_slice())?;
     let jobs = known.answers.by_job.as_slice();
     push_sums(&mut found.text, refused, count_risks(jobs), warnings)?;
     found.refused = found.refused || own;
@@ -500,6 +656,7 @@ fn check_opened(
 /// Looks at the decks of a session that is opened. Its own fault, if it has one, is told first.
 fn found_opened(
     alloc: Global,
+    input: &[u8],
     opened: &Opened,
     statements: &[Statement<'_>],
     options: Options,
@@ -508,7 +665,7 @@ fn found_opened(
     ensures { IfOk result (IsLookedAt options statements.now) }
 {
     let answers = answers_of(alloc, statements, options)?;
-    let mut found = found_by(alloc, later_fault(opened, statements))?;
+    let mut found = found_by(alloc, input, later_fault(opened, statements))?;
     let known = Known {
         fixed: &opened.fixed,
         answers: &answers,
@@ -520,13 +677,14 @@ fn found_opened(
 /// Looks at the decks of a session. Its own fault, if it has one, is told first.
 pub(crate) fn check_session(
     alloc: Global,
+    input: &[u8],
     statements: &[Statement<'_>],
     options: Options,
 ) -> Result<Found, AllocError>
     ensures { IfOk result (IsFound options statements.now) }
 {
     match open(alloc, statements) {
-        Ok(opened) => found_opened(alloc, &opened, statements, options),
-        Err(why) => found_unopened(alloc, why),
+        Ok(opened) => found_opened(alloc, input, &opened, statements, options),
+        Err(why) => found_unopened(alloc, input, why),
     }
 }

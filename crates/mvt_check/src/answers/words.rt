@@ -95,8 +95,8 @@ fn push_job_number(text: &mut Vec<u8>, job: Option<u16>) -> Result<(), AllocErro
     Ok(())
 }
 
-/// Writes what admission answers the job of a deck, which has this number, as a paragraph of one line. The deck's first card stands on this line of the
-/// session, which counts from 1, and the plan is what the deck denotes.
+/// Writes what admission answers the job of a deck, which has this number, as a paragraph of one line. It is told at this line of the session, which counts
+/// from 1, and the plan is what the deck denotes.
 pub fn push_answer(
     text: &mut Vec<u8>,
     line: usize,

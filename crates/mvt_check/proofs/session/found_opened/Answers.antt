@@ -1,7 +1,7 @@
 use Rattle.std.proofs.Common.{◌∙◌, ◌||◌, ap, subst}
 use Rattle.std.specs.Prelude.{is_some}
 use Rattle.config_core.specs.Configs.{unit_names}
-use Rattle.mvt_check.specs.Checking.{AddsOpened, fault_text, risks_in, some_refused}
+use Rattle.mvt_check.specs.Checking.{TellsFault, some_refused}
 use Rattle.mvt_check.proofs.session.found_opened.Goals as goal
 
 pub returns : goal.returns
@@ -12,8 +12,9 @@ returns c =
     record {
       opened = c.args.opened.now;
       is = c.requires;
-      text = subst (λ t. AddsOpened (unit_names fixed.units) fixed.library statements (risks_in c.in_ok-answers.answers.by_job.items) t c.check_opened.new.found.text.items)
-          (own.text ∙ ap fault_text c.later_fault.ensures) c.in_ok-check_opened.ensures.text;
+      told = c.in_ok-found.found.text.items;
+      fault = subst (λ f. TellsFault f c.in_ok-found.found.text.items) c.later_fault.ensures own.text;
+      text = c.in_ok-check_opened.ensures.text;
       refused = c.in_ok-check_opened.ensures.refused
           ∙ ap (λ b. b || some_refused (unit_names fixed.units) fixed.library statements) (own.refused ∙ ap is_some c.later_fault.ensures);
       answers = c.in_ok-answers.answers;
