@@ -96,6 +96,7 @@ pictures: mvt-picture
 # Compares what ./mvt-check says of the decks of tests/check/, and its first numbers with those of ./mvt.
 test-check: mvt tools
 	tests/check.sh ./mvt-check ./mvt
+	python3 tests/faults.py ./mvt-check
 
 # Compares what ./mvt-play writes with the sessions that were played on.
 test-play: mvt tools
@@ -105,10 +106,14 @@ test-play: mvt tools
 examples: mvt
 	tests/examples.sh ./mvt
 
-# Compares the documents with ./mvt: their examples, and what docs/REFUSALS.md says is told; and the table of examples.
+# Compares the documents with ./mvt: their examples, and what docs/REFUSALS.md says is told; the table of examples; the layers of crates; and what is asked of callers.
 documents: mvt
 	python3 tests/documents.py ./mvt
 	python3 tests/citations.py
+	python3 tests/layers.py
+	python3 docs/map.py --check
+	python3 tests/requires.py
+	python3 tests/asked.py
 	python3 tests/document_rows.py --check
 
 # Compares the worked rows that are texts. The program that compares their tables is that of the gate, or is proved first.
@@ -127,6 +132,7 @@ hostile: mvt
 bench: mvt
 	python3 bench/instructions.py ./mvt
 
-# The gate.
+# The gate, with the number of processors in front, and on the stream of errors its time behind: that of the clock, and of all processors.
 test:
-	rt ci
+	@echo "processors: $$(nproc)"
+	@bash -c 'time rt ci'
