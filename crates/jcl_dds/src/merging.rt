@@ -1,6 +1,8 @@
 //! A DD with its override. (GC28-6704, "Overriding, adding, and nullifying parameters on DD statements")
-ghost use Rattle.std.specs.Prelude.{◌≡◌};
+ghost use Rattle.std.specs.Prelude.{◌≡◌, is_some};
+ghost use Rattle.operand_core.specs.Faults.{told};
 ghost use Rattle.value_core.specs.Reads.{IsRead};
+ghost use Rattle.jcl_cards.specs.Keywords.{is_given};
 ghost use Rattle.jcl_dds.specs.DdCards.{excludes, has_set_keyword, has_word};
 ghost use Rattle.jcl_dds.specs.Dds.{given_on};
 ghost use Rattle.jcl_dds.specs.Merging.{by_itself, keyword_by_keyword, merged, overridden, replaces, settled, without_dummy, without_sysout};
@@ -9,6 +11,7 @@ use crate::dd::{DdCard, Word, has_data};
 use crate::given::{Given, is_excluded, is_given};
 use jcl_cards::coded::Coded;
 use jcl_plan::fault::{Cause, StatementFault};
+use operand_core::fault::when;
 
 /// What one keyword codes, as an override leaves it.
 fn overridden<T: Drop>(there: Coded<T>, over: Coded<T>) -> Coded<T>
@@ -164,4 +167,68 @@ pub fn merged(dd: DdCard, overriding: DdCard) -> Result<DdCard, Cause>
         return Err(Cause::P(StatementFault::ExcludeOneAnother));
     }
     Ok(both)
+}
+
+/// Whether a keyword is given on a DD with its override.
+fn is_left<T>(there: &Coded<T>, over: &Coded<T>) -> bool
+    ensures { result ≡ is_given (overridden there.now over.now) }
+{
+    match over {
+        Coded::NotGiven => is_given(there),
+        Coded::Nullified => false,
+        Coded::Value(_) => true,
+    }
+}
+
+/// Whether a word is left, as a data set's name that is given leaves it.
+fn is_word_left(named: bool, word: &Option<Word>) -> bool
+    ensures { result ≡ is_some (without_dummy named word.now) }
+{
+    match word {
+        Some(Word::Dummy) => !named,
+        Some(Word::Cards(_)) => true,
+        None => false,
+    }
+}
+
+/// Whether a keyword other than SYSOUT, DDNAME and DCB is given on a DD with its override.
+fn is_set_keyword_left(there: &DdCard, over: &DdCard) -> bool
+    ensures { result ≡ has_set_keyword (keyword_by_keyword there.now over.now) }
+{
+    is_left(&there.set_name, &over.set_name)
+        || is_left(&there.disposition, &over.disposition)
+        || is_left(&there.unit, &over.unit)
+        || is_left(&there.volume, &over.volume)
+        || is_left(&there.space, &over.space)
+        || is_left(&there.label, &over.label)
+        || is_left(&there.character_set, &over.character_set)
+        || is_left(&there.forms_control, &over.forms_control)
+        || is_left(&there.output_limit, &over.output_limit)
+}
+
+/// What stands on a DD with its override, keyword by keyword.
+fn given_on_both(there: &DdCard, over: &DdCard) -> Given
+    ensures { result ≡ given_on (keyword_by_keyword there.now over.now) }
+{
+    let named = is_given(&over.set_name);
+    Given {
+        word: is_word_left(named, &there.word),
+        cards: has_data(there),
+        set: is_left(&there.set_name, &over.set_name)
+            || is_left(&there.disposition, &over.disposition),
+        any: is_set_keyword_left(there, over),
+        sysout: !named && is_left(&there.sysout, &over.sysout),
+        dd_name: is_left(&there.dd_name, &over.dd_name),
+    }
+}
+
+/// The fault for which a DD is not merged with its override. Both stay as they are.
+pub fn merging_fault(there: &DdCard, overriding: &DdCard) -> Option<Cause>
+    ensures { result ≡ told (merged there.now overriding.now).faults }
+{
+    if replaces(overriding) {
+        return None;
+    }
+    let excluded = is_excluded(given_on_both(there, overriding));
+    when(excluded, Cause::P(StatementFault::ExcludeOneAnother))
 }

@@ -121,10 +121,26 @@ placed_by library (step ∷ steps) dd s = rw (has_some step steps, as_many_dds d
 pub behind_dd : (place : Place) (dd : DdCard) (s : Statement) → has_none place ≡ false → placed (with_dd place dd) s ≡ []
 behind_dd place dd s some = placed_by place.job_library place.steps dd s ∙ ap (λ b. by_none b s) some
 
-pub alike_dds : (a b : Place) (dd : DdCard) → AreAlike a b → AreAlike (with_dd a dd) (with_dd b dd)
-alike_dds a b dd alike = record {
-  none = has_none_behind a dd ∙ alike.none ∙ sym (has_none_behind b dd);
-  faults = λ s. placed_by a.job_library a.steps dd s ∙ ap (λ n. by_none n s) alike.none ∙ sym (placed_by b.job_library b.steps dd s);
+pub alike_dds : (a b : Place) (one other : DdCard) → AreAlike a b → AreAlike (with_dd a one) (with_dd b other)
+alike_dds a b one other alike = record {
+  none = has_none_behind a one ∙ alike.none ∙ sym (has_none_behind b other);
+  faults = λ s. placed_by a.job_library a.steps one s ∙ ap (λ n. by_none n s) alike.none ∙ sym (placed_by b.job_library b.steps other s);
+}
+
+-- where the last step has a DD, one more changes nothing
+some_last : (steps : List FlatStep) → last_has_dd (dds_of steps) ≡ true → (length steps == 0) ≡ false
+some_last [] h = absurd cc
+some_last (x ∷ steps) h = has_some x steps
+
+placed_last : (library : Bool) (steps : List FlatStep) (s : Statement) → last_has_dd (dds_of steps) ≡ true → dd_place_faults library (dds_of steps) s ≡ []
+placed_last library [] s h = absurd cc
+placed_last library (step ∷ steps) s h =
+    let some : (length (dds_of (step ∷ steps)) == 0) ≡ false = grind arith in rw (some, h, and_false (has_no_name s)) refl
+
+pub alike_settled : (a b : Place) (dd : DdCard) → AreAlike a b → last_has_dd (dds_of b.steps) ≡ true → AreAlike (with_dd a dd) b
+alike_settled a b dd alike h = record {
+  none = has_none_behind a dd ∙ alike.none;
+  faults = λ s. behind_dd a dd s (alike.none ∙ some_last b.steps h) ∙ sym (placed_last b.job_library b.steps s h);
 }
 
 -- calls that differ in their names and places alone
@@ -145,7 +161,7 @@ module _ (name named : Option (List ℕ)) (symbols : List Symbol) (i j : ℕ) wh
       let second : Read DdCard = read (faults (placed b s)) in
       let same : first ≡ second = (λ k. read (faults (alike.faults s k))) in
       subst (λ (r : Read DdCard). Follow (or_fault (told first.faults) (with_dd a first.value)) (or_fault (told r.faults) (with_dd b r.value))) same
-      (follow_fault (told first.faults) (with_dd a first.value) (with_dd b first.value) (alike_dds a b first.value alike))
+      (follow_fault (told first.faults) (with_dd a first.value) (with_dd b first.value) (alike_dds a b first.value first.value alike))
 
   pub follow_by : (operation : Operation) (a b : Place) (s : Statement) → AreAlike a b → Follow (behind_by operation one a s) (behind_by operation other b s)
   follow_by IsExec a b s alike = follow_fault _ _ _ (alike_steps a b _ _ refl refl)

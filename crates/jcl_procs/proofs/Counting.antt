@@ -1,4 +1,4 @@
--- A call like one that was read brings no refusal where it overrides nothing, and what is collected so far is that of the deck's first steps.
+-- What is collected so far is that of the deck's first steps, and each step of a deck brings one at least.
 use Rattle.std.proofs.Common.{◌≡◌, ◌∷◌, ◌++◌, ◌∙◌, ◌⊎◌, ◌<◌, ◌≤◌, ◌+◌, ◌==◌, inl, inr, ℕ, Bool, true, false, List, [], All, Option, None, Some, Result, Ok, Err, nat_lt, if◌then◌else◌, append_assoc, append-nil, ap, arith, is_none, is_some, le-ltb, length, length-append, lt-ltb, ltb-false, ltb-true, map, position, refl, slice_get, suc, subst, sym, unwrap_or}
 use Rattle.std.specs.List.{list_any}
 use Rattle.std.proofs.lemmas.List.{length-map}
@@ -22,69 +22,20 @@ use Rattle.jcl_deck.specs.declared.deck.Procedure as in_stream
 use Rattle.jcl_deck.specs.Decks.{operation_of}
 use Rattle.jcl_procs.specs.declared.expansion.Expansion.{Expansion}
 use Rattle.jcl_procs.specs.declared.expansion.Expansion.TheVariants.{Steps, TooMany}
+use Rattle.jcl_procs.specs.declared.known.Known.{Known}
 use Rattle.jcl_procs.specs.declared.overriding.Place as overriding
 use Rattle.jcl_procs.specs.declared.step.FlatStep.{FlatStep}
 use Rattle.jcl_procs.specs.Bodies.{behind}
 use Rattle.jcl_procs.specs.Calls.{Call, Place, behind_by, steps_behind, steps_from, steps_of, steps_with}
-use Rattle.jcl_procs.specs.Counting.{IsLike, KeepsFirst, Passes, WasRead, counted, up_to}
+use Rattle.jcl_procs.specs.Counting.{IsKnown, KeepsFirst, counted, up_to}
 use Rattle.jcl_procs.specs.Expansions.{Body, and_then, body_named, flat_from, joined, plain_step, steps_by}
 use Rattle.jcl_procs.specs.Overrides.{conditions_overridden, dds_at, dds_overridden, inserts, is_of_name, is_step, names_steps, overrides_by_position, overrides_from, overrides_member, overrides_named, overrides_next, overrides_one, overrides_there, place_behind, puts_merged, step_at, with_condition, with_step_condition, with_step_conditions, with_this}
 use Rattle.jcl_procs.specs.Overrides.{steps_behind as steps_onward}
-use Rattle.jcl_procs.proofs.Alike.{refused_elsewhere}
 use Rattle.jcl_procs.proofs.Reached.{length_put}
 use Rattle.proc_library.specs.declared.library.LibraryProcedure.{LibraryProcedure}
 
--- a procedure that brings steps at one call brings steps at any with the same symbols
-module _ (name named : Option (List ℕ)) (i j : ℕ) (symbols : List Symbol) where
-  abbrev one : Body → Result (List FlatStep) Cause
-  one body = steps_of (record { name = name; place = i; symbols = symbols ++ body.symbols }) body.statements
-
-  abbrev other : Body → Result (List FlatStep) Cause
-  other body = steps_of (record { name = named; place = j; symbols = symbols ++ body.symbols }) body.statements
-
-  by_other : (body : Body) (steps : List FlatStep) (r : Result (List FlatStep) Cause) → one body ≡ Ok steps → other body ≡ r →
-      (more : List FlatStep) × (other body ≡ Ok more)
-  by_other body steps (Ok more) is so = (more, so)
-  by_other body steps (Err cause) is so =
-      let refused : one body ≡ Err cause = refused_elsewhere named name (symbols ++ body.symbols) j i body.statements cause so in
-      absurd (let never : (let r : Result (List FlatStep) Cause = Ok steps in r) ≡ Err cause = sym is ∙ refused in cc)
-
-  by_body : (body : Result Body Cause) (steps : List FlatStep) → and_then body one ≡ Ok steps →
-      (more : List FlatStep) × (and_then body other ≡ Ok more)
-  by_body (Err fault) steps is = absurd cc
-  by_body (Ok body) steps is = by_other body steps (other body) is refl
-
--- what overrides nothing is not refused for it
 abbrev overridden : ExecCard → List DdCard → List FlatStep → Result (List FlatStep) Cause
 overridden exec dds steps = and_then (conditions_overridden steps exec) (λ changed. dds_overridden changed dds)
-
-changed : ExecCard → List FlatStep → List FlatStep
-changed exec steps = with_step_conditions (with_condition exec.condition steps) exec.step_conditions
-
-nothing_refused : (exec : ExecCard) (dds : List DdCard) (steps : List FlatStep) → exec.named_steps ≡ [] → dds ≡ [] →
-    (more : List FlatStep) × (overridden exec dds steps ≡ Ok more)
-unfolding changed
-nothing_refused exec dds steps none empty = (changed exec steps, rw (none, empty) refl)
-
-by_brought : (exec : ExecCard) (dds : List DdCard) (body : Result Body Cause) (next : Body → Result (List FlatStep) Cause) (steps : List FlatStep) →
-    exec.named_steps ≡ [] → dds ≡ [] → and_then body next ≡ Ok steps →
-    (more : List FlatStep) × (and_then body (λ b. and_then (next b) (overridden exec dds)) ≡ Ok more)
-by_brought exec dds (Err fault) next steps none empty is = absurd cc
-by_brought exec dds (Ok body) next steps none empty is =
-    let so = nothing_refused exec dds steps none empty in (so.0, ap (λ r. and_then r (overridden exec dds)) is ∙ so.1)
-
--- what is not refused was read
-brought_by : (exec : ExecCard) (dds : List DdCard) (body : Result Body Cause) (next : Body → Result (List FlatStep) Cause) (found : List FlatStep) →
-    and_then body (λ b. and_then (next b) (overridden exec dds)) ≡ Ok found → (steps : List FlatStep) × (and_then body next ≡ Ok steps)
-brought_by exec dds (Err fault) next found is = absurd cc
-brought_by exec dds (Ok body) next found is = by_steps (next body) refl is
-  where
-    by_steps : (r : Result (List FlatStep) Cause) → next body ≡ r → and_then (next body) (overridden exec dds) ≡ Ok found →
-        (steps : List FlatStep) × (next body ≡ Ok steps)
-    by_steps (Ok steps) so h = (steps, so)
-    by_steps (Err fault) so h =
-        absurd (let never : (let r : Result (List FlatStep) Cause = Err fault in r) ≡ Ok found =
-        sym (ap (λ r. and_then r (overridden exec dds)) so) ∙ h in cc)
 
 -- the steps up to a number of them
 by_number : Bool → List FlatStep → Expansion
@@ -154,7 +105,7 @@ some_by place steps is = by place.steps is
         let some : (length (x ∷ own) == 0) ≡ false = grind arith in
         let size = is_same (x ∷ own) (sym (ap (λ b. ended b (x ∷ own)) some) ∙ h) in omega (arith, size)
 
-some_from : (call : Call) (statements : List Statement) (place : Place) (steps : List FlatStep) → steps_from call place statements ≡ Ok steps → 1 ≤ length steps
+pub some_from : (call : Call) (statements : List Statement) (place : Place) (steps : List FlatStep) → steps_from call place statements ≡ Ok steps → 1 ≤ length steps
 some_from call [] place steps is = some_by place steps is
 some_from call (s ∷ statements) place steps is =
     by (λ next h. some_from call statements next steps h) (behind_by (operation_of s.operation) call place s) is
@@ -263,29 +214,6 @@ some_brought exec dds name place symbols (Ok b) found is =
     some_called exec dds (record { name = name; place = place; symbols = symbols ++ b.symbols }) b.statements found _ refl is
 
 module _ (library : List LibraryProcedure) (procedures : List in_stream.Procedure) where
-  brings_by : (exec : ExecCard) (dds : List DdCard) (place : ℕ) (runs : Runs) → WasRead library procedures runs → exec.named_steps ≡ [] → dds ≡ [] →
-      (more : List FlatStep) × (steps_by runs library procedures place (record { exec = exec; dds = dds }) ≡ Ok more)
-  brings_by exec dds place (Program name) read none empty = (
-    record {
-      name = exec.name;
-      procedure_step = None;
-      call = None;
-      program = name;
-      condition = unwrap_or exec.condition no_condition;
-      dds = [];
-    } ∷ [],
-    ap (λ (l : List DdCard). plain_step exec l name) empty,
-  )
-  brings_by exec dds place (Procedure name symbols) read none empty =
-      let so = by_body read.0 exec.name read.1 place symbols (body_named library procedures name) read.2 read.3 in
-      by_brought exec dds (body_named library procedures name) _ so.0 none empty so.1
-
-  read_by : (exec : ExecCard) (dds : List DdCard) (place : ℕ) (runs : Runs) (found : List FlatStep) →
-      steps_by runs library procedures place (record { exec = exec; dds = dds }) ≡ Ok found → WasRead library procedures runs
-  read_by exec dds place (Program name) found is = tt
-  read_by exec dds place (Procedure name symbols) found is =
-      let so = brought_by exec dds (body_named library procedures name) _ found is in (exec.name, place, so.0, so.1)
-
   some_found : (exec : ExecCard) (dds : List DdCard) (place : ℕ) (runs : Runs) (found : List FlatStep) →
       steps_by runs library procedures place (record { exec = exec; dds = dds }) ≡ Ok found → 1 ≤ length found
   some_found exec dds place (Program name) found is = by (list_any (λ (dd : DdCard). is_some dd.qualifier) dds) is
@@ -297,23 +225,16 @@ module _ (library : List LibraryProcedure) (procedures : List in_stream.Procedur
   some_found exec dds place (Procedure name symbols) found is =
       some_brought exec dds exec.name place symbols (body_named library procedures name) found is
 
-  pub was_like : (other runs : Runs) → IsLike other runs → WasRead library procedures other → WasRead library procedures runs
-  was_like other (Program name) like read = tt
-  was_like (Program own) (Procedure name symbols) like read = absurd like
-  was_like (Procedure own values) (Procedure name symbols) like read =
-      subst (λ n. WasRead library procedures (Procedure n symbols)) like.0
-      (subst (λ (s : List Symbol). WasRead library procedures (Procedure own s)) like.1 read)
-
   -- what is kept of them, or with those that are left they are too many
   abbrev pub Keeps : ℕ → Expansion → List FlatStep → List DeckStep → Type 0
   Keeps most expansion whole rest = (expansion ≡ up_to most whole) ⊎ ((expansion ≡ TooMany) × (most < length whole + length rest))
 
   -- what is known when some steps of a deck were looked at: the steps that they have
-  pub record Holds (most : ℕ) (all : List DeckStep) (place : ℕ) (rest : List DeckStep) (expansion : Expansion) (noted : List Runs) : Type 0 where
+  pub record Holds (most : ℕ) (all : List DeckStep) (place : ℕ) (rest : List DeckStep) (expansion : Expansion) (noted : List Known) : Type 0 where
     pub whole : List FlatStep
     pub so : flat_from library procedures 1 all ≡ behind whole (flat_from library procedures (place + 1) rest)
     pub kept : Keeps most expansion whole rest
-    pub read : All (WasRead library procedures) noted
+    pub known : All (IsKnown library procedures) noted
 
   behind_none : (r : Result (List FlatStep) Cause) → r ≡ behind [] r
   behind_none (Ok steps) = refl
@@ -323,20 +244,20 @@ module _ (library : List LibraryProcedure) (procedures : List in_stream.Procedur
   first_kept most all expansion (inl many) = inr (many.0, (let over = many.1 in omega (arith, over)))
   first_kept most all expansion (inr none) = inl (none ∙ sym (is_few most [] (omega arith)))
 
-  pub begins : (most : ℕ) (all : List DeckStep) (expansion : Expansion) (noted : List Runs) → KeepsFirst most all expansion → noted ≡ [] →
+  pub begins : (most : ℕ) (all : List DeckStep) (expansion : Expansion) (noted : List Known) → KeepsFirst most all expansion → noted ≡ [] →
       Holds most all 0 all expansion noted
   begins most all expansion noted first empty = record {
     whole = [];
     so = behind_none (flat_from library procedures 1 all);
     kept = first_kept most all expansion first;
-    read = subst (All (WasRead library procedures)) (sym empty) (All-nil (WasRead library procedures));
+    known = subst (All (IsKnown library procedures)) (sym empty) (All-nil (IsKnown library procedures));
   }
 
   behind_both : (whole more : List FlatStep) (r : Result (List FlatStep) Cause) → behind whole (joined (Ok more) (λ _. r)) ≡ behind (whole ++ more) r
   behind_both whole more (Ok steps) = ap (λ (l : List FlatStep). let r : Result (List FlatStep) Cause = Ok l in r) (sym (append_assoc whole more steps))
   behind_both whole more (Err fault) = refl
 
-  module _ (most : ℕ) (all : List DeckStep) (place : ℕ) (step : DeckStep) (rest : List DeckStep) (expansion : Expansion) (noted : List Runs)
+  module _ (most : ℕ) (all : List DeckStep) (place : ℕ) (step : DeckStep) (rest : List DeckStep) (expansion : Expansion) (noted : List Known)
       (it : Holds most all place (step ∷ rest) expansion noted) where
     abbrev next : Result (List FlatStep) Cause
     next = flat_from library procedures (place + 1 + 1) rest
@@ -356,14 +277,14 @@ module _ (library : List LibraryProcedure) (procedures : List in_stream.Procedur
     kept_taken found now some few many (inl kept) = inl (few it.whole kept)
     kept_taken found now some few many (inr over) = inr (many over.0, further found some over.1)
 
-    pub takes : (found : List FlatStep) (now : Expansion) (still : List Runs) → its ≡ Ok found →
+    pub takes : (found : List FlatStep) (now : Expansion) → its ≡ Ok found →
         ((so_far : List FlatStep) → expansion ≡ up_to most so_far → now ≡ up_to most (so_far ++ found)) → (expansion ≡ TooMany → now ≡ TooMany) →
-        (WasRead library procedures step.exec.runs → All (WasRead library procedures) still) → Holds most all (place + 1) rest now still
-    takes found now still is few many read = record {
+        Holds most all (place + 1) rest now noted
+    takes found now is few many = record {
       whole = it.whole ++ found;
       so = so_behind found is;
       kept = kept_taken found now (some_found step.exec step.dds (place + 1) step.exec.runs found is) few many it.kept;
-      read = read (read_by step.exec step.dds (place + 1) step.exec.runs found is);
+      known = it.known;
     }
 
     kept_passed : (more : List FlatStep) → 1 ≤ length more → expansion ≡ TooMany → Keeps most expansion it.whole (step ∷ rest) →
@@ -371,14 +292,14 @@ module _ (library : List LibraryProcedure) (procedures : List in_stream.Procedur
     kept_passed more some many (inl kept) = inl (many ∙ with_many most expansion it.whole more many kept)
     kept_passed more some many (inr over) = inr (over.0, further more some over.1)
 
-    pub goes_by : Passes library procedures expansion step → Holds most all (place + 1) rest expansion noted
-    goes_by passes =
-        let more = brings_by step.exec step.dds (place + 1) step.exec.runs passes.read passes.names passes.dds in record {
-          whole = it.whole ++ more.0;
-          so = so_behind more.0 more.1;
-          kept = kept_passed more.0 (some_found step.exec step.dds (place + 1) step.exec.runs more.0 more.1) passes.many it.kept;
-          read = it.read;
-        }
+    pub goes_by : (more : List FlatStep) (still : List Known) → its ≡ Ok more → expansion ≡ TooMany → All (IsKnown library procedures) still →
+        Holds most all (place + 1) rest expansion still
+    goes_by more still is many known = record {
+      whole = it.whole ++ more;
+      so = so_behind more is;
+      kept = kept_passed more (some_found step.exec step.dds (place + 1) step.exec.runs more is) many it.kept;
+      known = known;
+    }
 
     pub refused : (fault : Cause) → its ≡ Err fault → counted most (flat_from library procedures 1 all) ≡ Err fault
     refused fault is =
@@ -392,7 +313,7 @@ module _ (library : List LibraryProcedure) (procedures : List in_stream.Procedur
       let more = over.1 in
       is_many most whole (omega (arith, more, size)) ∙ sym over.0
 
-  pub ends : (most : ℕ) (all : List DeckStep) (place : ℕ) (rest : List DeckStep) (expansion : Expansion) (noted : List Runs) →
+  pub ends : (most : ℕ) (all : List DeckStep) (place : ℕ) (rest : List DeckStep) (expansion : Expansion) (noted : List Known) →
       Holds most all place rest expansion noted → rest ≡ [] → counted most (flat_from library procedures 1 all) ≡ Ok expansion
   ends most all place rest expansion noted it none =
       ap (counted most) (it.so ∙ ap (λ l. behind it.whole (flat_from library procedures (place + 1) l)) none)

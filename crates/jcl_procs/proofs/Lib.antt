@@ -5,3 +5,7 @@ pub mod Called
 pub mod Settled
 pub mod Alike
 pub mod Counting
+pub mod Recalled
+pub mod Rereading
+pub mod Same
+pub mod Unused

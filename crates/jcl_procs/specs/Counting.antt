@@ -1,16 +1,22 @@
 -- The steps of a deck as they are collected, up to a number of them, and the calls that need not be read again. (This profile)
-use Rattle.std.specs.Prelude.{◌≡◌, ◌⊎◌, ◌<◌, ℕ, nat_lt, List, [], ◌++◌, length, Option, Result, Ok, if◌then◌else◌}
+use Rattle.std.specs.Prelude.{◌≡◌, ◌⊎◌, ◌<◌, ◌==◌, ℕ, nat_lt, Bool, true, false, List, [], ◌++◌, length, map, Option, Result, Ok, Err, if◌then◌else◌}
+use Rattle.std.specs.List.{list_any}
+use Rattle.card_core.specs.declared.statement.Statement.{Statement}
 use Rattle.jcl_plan.specs.declared.fault.Cause.{Cause}
+use Rattle.value_core.specs.declared.refusal.ReadError.{ReadError}
+use Rattle.value_core.specs.declared.refusal.ReadError.TheVariants.{Refused, Memory}
 use Rattle.jcl_symbols.specs.declared.symbol.Symbol.{Symbol}
-use Rattle.jcl_cards.specs.declared.exec.Runs.{Runs}
-use Rattle.jcl_cards.specs.declared.exec.Runs.TheVariants.{Program, Procedure}
 use Rattle.jcl_deck.specs.declared.deck.DeckStep.{DeckStep}
 use Rattle.jcl_deck.specs.declared.deck.Procedure as in_stream
+use Rattle.jcl_deck.specs.declared.operation.Operation.TheVariants.{IsDd}
+use Rattle.jcl_deck.specs.Decks.{last_has_dd, operation_of}
 use Rattle.jcl_procs.specs.declared.expansion.Expansion.{Expansion}
 use Rattle.jcl_procs.specs.declared.expansion.Expansion.TheVariants.{Steps, TooMany}
+use Rattle.jcl_procs.specs.declared.known.Call as code
+use Rattle.jcl_procs.specs.declared.known.Known.{Known}
 use Rattle.jcl_procs.specs.declared.step.FlatStep.{FlatStep}
-use Rattle.jcl_procs.specs.Calls.{steps_of}
-use Rattle.jcl_procs.specs.Expansions.{and_then, body_named}
+use Rattle.jcl_procs.specs.Calls.{Call, Place, steps_of}
+use Rattle.jcl_procs.specs.Expansions.{and_then, body_named, called}
 use Rattle.proc_library.specs.declared.library.LibraryProcedure.{LibraryProcedure}
 
 abbrev pub up_to : ℕ → List FlatStep → Expansion
@@ -26,24 +32,45 @@ brought library procedures called place name symbols =
     and_then (body_named library procedures name) (λ body.
     steps_of (record { name = called; place = place; symbols = symbols ++ body.symbols }) body.statements)
 
--- some call of this procedure with these symbols brings steps; a program needs nothing
-abbrev pub WasRead : List LibraryProcedure → List in_stream.Procedure → Runs → Type 0
-WasRead library procedures (Program name) = Unit {0}
-WasRead library procedures (Procedure name symbols) =
-    (called : Option (List ℕ)) × (place : ℕ) × (steps : List FlatStep) × (brought library procedures called place name symbols ≡ Ok steps)
+-- what is told of a step of a deck: that it brings steps, or for what it is refused; or memory is wanting
+abbrev pub Tells : Result (Unit {0}) ReadError → Result (List FlatStep) Cause → Type 0
+Tells (Ok told) steps = (found : List FlatStep) × (steps ≡ Ok found)
+Tells (Err (Refused fault)) steps = steps ≡ Err fault
+Tells (Err Memory) steps = Unit {0}
 
--- a step runs a program, or calls what another one calls, with the same symbols
-abbrev pub IsLike : Runs → Runs → Type 0
-IsLike other (Program name) = Unit {0}
-IsLike (Program own) (Procedure name symbols) = ⊥
-IsLike (Procedure own values) (Procedure name symbols) = (own ≡ name) × (values ≡ symbols)
+-- some call of a procedure with symbols brings steps
+pub record Brings (library : List LibraryProcedure) (procedures : List in_stream.Procedure) (name : List ℕ) (symbols : List Symbol) (steps : List FlatStep) : Type 0 where
+  pub called : Option (List ℕ)
+  pub place : ℕ
+  pub so : brought library procedures called place name symbols ≡ Ok steps
 
--- No more steps are kept, what the step runs was read, and no DD and no keyword is for a step of the procedure.
-pub record Passes (library : List LibraryProcedure) (procedures : List in_stream.Procedure) (expansion : Expansion) (step : DeckStep) : Type 0 where
-  pub many : expansion ≡ TooMany
-  pub read : WasRead library procedures step.exec.runs
-  pub names : step.exec.named_steps ≡ []
-  pub dds : step.dds ≡ []
+-- and so does one of the procedure that is kept
+abbrev pub IsKnown : List LibraryProcedure → List in_stream.Procedure → Known → Type 0
+IsKnown library procedures known = Brings library procedures known.name known.symbols known.steps
+
+abbrev pub WasBrought : List LibraryProcedure → List in_stream.Procedure → List ℕ → Type 0
+WasBrought library procedures name = (symbols : List Symbol) × (steps : List FlatStep) × Brings library procedures name symbols steps
+
+-- the steps of a call, before any is overridden and behind it
+abbrev pub brought_by : List LibraryProcedure → List in_stream.Procedure → code.Call → Result (List FlatStep) Cause
+brought_by library procedures call = brought library procedures call.exec.now.name call.place call.name call.symbols.now
+
+abbrev pub called_by : List LibraryProcedure → List in_stream.Procedure → code.Call → Result (List FlatStep) Cause
+called_by library procedures call = called library procedures call.place call.exec.now call.dds.now call.name call.symbols.now
+
+-- an operand is the same whatever values symbols have
+abbrev pub has_symbol : List ℕ → Bool
+has_symbol operand = list_any (λ c. c == 38) operand
+
+-- statements bring steps at some call
+abbrev pub WereRead : List Statement → Type 0
+WereRead statements = (call : Call) × (steps : List FlatStep) × (steps_of call statements ≡ Ok steps)
+
+-- a DD behind another one of its step, without a symbol
+pub record IsSettled (place : Place) (s : Statement) : Type 0 where
+  pub dd : operation_of s.operation ≡ IsDd
+  pub plain : has_symbol s.operand ≡ false
+  pub behind : last_has_dd (map (λ step. step.dds) place.steps) ≡ true
 
 -- no step is kept where the deck's own are too many already
 abbrev pub KeepsFirst : ℕ → List DeckStep → Expansion → Type 0

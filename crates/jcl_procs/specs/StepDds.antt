@@ -1,5 +1,5 @@
 -- The DDs of one step as an override leaves them.
-use Rattle.std.specs.Prelude.{ℕ, Bool, false, not, ◌&&◌, is_some, ◌+◌, ◌<◌, ◌≤◌, List, [], ◌∷◌, ◌++◌, length, slice_get, Option, Some, None, is_none, Result, Ok, if◌then◌else◌}
+use Rattle.std.specs.Prelude.{ℕ, Bool, false, not, ◌&&◌, is_some, ◌+◌, ◌<◌, ◌≤◌, List, [], ◌∷◌, ◌++◌, length, slice_get, Option, Some, None, is_none, Result, Ok, Err, if◌then◌else◌}
 use Rattle.std.specs.List.{position}
 use Rattle.jcl_plan.specs.declared.fault.Cause.{Cause}
 use Rattle.operand_core.specs.Faults.{or_fault, told}
@@ -8,7 +8,7 @@ use Rattle.jcl_dds.specs.Merging.{by_itself, merged}
 use Rattle.jcl_procs.specs.declared.overriding.Members.{Members}
 use Rattle.jcl_procs.specs.declared.overriding.Place.{Place}
 use Rattle.jcl_procs.specs.declared.step.FlatStep.{FlatStep}
-use Rattle.jcl_procs.specs.Overrides.{dds_at, is_of_name, with_dd, with_dd_between, with_dds}
+use Rattle.jcl_procs.specs.Overrides.{dds_at, is_of_name, step_at, with_dd, with_dd_between, with_dds}
 
 -- one merged with its override
 abbrev pub merged_at : List DdCard → ℕ → DdCard → DdCard → Result Members Cause
@@ -60,3 +60,17 @@ AreMembers m = m.member ≤ length m.dds
 
 abbrev pub IsPlace : Place → Type 0
 IsPlace place = (place.at < length place.steps) × (place.member ≤ length (dds_at place.steps place.at))
+
+-- the fault of what is refused
+abbrev pub fault_of : {A : Type 0} → Result A Cause → Option Cause
+fault_of (Ok a) = None
+fault_of (Err fault) = Some fault
+
+-- that of the first override of a call
+abbrev pub named_fault : List FlatStep → DdCard → Result ℕ Cause → Option Cause
+named_fault steps dd (Err fault) = Some fault
+named_fault steps dd (Ok n) = fault_of (with_named (dds_at steps n) dd)
+
+abbrev pub first_fault : List FlatStep → DdCard → Option Cause
+first_fault steps dd =
+    if is_none dd.name then fault_of (with_member (dds_at steps 0) 0 dd) else named_fault steps dd (step_at steps 0 dd.qualifier)

@@ -1,5 +1,6 @@
 //! The steps that a procedure brings at a call. (GC28-6704, "PROC statement", "Symbolic parameters")
 ghost use Rattle.std.specs.Prelude.{◌≡◌, ◌∷◌, ◌++◌, IfOk, OnOk, Some, [], false, true, map, unwrap_or};
+ghost use Rattle.std.specs.Bool.{OnTrue};
 ghost use Rattle.operand_core.specs.Faults.{told, written_name_faults};
 ghost use Rattle.operand_core.specs.Operands.{first_of, operand_of};
 ghost use Rattle.value_core.specs.Reads.{Gives, answer};
@@ -7,9 +8,11 @@ ghost use Rattle.list_values.specs.Conditions.{no_condition};
 ghost use Rattle.jcl_symbols.specs.Substitutions.{substituted};
 ghost use Rattle.jcl_cards.specs.ExecCards as execs;
 ghost use Rattle.jcl_dds.specs.Dds.{is_data_word};
-ghost use Rattle.jcl_deck.specs.Decks.{dd_place_faults, last_has_dd};
+ghost use Rattle.jcl_deck.specs.declared.operation.Operation.TheVariants.{IsDd};
+ghost use Rattle.jcl_deck.specs.Decks.{dd_place_faults, last_has_dd, operation_of};
 ghost use Rattle.jcl_procs.specs.Calls.{calls, program_of, step_of, steps_of, steps_with, takes_dd, takes_exec};
 ghost use Rattle.jcl_procs.specs.Calling.{Moves, behind, TellsCalls, TellsData, call_of, dd_faults_with, dd_placed, dd_read, denoted};
+ghost use Rattle.jcl_procs.specs.Counting.{IsSettled, Tells, WereRead, has_symbol};
 ghost use Rattle.jcl_procs.specs.Calling.{exec_placed, exec_read, or_earliest, with_dd, with_step};
 
 use crate::step::FlatStep;
@@ -222,6 +225,22 @@ fn refusal(name: &[u8], fault: StatementFault) -> Cause
     earliest(written_name_fault(name), Cause::P(fault))
 }
 
+fn is_dd(statement: &Statement) -> bool
+    ensures { OnTrue result (operation_of statement.now.operation ≡ IsDd) }
+{
+    match operation_of(statement.operation.as_slice()) {
+        Operation::IsDd => true,
+        _ => false,
+    }
+}
+
+/// Whether an operand may have a symbol.
+fn has_symbol(operand: &[u8]) -> bool
+    ensures { result ≡ has_symbol operand.now }
+{
+    operand.iter().any(|c| *c == b'&')
+}
+
 impl Place {
     /// The place before a procedure's first statement.
     fn start(alloc: Global) -> Place
@@ -349,6 +368,15 @@ impl Place {
         Err(ReadError::Refused(refusal(statement.name.as_slice(), fault)))
     }
 
+    /// Whether a statement is a DD without a symbol behind another one of its step.
+    fn settles(&self, statement: &Statement) -> bool
+        ensures { OnTrue result (IsSettled (denoted self.now) statement.now) }
+    {
+        last_has_dd(self.steps.as_slice())
+            && is_dd(statement)
+            && !has_symbol(statement.operand.as_slice())
+    }
+
     /// The steps, of which there is one at least.
     fn end(self) -> Result<Listed<FlatStep>, Cause>
         ensures { result ≡ steps_with (denoted self) }
@@ -385,4 +413,23 @@ pub fn steps_of(
 {
     let lent = Caller { ..caller };
     steps_from(alloc, &lent, statements)
+}
+
+/// Whether statements that another call did not refuse are refused at this one. A DD without a symbol behind another one of its step is not read again.
+pub(crate) fn tell_steps(
+    alloc: Global,
+    caller: &Caller<'_>,
+    statements: &[Statement],
+) -> Result<(), ReadError>
+    requires { WereRead statements.now }
+    ensures { Tells result (steps_of (call_of caller.now) statements.now) }
+{
+    let mut place = Place::start(alloc);
+    for statement in statements {
+        if place.settles(statement) {
+            continue;
+        }
+        place.take(alloc, caller, statement)?;
+    }
+    Ok(())
 }

@@ -1,41 +1,30 @@
 //! A deck's steps, call by call. (GC28-6704, "Cataloged and in-stream procedures")
-ghost use Rattle.std.specs.Prelude.{◌≡◌, ◌++◌, [], All, IfOk, List, OnOk, map, is_some};
+ghost use Rattle.std.specs.Prelude.{◌≡◌, ◌++◌, All, IfOk, List, OnOk, map, is_some};
 ghost use Rattle.std.specs.Bool.{OnTrue};
 ghost use Rattle.std.specs.List.{list_any};
-ghost use Rattle.std.specs.Option.{option_copied};
 ghost use Rattle.value_core.specs.Reads.{Gives};
 ghost use Rattle.jcl_dds.specs.Merging.{by_itself};
-ghost use Rattle.jcl_deck.specs.declared.deck.Procedure as in_stream;
-ghost use Rattle.jcl_deck.specs.declared.operation.Operation.TheVariants.{IsProc};
-ghost use Rattle.proc_library.specs.declared.library.LibraryProcedure.{LibraryProcedure};
 ghost use Rattle.jcl_procs.specs.declared.step.FlatStep.{FlatStep};
-ghost use Rattle.jcl_procs.specs.Calls.{steps_of};
-ghost use Rattle.jcl_procs.specs.Bodies.{call_with, is_proc, steps_by_reading, steps_with};
-ghost use Rattle.jcl_procs.specs.Counting.{IsLike, KeepsFirst, Passes, WasRead, counted, up_to};
-ghost use Rattle.jcl_procs.specs.Expansions.{and_then, body_by, body_named, body_of, called, flat_from, in_deck, plain_step, steps_by};
+ghost use Rattle.jcl_procs.specs.Counting.{IsKnown, KeepsFirst, Tells, counted, up_to};
+ghost use Rattle.jcl_procs.specs.Expansions.{called, flat_from, plain_step, steps_by};
 
+use crate::bodies::{Sources, body_named};
 use crate::calls::{Caller, condition_or_none, steps_of};
 use crate::conditions::override_conditions;
+use crate::known::{Call, Known, tell_call};
 use crate::overriding::override_dds;
 use crate::step::FlatStep;
-use card_core::statement::Statement;
 use jcl_cards::exec::{ExecCard, Runs};
-use jcl_cards::procedure::procedure_card;
 use jcl_dds::dd::DdCard;
 use jcl_dds::merging::settle_dd;
 use jcl_deck::deck::{DeckStep, Procedure};
-use jcl_deck::operation::{Operation, operation_of};
 use jcl_plan::fault::{Cause, StatementFault};
 use jcl_symbols::symbol::Symbol;
 use jname_core::name8::Name8;
 use plain::listed::Listed;
 use proc_library::library::ProcLibrary;
-use proc_library::reading::Reading;
 use std::alloc::{AllocError, Global};
 use value_core::refusal::ReadError;
-
-/// How many calls are noted so that others like them are not read again.
-const MOST_NOTED: usize = 64;
 
 /// The steps of a deck, up to a number of them.
 #[derive(Drop)]
@@ -54,131 +43,6 @@ pub struct Reached {
     pub kept: usize,
 }
 
-/// Where a call finds its procedure.
-#[derive(Drop)]
-struct Sources<'a> {
-    library: &'a ProcLibrary,
-    /// Those of the stream.
-    procedures: &'a [Procedure],
-}
-
-/// What a call gives to the steps of the procedure.
-#[derive(Drop)]
-struct Calling<'a> {
-    /// The name on the EXEC statement that calls.
-    name: Option<Name8>,
-    /// Its place, from 1.
-    place: usize,
-    /// The symbols to which it gives values.
-    symbols: &'a [Symbol],
-}
-
-/// The steps that a procedure's statements bring.
-fn body_steps(
-    alloc: Global,
-    call: &Calling<'_>,
-    own_symbols: &[Symbol],
-    statements: &[Statement],
-) -> Result<Listed<FlatStep>, ReadError>
-    ensures { Gives result (steps_of (call_with call.now own_symbols.now) statements.now) }
-{
-    let caller = Caller {
-        name: call.name,
-        place: call.place,
-        symbols: call.symbols,
-        own_symbols,
-    };
-    steps_of(alloc, caller, statements)
-}
-
-/// Those behind a PROC statement, which gives symbols values where the call gives none.
-fn steps_behind_proc(
-    alloc: Global,
-    call: &Calling<'_>,
-    first: &Statement,
-    behind: &[Statement],
-) -> Result<Listed<FlatStep>, ReadError>
-    ensures { Gives result (and_then (body_by IsProc first.now behind.now) (steps_with call.now)) }
-{
-    let card = procedure_card(
-        alloc,
-        false,
-        first.name.as_slice(),
-        first.operand.as_slice(),
-    )?;
-    body_steps(alloc, call, card.symbols.as_slice(), behind)
-}
-
-fn is_proc(statement: &Statement) -> bool
-    ensures { result ≡ is_proc statement.now }
-{
-    match operation_of(statement.operation.as_slice()) {
-        Operation::IsProc => true,
-        _ => false,
-    }
-}
-
-/// The steps of a procedure of the library, which may begin with a PROC statement.
-fn statements_steps(
-    alloc: Global,
-    call: &Calling<'_>,
-    statements: &[Statement],
-) -> Result<Listed<FlatStep>, ReadError>
-    ensures { Gives result (and_then (body_of statements.now) (steps_with call.now)) }
-{
-    if let Some((first, behind)) = statements.split_first() {
-        if is_proc(first) {
-            return steps_behind_proc(alloc, call, first, behind);
-        }
-    }
-    body_steps(alloc, call, &[], statements)
-}
-
-/// The steps of a procedure of the library, whose cards were read when it was added; their first fault is told at each call.
-fn library_steps(
-    alloc: Global,
-    call: &Calling<'_>,
-    reading: &Reading,
-) -> Result<Listed<FlatStep>, ReadError>
-    ensures { Gives result (steps_by_reading call.now reading.now) }
-{
-    match reading {
-        Ok(statements) => statements_steps(alloc, call, statements.as_slice()),
-        Err(fault) => Err(ReadError::Refused(Cause::C(fault.number()))),
-    }
-}
-
-/// The first procedure of a name in the stream.
-fn in_deck<'a>(procedures: &'a [Procedure], name: Name8) -> Option<&'a Procedure>
-    ensures { option_copied result ≡ in_deck procedures.now name }
-{
-    for procedure in procedures {
-        if procedure.name.as_slice() == name.as_slice() {
-            return Some(procedure);
-        }
-    }
-    None
-}
-
-/// The steps of the procedure of a name: the first in the stream, else that of the library.
-fn procedure_steps(
-    alloc: Global,
-    sources: &Sources<'_>,
-    name: Name8,
-    call: &Calling<'_>,
-) -> Result<Listed<FlatStep>, ReadError>
-    ensures { Gives result (and_then (body_named sources.now.library.now sources.now.procedures.now name) (steps_with call.now)) }
-{
-    if let Some(procedure) = in_deck(sources.procedures, name) {
-        let symbols = procedure.symbols.as_slice();
-        return body_steps(alloc, call, symbols, procedure.statements.as_slice());
-    }
-    match sources.library.reading(&name) {
-        Some(reading) => library_steps(alloc, call, reading),
-        None => Err(ReadError::Refused(Cause::P(StatementFault::NoSuchProcedure))),
-    }
-}
-
 /// A call: the procedure's steps, then its overrides.
 fn called(
     alloc: Global,
@@ -191,12 +55,14 @@ fn called(
 ) -> Result<Listed<FlatStep>, ReadError>
     ensures { Gives result (called sources.now.library.now sources.now.procedures.now place exec.now dds name symbols.now) }
 {
-    let call = Calling {
+    let body = body_named(alloc, sources, name)?;
+    let caller = Caller {
         name: exec.name,
         place,
         symbols,
+        own_symbols: body.symbols.as_slice(),
     };
-    let steps = procedure_steps(alloc, sources, name, &call)?;
+    let steps = steps_of(alloc, caller, body.statements)?;
     let changed = override_conditions(steps, exec)?;
     override_dds(alloc, changed, dds)
 }
@@ -274,80 +140,42 @@ fn steps_by(
     }
 }
 
-fn same_symbol(a: &Symbol, b: &Symbol) -> bool
-    ensures { OnTrue result (a.now ≡ b.now) }
+/// Whether a step is refused, where no steps are kept.
+fn tell_step(
+    alloc: Global,
+    sources: &Sources<'_>,
+    known: &mut Vec<Known>,
+    place: usize,
+    step: DeckStep,
+) -> Result<(), ReadError>
+    requires { All (IsKnown sources.now.library.now sources.now.procedures.now) known.old.items }
+    ensures tells { Tells result (steps_by step.exec.runs sources.now.library.now sources.now.procedures.now place step) }
+    ensures known { OnOk result (All (IsKnown sources.now.library.now sources.now.procedures.now) known.new.items) }
 {
-    a.name.as_slice() == b.name.as_slice() && a.value.as_slice() == b.value.as_slice()
-}
-
-fn same_symbols(a: &[Symbol], b: &[Symbol]) -> bool
-    ensures { OnTrue result (a.now ≡ b.now) }
-{
-    if a.len() != b.len() {
-        return false;
-    }
-    for i in 0..a.len() {
-        if !same_symbol(&a[i], &b[i]) {
-            return false;
+    let DeckStep { exec, dds } = step;
+    if let Runs::Procedure { name, symbols } = &exec.runs {
+        if exec.named_steps.as_slice().is_empty() && dds.as_slice().len() <= 1 {
+            let call = Call {
+                place,
+                exec: &exec,
+                dds: dds.as_slice(),
+                name: *name,
+                symbols: symbols.as_slice(),
+            };
+            return tell_call(alloc, sources, known, &call);
         }
     }
-    true
-}
-
-/// Whether a step runs a program, or calls what another one calls, with the same symbols.
-fn is_like(other: &Runs, runs: &Runs) -> bool
-    ensures { OnTrue result (IsLike other.now runs.now) }
-{
-    let Runs::Procedure { name, symbols } = runs else {
-        return true;
-    };
-    let Runs::Procedure {
-        name: own,
-        symbols: values,
-    } = other
-    else {
-        return false;
-    };
-    own.as_slice() == name.as_slice() && same_symbols(values.as_slice(), symbols.as_slice())
-}
-
-/// Whether it is like one that was read.
-fn was_read(read: &[Runs], runs: &Runs) -> bool
-    ensures { (library : List LibraryProcedure) (procedures : List in_stream.Procedure)
-        → All (WasRead library procedures) read.now → OnTrue result (WasRead library procedures runs.now) }
-{
-    for other in read {
-        if is_like(other, runs) {
-            return true;
-        }
-    }
-    false
-}
-
-/// Notes what was read, once, and as long as few calls are noted.
-fn note(read: &mut Vec<Runs>, exec: ExecCard) -> Result<(), AllocError>
-    ensures { (library : List LibraryProcedure) (procedures : List in_stream.Procedure)
-        → All (WasRead library procedures) read.old.items → WasRead library procedures exec.runs → All (WasRead library procedures) read.new.items }
-{
-    let ExecCard { runs, .. } = exec;
-    if read.len() < MOST_NOTED && !was_read(read.as_slice(), &runs) {
-        read.push(runs)?;
-    }
+    steps_by(alloc, sources, place, &exec, dds)?;
     Ok(())
 }
 
-/// Whether a step need not be read: no more are kept, and it brings no refusal, since it is like one that was read and overrides nothing.
-fn passes(expansion: &Expansion, read: &[Runs], step: &DeckStep) -> bool
-    ensures { (library : List LibraryProcedure) (procedures : List in_stream.Procedure)
-        → All (WasRead library procedures) read.now → OnTrue result (Passes library procedures expansion.now step.now) }
+/// Whether no steps are kept.
+fn is_many(expansion: &Expansion) -> bool
+    ensures { OnTrue result (expansion.now ≡ Expansion.TooMany) }
 {
     match expansion {
         Expansion::Steps(_) => false,
-        Expansion::TooMany => {
-            step.exec.named_steps.as_slice().is_empty()
-                && step.dds.as_slice().is_empty()
-                && was_read(read, &step.exec.runs)
-        }
+        Expansion::TooMany => true,
     }
 }
 
@@ -433,18 +261,18 @@ pub fn expand_to(
         procedures,
     };
     let mut expansion = kept_first(alloc, most, steps.as_slice());
-    let mut read = Vec::new(alloc);
+    let mut known = Vec::new(alloc);
     let mut place = 0;
     for step in steps.into_vec() {
         place += 1;
         reached.step = place;
-        if passes(&expansion, read.as_slice(), &step) {
+        if is_many(&expansion) {
+            tell_step(alloc, &sources, &mut known, place, step)?;
             continue;
         }
         let DeckStep { exec, dds } = step;
         let found = steps_by(alloc, &sources, place, &exec, dds)?;
         expansion = with_steps(expansion, most, found)?;
-        note(&mut read, exec)?;
         reached.kept = kept_to(&expansion, place, reached.kept);
     }
     Ok(expansion)

@@ -4,12 +4,13 @@ ghost use Rattle.std.specs.List.{list_any, position};
 ghost use Rattle.value_core.specs.Reads.{Gives};
 ghost use Rattle.jcl_procs.specs.Overrides.{is_named, is_of_name, is_step, step_at, with_dd, with_dd_between, with_dds};
 ghost use Rattle.jcl_procs.specs.Overrides.{dds_at, dds_overridden, overrides_member, overrides_from, overrides_named, overrides_one};
+ghost use Rattle.jcl_procs.specs.StepDds.{fault_of, first_fault};
 ghost use Rattle.jcl_procs.specs.StepDds.{AreMembers, IsPlace, added, continues, inserted, merged_there, names_step, placed, with_member, with_named};
 ghost use Rattle.jcl_dds.specs.declared.dd.DdCard.{DdCard};
 
 use crate::step::FlatStep;
 use jcl_dds::dd::{DdCard, bare_dd};
-use jcl_dds::merging::{by_itself, merged};
+use jcl_dds::merging::{by_itself, merged, merging_fault};
 use jcl_plan::fault::{Cause, StatementFault};
 use jname_core::name8::Name8;
 use plain::listed::Listed;
@@ -329,4 +330,51 @@ pub fn override_dds(
         member: 0,
     };
     overrides_from(alloc, place, VecDeque::from(dds.into_vec()))
+}
+
+/// The fault of an override with a name, which leaves the DDs of the step as they are.
+fn named_fault(dds: &[DdCard], dd: &DdCard) -> Option<Cause>
+    ensures { result ≡ fault_of (with_named dds.now dd.now) }
+{
+    match dd_of(dd.name, dds) {
+        Some(n) => merging_fault(&dds[n], dd),
+        None => None,
+    }
+}
+
+/// The fault of one without a name.
+fn member_fault(dds: &[DdCard], n: usize, dd: &DdCard) -> Option<Cause>
+    ensures { result ≡ fault_of (with_member dds.now n dd.now) }
+{
+    if continues_at(dds, n) {
+        merging_fault(&dds[n], dd)
+    } else {
+        None
+    }
+}
+
+/// The fault of the first override of a call, which leaves the steps as they are.
+fn first_fault(steps: &[FlatStep], dd: &DdCard) -> Option<Cause>
+    requires { 0 < length steps.now }
+    ensures { result ≡ first_fault steps.now dd.now }
+{
+    if dd.name.is_none() {
+        return member_fault(steps[0].dds.as_slice(), 0, dd);
+    }
+    match step_at(steps, 0, dd.qualifier) {
+        Ok(n) => named_fault(steps[n].dds.as_slice(), dd),
+        Err(cause) => Some(cause),
+    }
+}
+
+/// The fault of a call's one override, if it has one, which leaves the steps as they are.
+pub(crate) fn override_fault(steps: &[FlatStep], dds: &[DdCard]) -> Option<Cause>
+    requires steps { 0 < length steps.now }
+    requires dds { length dds.now ≤ 1 }
+    ensures { result ≡ fault_of (dds_overridden steps.now dds.now) }
+{
+    match dds.first() {
+        Some(dd) => first_fault(steps, dd),
+        None => None,
+    }
 }

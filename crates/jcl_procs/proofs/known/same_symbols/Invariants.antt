@@ -1,5 +1,5 @@
 use Rattle.std.proofs.Common.{◌≡◌, take}
-use Rattle.jcl_procs.proofs.expansion.same_symbols.Given as goal
+use Rattle.jcl_procs.proofs.known.same_symbols.Given as goal
 
 abbrev pub invariant-loop-i : goal.invariant-loop-i
 invariant-loop-i l = take l.i l.a ≡ take l.i l.b
