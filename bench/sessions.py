@@ -99,6 +99,56 @@ def procedures(n):
     return INITIATOR + library + b"".join(b"./ READ\n//J JOB 1\n// EXEC P%d\n./ END\n" % k for k in reversed(range(0, n, 5)))
 
 
+def long_procedure(symbol, count):
+    """A procedure of one step that has so many statements, which gives a symbol a value, if one is named, and uses it in its last DD."""
+    dds = b"".join(b"//D%d DD DUMMY\n" % k for k in range(1, count - 1))
+    head = b"//P PROC %s=1\n" % symbol if symbol else b""
+    last = b"//Z DD SPACE=(TRK,&%s)\n" % symbol if symbol else b"//Z DD DUMMY\n"
+    return b"./ PROC P\n" + head + b"//A EXEC PGM=IEFBR14\n" + dds + last + b"./ END\n"
+
+
+def overrides(n):
+    """A deck of {:,} calls of a procedure of 9,000 statements, each of which overrides a DD."""
+    deck = b"".join(b"//S EXEC P\n//A.D%d DD UNIT=A\n" % (k + 1) for k in range(n))
+    return long_procedure(b"", 9000) + INITIATOR + b"./ READ\n//J JOB 1\n" + deck + b"./ END\n"
+
+
+def values(n):
+    """A deck of {:,} calls of a procedure of 9,000 statements, each of which gives a symbol another value."""
+    deck = b"".join(b"//S EXEC P,V=%d\n" % (k + 1) for k in range(n))
+    return long_procedure(b"V", 9000) + INITIATOR + b"./ READ\n//J JOB 1\n" + deck + b"./ END\n"
+
+
+def bad_override(n):
+    """A deck of {:,} calls of a procedure of 9,000 statements, each of which overrides a DD, the last one of a step that is not there."""
+    deck = b"".join(b"//S EXEC P\n//A.D%d DD UNIT=A\n" % (k + 1) for k in range(n - 1)) + b"//S EXEC P\n//X.D1 DD UNIT=A\n"
+    return long_procedure(b"", 9000) + INITIATOR + b"./ READ\n//J JOB 1\n" + deck + b"./ END\n"
+
+
+def bad_overrides(n):
+    """A deck of {:,} calls of a procedure of 9,000 statements, each of which overrides a DD of a step that is not there."""
+    deck = b"//S EXEC P\n//X.D1 DD UNIT=A\n" * n
+    return long_procedure(b"", 9000) + INITIATOR + b"./ READ\n//J JOB 1\n" + deck + b"./ END\n"
+
+
+def bad_value(n):
+    """A deck of {:,} calls of a procedure of 9,000 statements, each of which gives a symbol another value, the last one a bad one."""
+    deck = b"".join(b"//S EXEC P,V=%d\n" % (k + 1) for k in range(n - 1)) + b"//S EXEC P,V=X\n"
+    return long_procedure(b"V", 9000) + INITIATOR + b"./ READ\n//J JOB 1\n" + deck + b"./ END\n"
+
+
+def bad_values(n):
+    """A deck of {:,} calls of a procedure of 9,000 statements, each of which gives a symbol a bad value."""
+    deck = b"".join(b"//S EXEC P,V=X%d\n" % k for k in range(n))
+    return long_procedure(b"V", 9000) + INITIATOR + b"./ READ\n//J JOB 1\n" + deck + b"./ END\n"
+
+
+def references(n):
+    """A deck of {:,} calls of a procedure of 9,000 statements, each with a DD that refers to nothing."""
+    deck = b"".join(b"//S%d EXEC P\n//A.D1 DD DSN=*.S%d.A.X\n" % (k, k) for k in range(n))
+    return long_procedure(b"", 9000) + INITIATOR + b"./ READ\n//J JOB 1\n" + deck + b"./ END\n"
+
+
 def idle(n):
     """{:,} idle turns of an initiator of eight classes, beside 2,047 jobs of another class that wait."""
     job = b"./ READ\n//J JOB 1,CLASS=O\n// EXEC PGM=IEFBR14\n./ END\n"
@@ -206,6 +256,13 @@ def past(n):
 SIZED = [
     (calls, 10_000),
     (procedures, 9_995),
+    (overrides, 450),
+    (values, 900),
+    (bad_override, 450),
+    (bad_overrides, 450),
+    (bad_value, 900),
+    (bad_values, 900),
+    (references, 32),
     (most_dds, 2_048),
     (many_steps, 20),
     (one_step, 640),

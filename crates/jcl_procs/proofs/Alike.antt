@@ -1,6 +1,6 @@
 -- What a call is refused for behind some statements of a procedure depends on little of them: on whether there is a step so far, and which DDs are refused by
 -- their place. It does not depend on the name of the call, nor on its place among others.
-use Rattle.std.proofs.Common.{◌≡◌, ◌∷◌, ◌++◌, ◌∙◌, ℕ, ◌||◌, ◌&&◌, ◌==◌, Bool, true, false, not, List, [], Option, None, Some, Result, Ok, Err, ap, arith, length, map, refl, subst, sym}
+use Rattle.std.proofs.Common.{◌≡◌, ◌∷◌, ◌++◌, ◌∙◌, ℕ, ◌||◌, ◌&&◌, ◌==◌, Bool, true, false, not, List, [], Option, None, Some, Result, Ok, Err, ap, arith, length, map, refl, subst, suc, sym}
 use Rattle.std.specs.Prelude.{is_some, if◌then◌else◌}
 use Rattle.card_core.specs.declared.statement.Statement.{Statement}
 use Rattle.jcl_dds.specs.declared.dd.DdCard.{DdCard}
@@ -102,6 +102,11 @@ as_many dd (step ∷ next ∷ steps) = grind arith
 as_many_dds : (dd : DdCard) (step : FlatStep) (steps : List FlatStep) → (length (dds_of (onto_last dd (step ∷ steps))) == 0) ≡ false
 as_many_dds dd step [] = refl
 as_many_dds dd step (next ∷ steps) = grind arith
+
+pub as_many_behind : (dd : DdCard) (steps : List FlatStep) → length (onto_last dd steps) ≡ length steps
+as_many_behind dd [] = refl
+as_many_behind dd (step ∷ []) = refl
+as_many_behind dd (step ∷ next ∷ steps) = ap (λ n. suc n) (as_many_behind dd (next ∷ steps))
 
 pub has_none_behind : (place : Place) (dd : DdCard) → has_none (with_dd place dd) ≡ has_none place
 has_none_behind place dd = as_many dd place.steps

@@ -27,7 +27,7 @@ use Rattle.jcl_procs.specs.declared.overriding.Place as overriding
 use Rattle.jcl_procs.specs.declared.step.FlatStep.{FlatStep}
 use Rattle.jcl_procs.specs.Bodies.{behind}
 use Rattle.jcl_procs.specs.Calls.{Call, Place, behind_by, steps_behind, steps_from, steps_of, steps_with}
-use Rattle.jcl_procs.specs.Counting.{IsKnown, KeepsFirst, counted, up_to}
+use Rattle.jcl_procs.specs.Counting.{IsKnown, IsLeft, KeepsFirst, counted, is_over, up_to}
 use Rattle.jcl_procs.specs.Expansions.{Body, and_then, body_named, flat_from, joined, plain_step, steps_by}
 use Rattle.jcl_procs.specs.Overrides.{conditions_overridden, dds_at, dds_overridden, inserts, is_of_name, is_step, names_steps, overrides_by_position, overrides_from, overrides_member, overrides_named, overrides_next, overrides_one, overrides_there, place_behind, puts_merged, step_at, with_condition, with_step_condition, with_step_conditions, with_this}
 use Rattle.jcl_procs.specs.Overrides.{steps_behind as steps_onward}
@@ -176,7 +176,7 @@ one_keeps place dd = by (is_none dd.name)
     by true = next_keeps place dd (slice_get (dds_at place.steps place.at) place.member)
     by false = behind_keeps place dd (step_at place.steps place.at dd.qualifier)
 
-from_keeps : (dds : List DdCard) (place : overriding.Place) (steps : List FlatStep) → overrides_from place dds ≡ Ok steps → length steps ≡ length place.steps
+pub from_keeps : (dds : List DdCard) (place : overriding.Place) (steps : List FlatStep) → overrides_from place dds ≡ Ok steps → length steps ≡ length place.steps
 unfolding KeepsSteps
 from_keeps [] place steps is = let same : place.steps ≡ steps = cc in ap length (sym same)
 from_keeps (dd ∷ dds) place steps is = by (λ next h. from_keeps dds next steps h) (overrides_one place dd) refl is
@@ -186,19 +186,21 @@ from_keeps (dd ∷ dds) place steps is = by (λ next h. from_keeps dds next step
     by more (Ok next) so h = more next h ∙ one_keeps place dd next so
     by more (Err fault) so h = absurd cc
 
-some_overridden : (exec : ExecCard) (dds : List DdCard) (steps found : List FlatStep) → overridden exec dds steps ≡ Ok found → 1 ≤ length steps → 1 ≤ length found
-some_overridden exec dds steps found is some = by (names_steps steps exec.named_steps) is
+pub overridden_keeps : (exec : ExecCard) (dds : List DdCard) (steps found : List FlatStep) → overridden exec dds steps ≡ Ok found → length found ≡ length steps
+overridden_keeps exec dds steps found is = by (names_steps steps exec.named_steps) is
   where
     by : (b : Bool) → and_then (let r : Result (List FlatStep) Cause = if b then Ok (with_step_conditions (with_condition exec.condition steps) exec.step_conditions)
-        else Err (P NoSuchProcedureStep) in r) (λ changed. dds_overridden changed dds) ≡ Ok found → 1 ≤ length found
+        else Err (P NoSuchProcedureStep) in r) (λ changed. dds_overridden changed dds) ≡ Ok found → length found ≡ length steps
     by true h =
-        let size = from_keeps dds (record {
+        from_keeps dds (record {
           steps = with_step_conditions (with_condition exec.condition steps) exec.step_conditions;
           at = 0;
           member = 0;
-        }) found h ∙ with_several exec.step_conditions (with_condition exec.condition steps) ∙ with_all exec.condition steps in
-        omega (arith, size, some)
+        }) found h ∙ with_several exec.step_conditions (with_condition exec.condition steps) ∙ with_all exec.condition steps
     by false h = absurd cc
+
+some_overridden : (exec : ExecCard) (dds : List DdCard) (steps found : List FlatStep) → overridden exec dds steps ≡ Ok found → 1 ≤ length steps → 1 ≤ length found
+some_overridden exec dds steps found is some = let same = overridden_keeps exec dds steps found is in omega (arith, same, some)
 
 some_called : (exec : ExecCard) (dds : List DdCard) (call : Call) (statements : List Statement) (found : List FlatStep) (r : Result (List FlatStep) Cause) →
     steps_of call statements ≡ r → and_then r (overridden exec dds) ≡ Ok found → 1 ≤ length found
@@ -304,6 +306,54 @@ module _ (library : List LibraryProcedure) (procedures : List in_stream.Procedur
     pub refused : (fault : Cause) → its ≡ Err fault → counted most (flat_from library procedures 1 all) ≡ Err fault
     refused fault is =
         ap (counted most) (it.so ∙ ap (λ (r : Result (List FlatStep) Cause). behind it.whole (joined r (λ _. next))) is)
+
+  -- the same where they are counted alone
+  pub record Counts (most : ℕ) (all : List DeckStep) (place : ℕ) (rest : List DeckStep) (left : Option ℕ) (noted : List Known) : Type 0 where
+    pub whole : List FlatStep
+    pub so : flat_from library procedures 1 all ≡ behind whole (flat_from library procedures (place + 1) rest)
+    pub counted : IsLeft most (length whole) left
+    pub known : All (IsKnown library procedures) noted
+
+  pub count_begins : (most : ℕ) (all : List DeckStep) (noted : List Known) → noted ≡ [] → Counts most all 0 all (Some most) noted
+  count_begins most all noted empty = record {
+    whole = [];
+    so = behind_none (flat_from library procedures 1 all);
+    counted = omega arith;
+    known = subst (All (IsKnown library procedures)) (sym empty) (All-nil (IsKnown library procedures));
+  }
+
+  module _ (most : ℕ) (all : List DeckStep) (place : ℕ) (step : DeckStep) (rest : List DeckStep) (left : Option ℕ) (noted : List Known)
+      (it : Counts most all place (step ∷ rest) left noted) where
+    abbrev after : Result (List FlatStep) Cause
+    after = flat_from library procedures (place + 1 + 1) rest
+
+    abbrev own : Result (List FlatStep) Cause
+    own = steps_by step.exec.runs library procedures (place + 1) step
+
+    pub counts_on : (more : List FlatStep) (count : ℕ) (now : Option ℕ) (still : List Known) → own ≡ Ok more → length more ≡ count →
+        ((most so_far : ℕ) → IsLeft most so_far left → IsLeft most (so_far + count) now) → All (IsKnown library procedures) still →
+        Counts most all (place + 1) rest now still
+    counts_on more count now still is long goes known = record {
+      whole = it.whole ++ more;
+      so = it.so ∙ ap (λ (r : Result (List FlatStep) Cause). behind it.whole (joined r (λ _. after))) is ∙ behind_both it.whole more after;
+      counted = subst (λ n. IsLeft most n now) (ap (λ n. length it.whole + n) (sym long) ∙ sym (length-append it.whole more)) (goes most (length it.whole) it.counted);
+      known = known;
+    }
+
+    pub count_refused : (fault : Cause) → own ≡ Err fault → is_over most (flat_from library procedures 1 all) ≡ Err fault
+    count_refused fault is =
+        ap (is_over most) (it.so ∙ ap (λ (r : Result (List FlatStep) Cause). behind it.whole (joined r (λ _. after))) is)
+
+  left_is : (most : ℕ) (whole : List FlatStep) (left : Option ℕ) → IsLeft most (length whole) left → nat_lt most (length whole) ≡ is_none left
+  left_is most whole None over = lt-ltb most (length whole) over
+  left_is most whole (Some n) same = le-ltb most (length whole) (omega (arith, same))
+
+  pub count_ends : (most : ℕ) (all : List DeckStep) (place : ℕ) (rest : List DeckStep) (left : Option ℕ) (noted : List Known) →
+      Counts most all place rest left noted → rest ≡ [] → is_over most (flat_from library procedures 1 all) ≡ Ok (is_none left)
+  count_ends most all place rest left noted it none =
+      ap (is_over most) (it.so ∙ ap (λ l. behind it.whole (flat_from library procedures (place + 1) l)) none)
+      ∙ ap (λ (l : List FlatStep). let r : Result Bool Cause = Ok (nat_lt most (length l)) in r) (append-nil it.whole)
+      ∙ ap (λ (b : Bool). let r : Result Bool Cause = Ok b in r) (left_is most it.whole left it.counted)
 
   kept_last : (most : ℕ) (expansion : Expansion) (whole : List FlatStep) (rest : List DeckStep) → Keeps most expansion whole rest → rest ≡ [] →
       up_to most whole ≡ expansion

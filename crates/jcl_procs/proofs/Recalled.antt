@@ -13,8 +13,8 @@ use Rattle.jcl_procs.specs.Counting.{Brings, Tells, WasBrought, WereRead, brough
 use Rattle.jcl_procs.specs.Expansions.{Body, and_then, body_named, called}
 use Rattle.jcl_procs.specs.Overrides.{conditions_overridden, dds_overridden, with_condition, with_step_conditions}
 use Rattle.jcl_procs.specs.StepDds.{fault_of}
-use Rattle.jcl_procs.proofs.Counting.{some_from}
-use Rattle.jcl_procs.proofs.Same.{Same, same_changed, same_overridden, same_steps}
+use Rattle.jcl_procs.proofs.Counting.{from_keeps, overridden_keeps, some_from}
+use Rattle.jcl_procs.proofs.Same.{Same, same_changed, same_length, same_overridden, same_steps}
 use Rattle.jcl_symbols.specs.declared.symbol.Symbol.{Symbol}
 use Rattle.proc_library.specs.declared.library.LibraryProcedure.{LibraryProcedure}
 use Rattle.value_core.specs.declared.refusal.ReadError.{ReadError}
@@ -33,17 +33,20 @@ refused_as : (r : Result (List FlatStep) Cause) (fault : Cause) → fault_of r �
 refused_as (Ok found) fault is = absurd cc
 refused_as (Err own) fault is = let same : own ≡ fault = cc in ap (λ (f : Cause). let r : Result (List FlatStep) Cause = Err f in r) same
 
-pub tells_as : (told : Result (Unit {0}) ReadError) (r q : Result (List FlatStep) Cause) → fault_of r ≡ fault_of q → Tells told r → Tells told q
-tells_as (Ok done) r q same tells = taken_as q (sym same ∙ ap fault_of tells.1)
-tells_as (Err (Refused fault)) r q same tells = refused_as q fault (sym same ∙ ap fault_of tells)
-tells_as (Err Memory) r q same tells = tt
+abbrev pub AsLong : Result (List FlatStep) Cause → Result (List FlatStep) Cause → Type 0
+AsLong r q = (found more : List FlatStep) → r ≡ Ok found → q ≡ Ok more → length more ≡ length found
 
--- and of an answer by its fault
-pub tells_ok : (r : Result (List FlatStep) Cause) → None ≡ fault_of r → Tells (Ok tt) r
-tells_ok r is = taken_as r (sym is)
+pub tells_as : (told : Result ℕ ReadError) (r q : Result (List FlatStep) Cause) → fault_of r ≡ fault_of q → AsLong r q → Tells told r → Tells told q
+tells_as (Ok count) r q same long tells =
+    let more = taken_as q (sym same ∙ ap fault_of tells.1) in (more.0, more.1, long tells.0 more.0 tells.1 more.1 ∙ tells.2)
+tells_as (Err (Refused fault)) r q same long tells = refused_as q fault (sym same ∙ ap fault_of tells)
+tells_as (Err Memory) r q same long tells = tt
 
-pub tells_err : (r : Result (List FlatStep) Cause) (fault : Cause) → Some fault ≡ fault_of r → Tells (Err (Refused fault)) r
-tells_err r fault is = refused_as r fault (sym is)
+-- overriding DDs makes no step and takes none away
+pub overridden_tells : (steps : List FlatStep) (dds : List DdCard) → None ≡ fault_of (dds_overridden steps dds) → Tells (Ok (length steps)) (dds_overridden steps dds)
+overridden_tells steps dds is =
+    let found = taken_as (dds_overridden steps dds) (sym is) in
+    (found.0, found.1, from_keeps dds (record { steps = steps; at = 0; member = 0 }) found.0 found.1)
 
 pub none_long : (dds : List DdCard) → true ≡ (length dds == 0) → dds ≡ []
 none_long [] is = refl
@@ -96,6 +99,24 @@ module _ (library : List LibraryProcedure) (procedures : List in_stream.Procedur
         fault_of (dds_overridden steps dds) ≡ fault_of (called library procedures place exec dds name symbols)
     by_known dds steps none few it = by_body dds steps it.called it.place (body_named library procedures name) none few it.so
 
+    long_body : (dds : List DdCard) (steps more : List FlatStep) (was : Option (List ℕ)) (at : ℕ) (body : Result Body Cause) →
+        and_then body (λ b. steps_of (record { name = was; place = at; symbols = symbols ++ b.symbols }) b.statements) ≡ Ok steps →
+        and_then body (λ b. and_then (steps_of (call_with b) b.statements) (onward dds)) ≡ Ok more → length more ≡ length steps
+    long_body dds steps more was at (Err fault) is so = absurd cc
+    long_body dds steps more was at (Ok b) is so =
+        let own = same_steps was exec.name (symbols ++ b.symbols) at place b.statements steps is in
+        overridden_keeps exec dds own.0 more (sym (ap (λ (r : Result (List FlatStep) Cause). and_then r (onward dds)) own.1) ∙ so)
+        ∙ sym (same_length steps own.0 own.2)
+
+    pub long_known : (dds : List DdCard) (steps : List FlatStep) → Brings library procedures name symbols steps →
+        AsLong (dds_overridden steps dds) (called library procedures place exec dds name symbols)
+    long_known dds steps it found more is so =
+        long_body dds steps more it.called it.place (body_named library procedures name) it.so so
+        ∙ sym (from_keeps dds (record { steps = steps; at = 0; member = 0 }) found is)
+
+    pub long_brought : (dds : List DdCard) → AsLong (brought library procedures exec.name place name symbols) (called library procedures place exec dds name symbols)
+    long_brought dds found more is so = long_body dds found more exec.name place (body_named library procedures name) is so
+
     -- what is refused before its steps are overridden
     refused_body : (dds : List DdCard) (body : Result Body Cause) (fault : Cause) → and_then body (λ b. steps_of (call_with b) b.statements) ≡ Err fault →
         and_then body (λ b. and_then (steps_of (call_with b) b.statements) (onward dds)) ≡ Err fault
@@ -125,10 +146,9 @@ module _ (library : List LibraryProcedure) (procedures : List in_stream.Procedur
   -- the statements of a procedure that was read at some call
   pub were_read : (name : List ℕ) (b : Body) → body_named library procedures name ≡ Ok b → WasBrought library procedures name → WereRead b.statements
   were_read name b is was =
-      let it = was.2 in
-      (
+      let it = was.2 in (
         record { name = it.called; place = it.place; symbols = was.0 ++ b.symbols },
         was.1,
         sym (ap (λ (r : Result Body Cause). and_then r
-        (λ b. steps_of (record { name = it.called; place = it.place; symbols = was.0 ++ b.symbols }) b.statements)) is) ∙ it.so,
+            (λ b. steps_of (record { name = it.called; place = it.place; symbols = was.0 ++ b.symbols }) b.statements)) is) ∙ it.so,
       )

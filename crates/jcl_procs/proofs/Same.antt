@@ -55,6 +55,12 @@ same_dds (x ∷ a) (y ∷ b) same =
 same_dds [] (y ∷ b) same = absurd same
 same_dds (x ∷ a) [] same = absurd same
 
+pub same_length : (a b : List FlatStep) → Same a b → length a ≡ length b
+same_length [] [] same = refl
+same_length (x ∷ a) (y ∷ b) same = ap (λ n. suc n) (same_length a b same.2)
+same_length [] (y ∷ b) same = absurd same
+same_length (x ∷ a) [] same = absurd same
+
 same_none : (a b : List FlatStep) → Same a b → (length a == 0) ≡ (length b == 0)
 same_none [] [] same = refl
 same_none (x ∷ a) (y ∷ b) same = grind arith
@@ -112,8 +118,7 @@ module _ (name named : Option (List ℕ)) (symbols : List Symbol) (i j : ℕ) wh
             ∙ ap (λ none. b.job_library || none) (same_none a.steps b.steps same.steps);
         steps = same_onto r.value a.steps b.steps same.steps;
       } in
-      subst (λ (q : Read DdCard). Takes x (or_fault (told q.faults) (with_dd b q.value))) both
-      (
+      subst (λ (q : Read DdCard). Takes x (or_fault (told q.faults) (with_dd b q.value))) both (
         with_dd b r.value,
         ok_too (told r.faults) (with_dd a r.value) x (with_dd b r.value) is,
         same_as (with_dd a r.value) (with_dd b r.value) x (value_is (told r.faults) (with_dd a r.value) x is) so,

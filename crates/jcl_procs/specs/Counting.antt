@@ -1,5 +1,5 @@
 -- The steps of a deck as they are collected, up to a number of them, and the calls that need not be read again. (This profile)
-use Rattle.std.specs.Prelude.{◌≡◌, ◌⊎◌, ◌<◌, ◌==◌, ℕ, nat_lt, Bool, true, false, List, [], ◌++◌, length, map, Option, Result, Ok, Err, if◌then◌else◌}
+use Rattle.std.specs.Prelude.{◌≡◌, ◌⊎◌, ◌<◌, ◌+◌, ◌==◌, ℕ, nat_lt, Bool, true, false, List, [], ◌++◌, length, map, Option, None, Some, Result, Ok, Err, if◌then◌else◌}
 use Rattle.std.specs.List.{list_any}
 use Rattle.card_core.specs.declared.statement.Statement.{Statement}
 use Rattle.jcl_plan.specs.declared.fault.Cause.{Cause}
@@ -32,9 +32,18 @@ brought library procedures called place name symbols =
     and_then (body_named library procedures name) (λ body.
     steps_of (record { name = called; place = place; symbols = symbols ++ body.symbols }) body.statements)
 
--- what is told of a step of a deck: that it brings steps, or for what it is refused; or memory is wanting
-abbrev pub Tells : Result (Unit {0}) ReadError → Result (List FlatStep) Cause → Type 0
-Tells (Ok told) steps = (found : List FlatStep) × (steps ≡ Ok found)
+-- whether they are more, or the first refusal
+abbrev pub is_over : ℕ → Result (List FlatStep) Cause → Result Bool Cause
+is_over most flat = and_then flat (λ steps. Ok (nat_lt most (length steps)))
+
+-- how many more there may be behind so many; none where they are too many
+abbrev pub IsLeft : ℕ → ℕ → Option ℕ → Type 0
+IsLeft most count (Some left) = count + left ≡ most
+IsLeft most count None = most < count
+
+-- what is told of a step of a deck: how many steps it brings, or for what it is refused; or memory is wanting
+abbrev pub Tells : Result ℕ ReadError → Result (List FlatStep) Cause → Type 0
+Tells (Ok count) steps = (found : List FlatStep) × (steps ≡ Ok found) × (length found ≡ count)
 Tells (Err (Refused fault)) steps = steps ≡ Err fault
 Tells (Err Memory) steps = Unit {0}
 

@@ -1,5 +1,5 @@
 //! The steps that a procedure brings at a call. (GC28-6704, "PROC statement", "Symbolic parameters")
-ghost use Rattle.std.specs.Prelude.{◌≡◌, ◌∷◌, ◌++◌, IfOk, OnOk, Some, [], false, true, map, unwrap_or};
+ghost use Rattle.std.specs.Prelude.{◌≡◌, ◌∷◌, ◌++◌, IfOk, OnOk, Some, [], false, length, true, map, unwrap_or};
 ghost use Rattle.std.specs.Bool.{OnTrue};
 ghost use Rattle.operand_core.specs.Faults.{told, written_name_faults};
 ghost use Rattle.operand_core.specs.Operands.{first_of, operand_of};
@@ -377,6 +377,12 @@ impl Place {
             && !has_symbol(statement.operand.as_slice())
     }
 
+    fn count(&self) -> usize
+        ensures { result ≡ length (denoted self.now).steps }
+    {
+        self.steps.as_slice().len()
+    }
+
     /// The steps, of which there is one at least.
     fn end(self) -> Result<Listed<FlatStep>, Cause>
         ensures { result ≡ steps_with (denoted self) }
@@ -415,12 +421,12 @@ pub fn steps_of(
     steps_from(alloc, &lent, statements)
 }
 
-/// Whether statements that another call did not refuse are refused at this one. A DD without a symbol behind another one of its step is not read again.
+/// How many steps statements bring at this call that another one did not refuse, or their first refusal. A DD without a symbol behind another one of its step is not read again.
 pub(crate) fn tell_steps(
     alloc: Global,
     caller: &Caller<'_>,
     statements: &[Statement],
-) -> Result<(), ReadError>
+) -> Result<usize, ReadError>
     requires { WereRead statements.now }
     ensures { Tells result (steps_of (call_of caller.now) statements.now) }
 {
@@ -431,5 +437,5 @@ pub(crate) fn tell_steps(
         }
         place.take(alloc, caller, statement)?;
     }
-    Ok(())
+    Ok(place.count())
 }

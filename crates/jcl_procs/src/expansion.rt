@@ -1,11 +1,11 @@
 //! A deck's steps, call by call. (GC28-6704, "Cataloged and in-stream procedures")
-ghost use Rattle.std.specs.Prelude.{◌≡◌, ◌++◌, All, IfOk, List, OnOk, map, is_some};
+ghost use Rattle.std.specs.Prelude.{◌≡◌, ◌+◌, ◌++◌, ℕ, All, IfOk, List, OnOk, map, is_some};
 ghost use Rattle.std.specs.Bool.{OnTrue};
 ghost use Rattle.std.specs.List.{list_any};
 ghost use Rattle.value_core.specs.Reads.{Gives};
 ghost use Rattle.jcl_dds.specs.Merging.{by_itself};
 ghost use Rattle.jcl_procs.specs.declared.step.FlatStep.{FlatStep};
-ghost use Rattle.jcl_procs.specs.Counting.{IsKnown, KeepsFirst, Tells, counted, up_to};
+ghost use Rattle.jcl_procs.specs.Counting.{IsKnown, IsLeft, KeepsFirst, Tells, counted, is_over, up_to};
 ghost use Rattle.jcl_procs.specs.Expansions.{called, flat_from, plain_step, steps_by};
 
 use crate::bodies::{Sources, body_named};
@@ -140,14 +140,14 @@ fn steps_by(
     }
 }
 
-/// Whether a step is refused, where no steps are kept.
+/// How many steps a step of the deck brings, or its refusal. None is kept.
 fn tell_step(
     alloc: Global,
     sources: &Sources<'_>,
     known: &mut Vec<Known>,
     place: usize,
     step: DeckStep,
-) -> Result<(), ReadError>
+) -> Result<usize, ReadError>
     requires { All (IsKnown sources.now.library.now sources.now.procedures.now) known.old.items }
     ensures tells { Tells result (steps_by step.exec.runs sources.now.library.now sources.now.procedures.now place step) }
     ensures known { OnOk result (All (IsKnown sources.now.library.now sources.now.procedures.now) known.new.items) }
@@ -165,8 +165,8 @@ fn tell_step(
             return tell_call(alloc, sources, known, &call);
         }
     }
-    steps_by(alloc, sources, place, &exec, dds)?;
-    Ok(())
+    let found = steps_by(alloc, sources, place, &exec, dds)?;
+    Ok(found.len())
 }
 
 /// Whether no steps are kept.
@@ -276,4 +276,39 @@ pub fn expand_to(
         reached.kept = kept_to(&expansion, place, reached.kept);
     }
     Ok(expansion)
+}
+
+/// How many more steps there may be behind some; none where there are too many.
+fn left_behind(left: Option<usize>, count: usize) -> Option<usize>
+    ensures { (most so_far : ℕ) → IsLeft most so_far left → IsLeft most (so_far + count) result }
+{
+    match left {
+        Some(left) => left.checked_sub(count),
+        None => None,
+    }
+}
+
+/// Whether the steps of a deck are more than so many, or the first refusal, call by call. None is kept.
+pub fn is_over(
+    alloc: Global,
+    library: &ProcLibrary,
+    procedures: &[Procedure],
+    steps: Listed<DeckStep>,
+    most: usize,
+) -> Result<bool, ReadError>
+    ensures { Gives result (is_over most (flat_from library.now procedures.now 1 steps)) }
+{
+    let sources = Sources {
+        library,
+        procedures,
+    };
+    let mut known = Vec::new(alloc);
+    let mut left = Some(most);
+    let mut place = 0;
+    for step in steps.into_vec() {
+        place += 1;
+        let count = tell_step(alloc, &sources, &mut known, place, step)?;
+        left = left_behind(left, count);
+    }
+    Ok(left.is_none())
 }

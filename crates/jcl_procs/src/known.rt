@@ -1,4 +1,4 @@
-//! Calls whose steps are not kept: for what they are refused, where their procedure was read at another call.
+//! Calls whose steps are not kept: how many they are, or for what the call is refused, where its procedure was read at another call.
 ghost use Rattle.std.specs.Prelude.{◌≡◌, ◌≤◌, [], All, IfSome, List, OnOk, length};
 ghost use Rattle.std.specs.Bool.{OnTrue};
 ghost use Rattle.value_core.specs.Reads.{Gives};
@@ -94,20 +94,24 @@ fn steps_brought(
     steps_of(alloc, caller, body.statements)
 }
 
-/// Whether a call of a procedure is refused that brings these steps at another call with the same symbols.
-fn tell_overrides(steps: &[FlatStep], dds: &[DdCard]) -> Result<(), ReadError>
+/// How many steps a call brings, or its refusal, where another call with the same symbols brings these before any is overridden.
+fn tell_overrides(steps: &[FlatStep], dds: &[DdCard]) -> Result<usize, ReadError>
     requires steps { 1 ≤ length steps.now }
     requires dds { length dds.now ≤ 1 }
     ensures { Tells result (dds_overridden steps.now dds.now) }
 {
     match override_fault(steps, dds) {
-        None => Ok(()),
+        None => Ok(steps.len()),
         Some(cause) => Err(ReadError::Refused(cause)),
     }
 }
 
-/// Whether a call that overrides no DD is refused, where another one with other symbols was not.
-fn tell_statements(alloc: Global, sources: &Sources<'_>, call: &Call<'_>) -> Result<(), ReadError>
+/// The same of a call before any is overridden, where another one with other symbols was not refused.
+fn tell_statements(
+    alloc: Global,
+    sources: &Sources<'_>,
+    call: &Call<'_>,
+) -> Result<usize, ReadError>
     requires { WasBrought sources.now.library.now sources.now.procedures.now call.now.name }
     ensures { Tells result (brought_by sources.now.library.now sources.now.procedures.now call.now) }
 {
@@ -142,8 +146,8 @@ fn keep(
     Ok(())
 }
 
-/// Whether a call is refused whose procedure was read with other symbols.
-fn tell_otherwise(alloc: Global, sources: &Sources<'_>, call: &Call<'_>) -> Result<(), ReadError>
+/// The same of a call whose procedure was read with other symbols.
+fn tell_otherwise(alloc: Global, sources: &Sources<'_>, call: &Call<'_>) -> Result<usize, ReadError>
     requires read { WasBrought sources.now.library.now sources.now.procedures.now call.now.name }
     requires dds { length call.now.dds.now ≤ 1 }
     requires names { call.now.exec.now.named_steps ≡ [] }
@@ -156,13 +160,13 @@ fn tell_otherwise(alloc: Global, sources: &Sources<'_>, call: &Call<'_>) -> Resu
     tell_overrides(steps.as_slice(), call.dds)
 }
 
-/// Whether a call is refused whose procedure is read for the first time.
+/// The same of a call whose procedure is read for the first time.
 fn tell_first(
     alloc: Global,
     sources: &Sources<'_>,
     known: &mut Vec<Known>,
     call: &Call<'_>,
-) -> Result<(), ReadError>
+) -> Result<usize, ReadError>
     requires dds { length call.now.dds.now ≤ 1 }
     requires names { call.now.exec.now.named_steps ≡ [] }
     requires known { All (IsKnown sources.now.library.now sources.now.procedures.now) known.old.items }
@@ -170,18 +174,18 @@ fn tell_first(
     ensures known { OnOk result (All (IsKnown sources.now.library.now sources.now.procedures.now) known.new.items) }
 {
     let steps = steps_brought(alloc, sources, call)?;
-    tell_overrides(steps.as_slice(), call.dds)?;
+    let count = tell_overrides(steps.as_slice(), call.dds)?;
     keep(alloc, known, call, steps)?;
-    Ok(())
+    Ok(count)
 }
 
-/// Whether a call is refused that overrides one DD at most, and no keyword of a single step.
+/// How many steps a call brings that overrides one DD at most and has no keyword of a single step, or its refusal.
 pub(crate) fn tell_call(
     alloc: Global,
     sources: &Sources<'_>,
     known: &mut Vec<Known>,
     call: &Call<'_>,
-) -> Result<(), ReadError>
+) -> Result<usize, ReadError>
     requires dds { length call.now.dds.now ≤ 1 }
     requires names { call.now.exec.now.named_steps ≡ [] }
     requires known { All (IsKnown sources.now.library.now sources.now.procedures.now) known.old.items }

@@ -1,4 +1,4 @@
-use Rattle.std.proofs.Common.{◌+◌, List, drop, subst, sym}
+use Rattle.std.proofs.Common.{◌+◌, ◌∙◌, List, drop, subst, sym}
 use Rattle.std.proofs.lemmas.List.{drop_all}
 use Rattle.std.proofs.lemmas.Result.{err_from_is_err_and}
 use Rattle.card_core.specs.declared.statement.Statement.{Statement}
@@ -59,5 +59,6 @@ returns c =
     let call = call_of c.args.caller.now in
     let place = denoted c.loop-statement.place in
     let first = c.loop-statement.invariant.0 in
-    ends first call statements place
-    (subst (Goes first call statements place) (drop_all c.loop-statement.statement-index statements c.loop-statement-test.false) c.loop-statement.invariant.1)
+    let it = ends first call statements place
+    (subst (Goes first call statements place) (drop_all c.loop-statement.statement-index statements c.loop-statement-test.false) c.loop-statement.invariant.1) in
+    (it.0, it.1, it.2 ∙ sym c.count.ensures)

@@ -5,7 +5,7 @@ use Rattle.jcl_procs.specs.declared.step.FlatStep.{FlatStep}
 use Rattle.jcl_procs.specs.Counting.{Brings, IsKnown, brought_by, called_by}
 use Rattle.jcl_procs.specs.Overrides.{dds_overridden}
 use Rattle.jcl_procs.specs.StepDds.{fault_of}
-use Rattle.jcl_procs.proofs.Recalled.{by_brought, by_known, none_long, some_steps, tells_as}
+use Rattle.jcl_procs.proofs.Recalled.{AsLong, by_known, long_known, some_steps, tells_as}
 use Rattle.jcl_procs.proofs.Rereading.{tells_on}
 use Rattle.jcl_procs.proofs.known.tell_call.Goals as goal
 
@@ -34,7 +34,10 @@ returns-then-same_symbols-clause-tells c =
     (subst (λ (symbols : List Symbol). Brings library procedures there.name symbols there.steps) (sym c.as_slice-own.ensures ∙ c.if-same_symbols.ensures) is.0) in
     let same = ap (λ (l : List FlatStep). fault_of (dds_overridden l call.dds.now)) c.as_slice-then-same_symbols.ensures
     ∙ by_known library procedures call.exec.now call.place call.name call.symbols.now call.dds.now there.steps c.requires.names c.requires.dds it in
-    tells_as c.tell_overrides.result (dds_overridden c.as_slice-then-same_symbols.result.now call.dds.now) (called_by library procedures call) same
+    let long : AsLong (dds_overridden c.as_slice-then-same_symbols.result.now call.dds.now) (called_by library procedures call) =
+    subst (λ (l : List FlatStep). AsLong (dds_overridden l call.dds.now) (called_by library procedures call)) (sym c.as_slice-then-same_symbols.ensures)
+    (long_known library procedures call.exec.now call.place call.name call.symbols.now call.dds.now there.steps it) in
+    tells_as c.tell_overrides.result (dds_overridden c.as_slice-then-same_symbols.result.now call.dds.now) (called_by library procedures call) same long
     c.tell_overrides.ensures
 
 pub tell_otherwise-requires-clause-read : goal.tell_otherwise-requires-clause-read

@@ -5,7 +5,7 @@ use Rattle.jcl_procs.specs.declared.step.FlatStep.{FlatStep}
 use Rattle.jcl_procs.specs.Counting.{Brings, IsKnown, brought_by, called_by}
 use Rattle.jcl_procs.specs.Overrides.{dds_overridden}
 use Rattle.jcl_procs.specs.StepDds.{fault_of}
-use Rattle.jcl_procs.proofs.Recalled.{by_brought, by_known, none_long, some_steps, tells_as}
+use Rattle.jcl_procs.proofs.Recalled.{AsLong, by_known, long_known, some_steps, tells_as}
 use Rattle.jcl_procs.proofs.Rereading.{tells_on}
 use Rattle.jcl_procs.proofs.known.tell_first.Goals as goal
 
@@ -19,8 +19,8 @@ tell_overrides-requires-clause-steps c =
     subst (λ (l : List FlatStep). 1 ≤ length l) (sym c.as_slice.ensures)
     (some_steps library procedures call.name call.symbols.now c.in_ok-steps.steps it)
 
-pub returns-in_err-tell_overrides-clause-tells : goal.returns-in_err-tell_overrides-clause-tells
-returns-in_err-tell_overrides-clause-tells c =
+pub returns-in_err-count-clause-tells : goal.returns-in_err-count-clause-tells
+returns-in_err-count-clause-tells c =
     let library = c.args.sources.now.library.now in
     let procedures = c.args.sources.now.procedures.now in
     let call = c.args.call.now in
@@ -28,10 +28,13 @@ returns-in_err-tell_overrides-clause-tells c =
     record { called = call.exec.now.name; place = call.place; so = c.in_ok-steps.ensures } in
     let same = ap (λ (l : List FlatStep). fault_of (dds_overridden l call.dds.now)) c.as_slice.ensures
     ∙ by_known library procedures call.exec.now call.place call.name call.symbols.now call.dds.now c.in_ok-steps.steps c.requires.names c.requires.dds it in
-    tells_on c.from_residual-in_err-tell_overrides.result (called_by library procedures call) c.in_err-tell_overrides.field-0.0
-    (tells_as (Err c.in_err-tell_overrides.field-0.0) (dds_overridden c.as_slice.result.now call.dds.now) (called_by library procedures call) same
-    c.in_err-tell_overrides.ensures)
-    (err_from_is_err_and c.from_residual-in_err-tell_overrides.result c.from_residual-in_err-tell_overrides.ensures.1)
+    let long : AsLong (dds_overridden c.as_slice.result.now call.dds.now) (called_by library procedures call) =
+    subst (λ (l : List FlatStep). AsLong (dds_overridden l call.dds.now) (called_by library procedures call)) (sym c.as_slice.ensures)
+    (long_known library procedures call.exec.now call.place call.name call.symbols.now call.dds.now c.in_ok-steps.steps it) in
+    tells_on c.from_residual-in_err-count.result (called_by library procedures call) c.in_err-count.field-0.0
+    (tells_as (Err c.in_err-count.field-0.0) (dds_overridden c.as_slice.result.now call.dds.now) (called_by library procedures call) same long
+    c.in_err-count.ensures)
+    (err_from_is_err_and c.from_residual-in_err-count.result c.from_residual-in_err-count.ensures.1)
 
 pub returns-clause-tells : goal.returns-clause-tells
 returns-clause-tells c =
@@ -42,4 +45,7 @@ returns-clause-tells c =
     record { called = call.exec.now.name; place = call.place; so = c.in_ok-steps.ensures } in
     let same = ap (λ (l : List FlatStep). fault_of (dds_overridden l call.dds.now)) c.as_slice.ensures
     ∙ by_known library procedures call.exec.now call.place call.name call.symbols.now call.dds.now c.in_ok-steps.steps c.requires.names c.requires.dds it in
-    tells_as (Ok tt) (dds_overridden c.as_slice.result.now call.dds.now) (called_by library procedures call) same c.in_ok-tell_overrides.ensures
+    let long : AsLong (dds_overridden c.as_slice.result.now call.dds.now) (called_by library procedures call) =
+    subst (λ (l : List FlatStep). AsLong (dds_overridden l call.dds.now) (called_by library procedures call)) (sym c.as_slice.ensures)
+    (long_known library procedures call.exec.now call.place call.name call.symbols.now call.dds.now c.in_ok-steps.steps it) in
+    tells_as (Ok c.in_ok-count.count) (dds_overridden c.as_slice.result.now call.dds.now) (called_by library procedures call) same long c.in_ok-count.ensures

@@ -5,7 +5,7 @@ use Rattle.jcl_procs.specs.declared.step.FlatStep.{FlatStep}
 use Rattle.jcl_procs.specs.Counting.{Brings, IsKnown, brought_by, called_by}
 use Rattle.jcl_procs.specs.Overrides.{dds_overridden}
 use Rattle.jcl_procs.specs.StepDds.{fault_of}
-use Rattle.jcl_procs.proofs.Recalled.{by_brought, by_known, none_long, some_steps, tells_as}
+use Rattle.jcl_procs.proofs.Recalled.{AsLong, by_brought, by_known, long_brought, long_known, none_long, some_steps, tells_as}
 use Rattle.jcl_procs.proofs.Rereading.{tells_on}
 use Rattle.jcl_procs.proofs.known.tell_otherwise.Goals as goal
 
@@ -16,7 +16,7 @@ returns-then-is_empty c =
     let call = c.args.call.now in
     tells_as c.tell_statements.result (brought_by library procedures call) (called_by library procedures call)
     (by_brought library procedures call.exec.now call.place call.name call.symbols.now call.dds.now c.requires.names (none_long call.dds.now c.if-is_empty.ensures))
-    c.tell_statements.ensures
+    (long_brought library procedures call.exec.now call.place call.name call.symbols.now call.dds.now) c.tell_statements.ensures
 
 pub tell_overrides-requires-clause-steps : goal.tell_overrides-requires-clause-steps
 tell_overrides-requires-clause-steps c =
@@ -37,4 +37,7 @@ returns c =
     record { called = call.exec.now.name; place = call.place; so = c.in_ok-steps.ensures } in
     let same = ap (λ (l : List FlatStep). fault_of (dds_overridden l call.dds.now)) c.as_slice.ensures
     ∙ by_known library procedures call.exec.now call.place call.name call.symbols.now call.dds.now c.in_ok-steps.steps c.requires.names c.requires.dds it in
-    tells_as c.tell_overrides.result (dds_overridden c.as_slice.result.now call.dds.now) (called_by library procedures call) same c.tell_overrides.ensures
+    let long : AsLong (dds_overridden c.as_slice.result.now call.dds.now) (called_by library procedures call) =
+    subst (λ (l : List FlatStep). AsLong (dds_overridden l call.dds.now) (called_by library procedures call)) (sym c.as_slice.ensures)
+    (long_known library procedures call.exec.now call.place call.name call.symbols.now call.dds.now c.in_ok-steps.steps it) in
+    tells_as c.tell_overrides.result (dds_overridden c.as_slice.result.now call.dds.now) (called_by library procedures call) same long c.tell_overrides.ensures
