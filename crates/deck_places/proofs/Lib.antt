@@ -8,6 +8,7 @@ pub mod Finding
 pub mod Judged
 pub mod Located
 pub mod Marked
+pub mod Numbers
 pub mod Read
 pub mod Refused
 pub mod Shortened

@@ -10,7 +10,7 @@ use jcl_deck::operation::{Operation, operation_of};
 use jcl_deck::read::read_deck;
 use jcl_plan::fault::{Cause, StatementFault};
 use jcl_plan::plan::MOST_STEPS;
-use jcl_procs::expansion::{Reached, expand};
+use jcl_procs::expansion::{Reached, expand, is_over};
 use jcl_refs::plan::plan_of;
 use jcl_refs::units::UnitNames;
 use proc_library::library::ProcLibrary;
@@ -96,9 +96,47 @@ pub(crate) fn plan_part(cause: Cause) -> u8
 }
 
 impl<'a> Sources<'a> {
-    /// Whether a deck is refused by its calls, or by a part of its plan.
-    fn refuses_deck(&self, alloc: Global, part: Part, deck: Deck) -> Result<bool, AllocError>
-        ensures { IfOk result (λ refused. refused ≡ refuses_deck part self.now.units.now self.now.library.now deck) }
+    /// Whether a deck is refused by its calls. None of its steps is kept.
+    fn refuses_calls(&self, alloc: Global, deck: Deck) -> Result<bool, AllocError>
+        ensures { IfOk result (λ refused. refused ≡ refuses_deck Part.Calls self.now.units.now self.now.library.now deck) }
+    {
+        let Deck {
+            procedures,
+            steps,
+            ..
+        } = deck;
+        match expand(alloc, self.library, procedures.as_slice(), steps, 0) {
+            Ok(_) => Ok(false),
+            Err(ReadError::Refused(_)) => Ok(true),
+            Err(ReadError::Memory) => Err(AllocError),
+        }
+    }
+
+    /// Whether a deck is refused for the number of its steps. None is kept.
+    fn refuses_number(&self, alloc: Global, deck: Deck) -> Result<bool, AllocError>
+        ensures { IfOk result (λ refused. refused ≡ refuses_deck (Part.Plan 1) self.now.units.now self.now.library.now deck) }
+    {
+        let Deck {
+            procedures,
+            steps,
+            ..
+        } = deck;
+        match is_over(
+            alloc,
+            self.library,
+            procedures.as_slice(),
+            steps,
+            MOST_STEPS,
+        ) {
+            Ok(over) => Ok(over),
+            Err(ReadError::Refused(_)) => Ok(false),
+            Err(ReadError::Memory) => Err(AllocError),
+        }
+    }
+
+    /// Whether a deck is refused by a part of its plan.
+    fn refuses_plan(&self, alloc: Global, number: u8, deck: Deck) -> Result<bool, AllocError>
+        ensures { IfOk result (λ refused. refused ≡ refuses_deck (Part.Plan number) self.now.units.now self.now.library.now deck) }
     {
         let Deck {
             job,
@@ -108,16 +146,24 @@ impl<'a> Sources<'a> {
         let procedures = procedures.as_slice();
         let expansion = match expand(alloc, self.library, procedures, steps, MOST_STEPS) {
             Ok(expansion) => expansion,
-            Err(ReadError::Refused(_)) => return Ok(part == Part::Calls),
+            Err(ReadError::Refused(_)) => return Ok(false),
             Err(ReadError::Memory) => return Err(AllocError),
-        };
-        let Part::Plan(number) = part else {
-            return Ok(false);
         };
         match plan_of(alloc, self.units, job, expansion) {
             Ok(_) => Ok(false),
             Err(ReadError::Refused(cause)) => Ok(plan_part(cause) == number),
             Err(ReadError::Memory) => Err(AllocError),
+        }
+    }
+
+    /// Whether a deck is refused by its calls, or by a part of its plan.
+    fn refuses_deck(&self, alloc: Global, part: Part, deck: Deck) -> Result<bool, AllocError>
+        ensures { IfOk result (λ refused. refused ≡ refuses_deck part self.now.units.now self.now.library.now deck) }
+    {
+        match part {
+            Part::Calls => self.refuses_calls(alloc, deck),
+            Part::Plan(1) => self.refuses_number(alloc, deck),
+            Part::Plan(number) => self.refuses_plan(alloc, number, deck),
         }
     }
 
