@@ -1,6 +1,7 @@
 pub mod Among
 pub mod CardsFit
 pub mod Chains
+pub mod Classes
 pub mod Entered
 pub mod Linked
 pub mod PutBehind

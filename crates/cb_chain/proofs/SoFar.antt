@@ -113,8 +113,8 @@ module _ {X : Type 0} (job : ℕ) (needs : List X → ℕ) (chain : Records → 
   pub ready_now : IsReady old → IsReady q
   ready_now ready = ready_after (so.done ++ held (is_more rest) here) old q ready so.took
 
-  pub room_now : is_more rest ≡ true → needs all ≤ length old.free → needs rest ≤ suc (length q.free)
-  room_now some room =
+  pub room_now : is_more rest ≡ true → (lacking : ℕ) → lacking + needs all ≤ length old.free → lacking + needs rest ≤ suc (length q.free)
+  room_now some lacking room =
       let split : old.free ≡ so.done ++ (here ∷ []) ++ q.free = subst (λ m. old.free ≡ so.done ++ held m here ++ q.free) some so.took.free in
       let size = ap length split in
       let whole = length-append (so.done ++ here ∷ []) q.free in

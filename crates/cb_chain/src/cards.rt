@@ -1,5 +1,5 @@
 //! The cards of a DD are written, two in a record.
-ghost use Rattle.std.specs.Prelude.{◌≡◌, ◌≢◌, ◌≤◌, IsTrue, length};
+ghost use Rattle.std.specs.Prelude.{◌≡◌, ◌≢◌, ◌+◌, ◌≤◌, IsTrue, length};
 ghost use Rattle.cb_chain.specs.Taking.{CardsFrom, IsReady, IsTaken, Links, OfKind, Writes, cards_needed};
 
 use crate::cards_record::cards_record;
@@ -21,11 +21,12 @@ fn write_pair<S: RecordStore>(
     requires ready { IsReady (S.queue store.old) }
     requires layout { layout.now ≡ (S.queue store.old).layout }
     requires taken { IsTaken job (S.queue store.old) here }
-    requires room { IsTrue more → 1 ≤ length (S.queue store.old).free }
+    requires room { IsTrue more → S.lacking store.old + 1 ≤ length (S.queue store.old).free }
     requires some { 1 ≤ length cards.now }
     requires most { length cards.now ≤ 2 }
     requires full { IsTrue more → length cards.now ≡ 2 }
-    ensures { Links job 0 (CardsFrom layout.now job) cards.now more here (S.queue store.old) (S.queue store.new) result }
+    ensures value { Links job 0 (CardsFrom layout.now job) cards.now more here (S.queue store.old) (S.queue store.new) result }
+    ensures room { S.lacking store.new ≡ S.lacking store.old }
 {
     let next = take_if(store, job, more);
     store.put(here, &cards_record(layout, job, cards, next));
@@ -42,8 +43,9 @@ pub(crate) fn write_cards<S: RecordStore>(
     requires owner { job ≢ 0 }
     requires ready { IsReady (S.queue store.old) }
     requires layout { layout.now ≡ (S.queue store.old).layout }
-    requires room { cards_needed cards.now ≤ length (S.queue store.old).free }
-    ensures { Writes (cards_needed cards.now) (OfKind layout.now job (DdKind.Cards cards.now)) (S.queue store.old) (S.queue store.new) result }
+    requires room { S.lacking store.old + cards_needed cards.now ≤ length (S.queue store.old).free }
+    ensures value { Writes (cards_needed cards.now) (OfKind layout.now job (DdKind.Cards cards.now)) (S.queue store.old) (S.queue store.new) result }
+    ensures room { S.lacking store.new ≡ S.lacking store.old }
 {
     let first = take_if(store, job, is_more(cards));
     let mut here = first;

@@ -16,8 +16,9 @@ fn write_set<S: RecordStore>(store: &mut S, layout: &Layout, job: u16, set: &Set
     requires owner { job ≢ 0 }
     requires ready { IsReady (S.queue store.old) }
     requires layout { layout.now ≡ (S.queue store.old).layout }
-    requires room { 1 ≤ length (S.queue store.old).free }
-    ensures { Writes 1 (OfKind layout.now job (DdKind.Set set.now)) (S.queue store.old) (S.queue store.new) result }
+    requires room { S.lacking store.old + 1 ≤ length (S.queue store.old).free }
+    ensures value { Writes 1 (OfKind layout.now job (DdKind.Set set.now)) (S.queue store.old) (S.queue store.new) result }
+    ensures room { S.lacking store.new ≡ S.lacking store.old }
 {
     let here = take_if(store, job, true);
     store.put(here, &jfcb_record(layout, job, set));
@@ -29,8 +30,9 @@ fn write_below<S: RecordStore>(store: &mut S, layout: &Layout, job: u16, kind: &
     requires owner { job ≢ 0 }
     requires ready { IsReady (S.queue store.old) }
     requires layout { layout.now ≡ (S.queue store.old).layout }
-    requires room { records_below kind.now ≤ length (S.queue store.old).free }
-    ensures { Writes (records_below kind.now) (OfKind layout.now job kind.now) (S.queue store.old) (S.queue store.new) result }
+    requires room { S.lacking store.old + records_below kind.now ≤ length (S.queue store.old).free }
+    ensures value { Writes (records_below kind.now) (OfKind layout.now job kind.now) (S.queue store.old) (S.queue store.new) result }
+    ensures room { S.lacking store.new ≡ S.lacking store.old }
 {
     match kind {
         DdKind::Sysout(_) => 0,
@@ -54,9 +56,10 @@ fn write_dd<S: RecordStore>(
     requires ready { IsReady (S.queue store.old) }
     requires layout { layout.now ≡ (S.queue store.old).layout }
     requires taken { IsTaken job (S.queue store.old) here }
-    requires room { records_below dd.now.kind ≤ length (S.queue store.old).free }
-    requires next { IsTrue more → records_below dd.now.kind + 1 ≤ length (S.queue store.old).free }
-    ensures { Links job (records_below dd.now.kind) (DdsFrom layout.now job) (dd.now ∷ []) more here (S.queue store.old) (S.queue store.new) result }
+    requires room { S.lacking store.old + records_below dd.now.kind ≤ length (S.queue store.old).free }
+    requires next { IsTrue more → S.lacking store.old + records_below dd.now.kind + 1 ≤ length (S.queue store.old).free }
+    ensures value { Links job (records_below dd.now.kind) (DdsFrom layout.now job) (dd.now ∷ []) more here (S.queue store.old) (S.queue store.new) result }
+    ensures room { S.lacking store.new ≡ S.lacking store.old }
 {
     let below = write_below(store, layout, job, &dd.kind);
     let next = take_if(store, job, more);
@@ -74,8 +77,9 @@ pub(crate) fn write_dds<S: RecordStore>(
     requires owner { job ≢ 0 }
     requires ready { IsReady (S.queue store.old) }
     requires layout { layout.now ≡ (S.queue store.old).layout }
-    requires room { dds_needed dds.now ≤ length (S.queue store.old).free }
-    ensures { Writes (dds_needed dds.now) (OfDds layout.now job dds.now) (S.queue store.old) (S.queue store.new) result }
+    requires room { S.lacking store.old + dds_needed dds.now ≤ length (S.queue store.old).free }
+    ensures value { Writes (dds_needed dds.now) (OfDds layout.now job dds.now) (S.queue store.old) (S.queue store.new) result }
+    ensures room { S.lacking store.new ≡ S.lacking store.old }
 {
     let first = take_if(store, job, is_more(dds));
     let mut here = first;

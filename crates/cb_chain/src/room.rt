@@ -64,12 +64,18 @@ fn after_steps(free: u32, steps: &[StepPlan]) -> Option<u32>
     Some(left)
 }
 
+/// How many records a job takes, or none where so many free ones are not enough.
+pub fn records_of(plan: &JobPlan, free: u32) -> Option<u32>
+    ensures { SomeIff result (records_needed plan.now ≤ free) (records_needed plan.now) }
+{
+    let left = after(free, 1)?;
+    let left = after_steps(left, plan.steps.as_slice())?;
+    Some(free - left)
+}
+
 /// Whether so many free records are enough for a job.
 pub fn is_room(plan: &JobPlan, free: u32) -> bool
     ensures { IsTrue result ↔ records_needed plan.now ≤ free }
 {
-    match after(free, 1) {
-        Some(left) => after_steps(left, plan.steps.as_slice()).is_some(),
-        None => false,
-    }
+    records_of(plan, free).is_some()
 }

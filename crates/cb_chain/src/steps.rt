@@ -24,9 +24,10 @@ fn write_step<S: RecordStore>(
     requires layout { layout.now ≡ (S.queue store.old).layout }
     requires taken { IsTaken job (S.queue store.old) here }
     requires few { length step.now.dds ≤ most_dds }
-    requires room { dds_needed step.now.dds ≤ length (S.queue store.old).free }
-    requires next { IsTrue more → dds_needed step.now.dds + 1 ≤ length (S.queue store.old).free }
-    ensures { Links job (dds_needed step.now.dds) (StepsFrom layout.now job) (step.now ∷ []) more here (S.queue store.old) (S.queue store.new) result }
+    requires room { S.lacking store.old + dds_needed step.now.dds ≤ length (S.queue store.old).free }
+    requires next { IsTrue more → S.lacking store.old + dds_needed step.now.dds + 1 ≤ length (S.queue store.old).free }
+    ensures value { Links job (dds_needed step.now.dds) (StepsFrom layout.now job) (step.now ∷ []) more here (S.queue store.old) (S.queue store.new) result }
+    ensures room { S.lacking store.new ≡ S.lacking store.old }
 {
     let first_dd = write_dds(store, layout, job, step.dds.as_slice());
     let next = take_if(store, job, more);
@@ -45,8 +46,9 @@ pub(crate) fn write_steps<S: RecordStore>(
     requires ready { IsReady (S.queue store.old) }
     requires layout { layout.now ≡ (S.queue store.old).layout }
     requires few { All (λ step. length step.dds ≤ most_dds) steps.now }
-    requires room { steps_needed steps.now ≤ length (S.queue store.old).free }
-    ensures { Writes (steps_needed steps.now) (OfSteps layout.now job steps.now) (S.queue store.old) (S.queue store.new) result }
+    requires room { S.lacking store.old + steps_needed steps.now ≤ length (S.queue store.old).free }
+    ensures value { Writes (steps_needed steps.now) (OfSteps layout.now job steps.now) (S.queue store.old) (S.queue store.new) result }
+    ensures room { S.lacking store.new ≡ S.lacking store.old }
 {
     let first = take_if(store, job, is_more(steps));
     let mut here = first;

@@ -4,12 +4,12 @@ use Rattle.std.specs.Prelude.{Err, IfSome, Ok, OnErr, OnOk, Result, filter, is_n
 use Rattle.std.specs.List.{list_any}
 use Rattle.std.proofs.lemmas.Bool.{and_from, and_parts, eq-eqb, eqb-false, eqb-true, ne_eqb}
 use Rattle.std.proofs.lemmas.List.{length-replicate}
-use Rattle.std.proofs.lemmas.List.Elements.{All-cons, All-filter, All-head, All-nil, All-push, All-same, All-tail}
+use Rattle.std.proofs.lemmas.List.Elements.{All-cons, All-filter, All-head, All-nil, All-push, All-same, All-tail, All-weaker}
 use Rattle.cb_meaning.specs.declared.layout.Layout.{Layout}
 use Rattle.cb_meaning.specs.Fields.{field, number_at}
 use Rattle.cb_meaning.specs.Walks.{is_free, owner_of}
 use Rattle.queue_core.specs.declared.queue.Queued.{Queued}
-use Rattle.cb_queue.specs.RecordQueues.{AreInOrder, HasOwnLink, IsInUse, IsSoundQueue, RecordQueue, bytes_or_zeros, empty_queue, first_numbers, first_taken, given_back, no_records, owner_at, owner_in, record_at, shown, taken, with_record_at, zero_record}
+use Rattle.cb_queue.specs.RecordQueues.{AreInOrder, HasOwnLink, IsInUse, IsQueued, IsSoundQueue, RecordQueue, bytes_or_zeros, empty_queue, first_numbers, first_taken, given_back, no_records, owner_at, owner_in, record_at, shown, taken, with_record_at, zero_record}
 use Rattle.plain.specs.Lists.{are_different, numbers_from}
 
 -- a number is in a list
@@ -37,6 +37,12 @@ reaches [] i e = cc
 reaches (x ∷ xs) zero e = omega arith
 reaches (x ∷ xs) (suc i) e = let rest = reaches xs i e in omega arith
 
+-- what two facts give of each job
+pub each : (P Q R : Queued → Type 0) → ((x : Queued) → P x → Q x → R x) → (xs : List Queued) → All P xs → All Q xs → All R xs
+each P Q R both [] p q = All-nil R
+each P Q R both (x ∷ xs) p q =
+    All-cons R x xs (both x (All-head P x xs p) (All-head Q x xs q)) (each P Q R both xs (All-tail P x xs p) (All-tail Q x xs q))
+
 -- record i + 1 is another, and other records are free
 module _ (q : RecordQueue) (i : ℕ) (o : Option (List ℕ)) (free : List ℕ) where
   abbrev changed : RecordQueue
@@ -50,8 +56,23 @@ module _ (q : RecordQueue) (i : ℕ) (o : Option (List ℕ)) (free : List ℕ) w
       let apart : j ≡ i → ⊥ = λ is. eqb-false (suc j) (suc i) e (ap suc is) in
       get_or-set_other q.records i j o None apart
 
+  -- a job that waits keeps its first record
+  abbrev Leaves : Queued → Type 0
+  Leaves x = x.jct ≡ suc i → owner_in o ≡ x.job
+
+  still_queued : i < length q.records → (x : Queued) → IsQueued q x → Leaves x → IsQueued changed x
+  still_queued here x h leaves = record { job = h.job; owner = by x.jct refl; class = h.class; priority = h.priority }
+    where
+      at : (j : ℕ) (b : Bool) → x.jct ≡ suc j → (suc j == suc i) ≡ b → owner_at changed (suc j) ≡ x.job
+      at j true is e = ap owner_in (at_other j true e here) ∙ leaves (is ∙ eqb-true (suc j) (suc i) e)
+      at j false is e = ap owner_in (at_other j false e here) ∙ ap (owner_at q) (sym is) ∙ h.owner
+
+      by : (n : ℕ) → x.jct ≡ n → owner_at changed x.jct ≡ x.job
+      by zero is = ap (owner_at changed) is ∙ ap (owner_at q) (sym is) ∙ h.owner
+      by (suc j) is = ap (owner_at changed) is ∙ at j (suc j == suc i) is refl
+
   module _ (h : IsSoundQueue q) (here : i < length q.records) (once : are_different free ≡ true) (within : All (is_number q.layout.most_records) free)
-      (members : (m : ℕ) → member m free ≡ cond (m == suc i) (is_none o) (member m q.free)) (used : IfSome o (IsInUse q.layout)) where
+      (members : (m : ℕ) → member m free ≡ cond (m == suc i) (is_none o) (member m q.free)) (used : IfSome o (IsInUse q.layout)) (leave : All Leaves q.waiting) where
     is_free_at : (m : ℕ) → 1 ≤ m → m ≤ q.layout.most_records → member m free ≡ is_none (record_at changed m)
     is_free_at zero from to = absurd (omega (arith, from))
     is_free_at (suc j) from to = by (suc j == suc i) refl
@@ -78,6 +99,7 @@ module _ (q : RecordQueue) (i : ℕ) (o : Option (List ℕ)) (free : List ℕ) w
       free = is_free_at;
       in_use = in_use_at;
       in_order = h.in_order;
+      queued = each (IsQueued q) Leaves (IsQueued changed) (still_queued here) q.waiting h.queued leave;
     }
 
 -- a number is free exactly where its record is none
@@ -89,8 +111,9 @@ free_none q i h used =
 
 -- a record in use is written anew
 pub sound_put : (q : RecordQueue) (i : ℕ) (r : List ℕ) → IsSoundQueue q → is_some (record_at q (suc i)) ≡ true → IsInUse q.layout r →
-    IsSoundQueue (with_record_at q (suc i) (Some r))
-sound_put q i r h used u = sound_changed q i (Some r) q.free h (reaches q.records i used) h.once h.within (λ m. by m (m == suc i) refl) u
+    number_at r (field 2 2) ≡ owner_at q (suc i) → IsSoundQueue (with_record_at q (suc i) (Some r))
+sound_put q i r h used u same = sound_changed q i (Some r) q.free h (reaches q.records i used) h.once h.within (λ m. by m (m == suc i) refl) u
+    (All-weaker (IsQueued q) (Leaves q i (Some r) q.free) (λ x own is. same ∙ ap (owner_at q) (sym is) ∙ own.owner) q.waiting h.queued)
   where
     by : (m : ℕ) (b : Bool) → (m == suc i) ≡ b → member m q.free ≡ cond b false (member m q.free)
     by m true e = ap (λ k. member k q.free) (eqb-true m (suc i) e) ∙ free_none q i h used
@@ -131,24 +154,38 @@ module _ (q : RecordQueue) (i owner : ℕ) (rest : List ℕ) (h : IsSoundQueue q
   sound_taken u =
       subst (λ free. IsSoundQueue (first_taken q owner free)) (sym first)
       (sound_changed q i (Some (zero_record owner)) rest h first_here parts.1 (All-tail (is_number q.layout.most_records) (suc i) rest numbers)
-      (λ m. members m (m == suc i) refl) u)
+      (λ m. members m (m == suc i) refl) u
+      (All-weaker (IsQueued q) (Leaves q i (Some (zero_record owner)) rest)
+      (λ x own is. absurd (own.job (sym own.owner ∙ ap (owner_at q) is ∙ first_free))) q.waiting h.queued))
 
 -- one in use is given back
-pub sound_given : (q : RecordQueue) (i : ℕ) → IsSoundQueue q → is_some (record_at q (suc i)) ≡ true → IsSoundQueue (given_back q (suc i))
-sound_given q i h used =
+pub sound_given : (q : RecordQueue) (i : ℕ) → IsSoundQueue q → is_some (record_at q (suc i)) ≡ true → All (λ x. x.jct ≢ suc i) q.waiting →
+    IsSoundQueue (given_back q (suc i))
+sound_given q i h used unqueued =
     let here = reaches q.records i used in
     let size = h.size in
     let absent = free_none q i h used in
     sound_changed q i None (suc i ∷ q.free) h here (and_from _ _ (ap not absent) h.once)
     (All-cons (is_number q.layout.most_records) (suc i) q.free (omega arith, omega (arith, here, size)) h.within) (λ m. by m (m == suc i) refl) tt
+    (All-weaker (λ x. x.jct ≢ suc i) (Leaves q i None (suc i ∷ q.free)) (λ x other is. absurd (other is)) q.waiting unqueued)
   where
     by : (m : ℕ) (b : Bool) → (m == suc i) ≡ b → ((suc i == m) || member m q.free) ≡ cond b true (member m q.free)
     by m true e = ap (λ b. b || member m q.free) (eq-eqb (suc i) m (sym (eqb-true m (suc i) e)))
     by m false e = ap (λ b. b || member m q.free) (ne_eqb (suc i) m (λ is. eqb-false m (suc i) e (sym is)))
 
 -- other jobs wait
-pub sound_waiting : (q : RecordQueue) (waiting : List Queued) → IsSoundQueue q → AreInOrder waiting → IsSoundQueue (record q { waiting = waiting })
-sound_waiting q waiting h order = record { own_link = h.own_link; size = h.size; once = h.once; within = h.within; free = h.free; in_use = h.in_use; in_order = order }
+pub sound_waiting : (q : RecordQueue) (waiting : List Queued) → IsSoundQueue q → AreInOrder waiting → All (IsQueued q) waiting → IsSoundQueue (record q { waiting = waiting })
+sound_waiting q waiting h order queued = record {
+  own_link = h.own_link;
+  size = h.size;
+  once = h.once;
+  within = h.within;
+  free = h.free;
+  in_use = h.in_use;
+  in_order = order;
+  queued = All-weaker (IsQueued q) (IsQueued (record q { waiting = waiting }))
+      (λ x own. record { job = own.job; owner = own.owner; class = own.class; priority = own.priority }) waiting queued;
+}
 
 pub order_entered : (xs : List Queued) (x : Queued) → AreInOrder xs → All (λ y. y.job < x.job) xs → AreInOrder (xs ++ x ∷ [])
 order_entered [] x h later = (All-nil (λ y. x.job < y.job), tt)
@@ -167,6 +204,11 @@ pub order_after : {E : Type 0} (old new : List Queued) (x : Queued) (r : Result 
     All (λ y. y.job < x.job) old → AreInOrder new
 order_after old new x (Ok u) ok err h later = subst AreInOrder (sym ok) (order_entered old x h later)
 order_after old new x (Err e) ok err h later = subst AreInOrder (sym err) h
+
+pub queued_after : {E : Type 0} (q : RecordQueue) (old new : List Queued) (x : Queued) (r : Result (Unit {0}) E) → OnOk r (new ≡ old ++ x ∷ []) → OnErr r (new ≡ old) →
+    All (IsQueued q) old → IsQueued q x → All (IsQueued q) new
+queued_after q old new x (Ok u) ok err h own = subst (All (IsQueued q)) (sym ok) (All-push (IsQueued q) old x h own)
+queued_after q old new x (Err e) ok err h own = subst (All (IsQueued q)) (sym err) h
 
 -- all are free
 member_above : (n m count : ℕ) → m < n → member m (numbers_from n count) ≡ false
@@ -208,6 +250,7 @@ sound_fresh l own = record {
   free = all_free;
   in_use = none_used;
   in_order = tt;
+  queued = All-nil (IsQueued (fresh l));
 }
   where
     all_free : (n : ℕ) → 1 ≤ n → n ≤ l.most_records → member n (numbers_from 1 l.most_records) ≡ is_none (record_at (fresh l) n)

@@ -89,6 +89,10 @@ module _ (q : RecordQueue) (owner : ℕ) where
       subst (λ m. owner_at (given_above q owner m) m ≢ owner → given_above q owner m ≡ given_above q owner i) is
       (λ other. kept i here (λ same. other (owner_now i here ∙ same)))
 
+  -- its owner is as it was
+  pub still_owned : (n i : ℕ) → suc i ≡ n → i < length q.records → owner_at (given_above q owner n) n ≡ owner_at q n
+  still_owned n i is here = subst (λ m. owner_at (given_above q owner m) m ≡ owner_at q m) is (owner_now i here)
+
   -- records behind one number that are not the owner's stay
   pub block_kept : (k low n : ℕ) → n ≡ low + k → n ≤ length q.records → HasNoneBetween (given_above q owner n) owner low n → given_above q owner n ≡ given_above q owner low
   block_kept zero low n e h none = ap (λ m. given_above q owner m) (omega (arith, e))

@@ -9,7 +9,7 @@ use Rattle.std.proofs.lemmas.List.Sums.{count_by-le-length, sum_by-set}
 use Rattle.cb_meaning.specs.declared.layout.Layout.{Layout}
 use Rattle.cb_meaning.specs.Fields.{field, number_at}
 use Rattle.queue_core.specs.declared.queue.Queued.{Queued}
-use Rattle.cb_queue.specs.RecordQueues.{AreInOrder, HasOwnLink, IsInUse, IsSoundQueue, RecordQueue, empty_queue, first_numbers, first_taken, given_back, no_records, owner_in, record_at, taken, with_record_at, zero_record}
+use Rattle.cb_queue.specs.RecordQueues.{AreInOrder, HasOwnLink, IsInUse, IsQueued, IsSoundQueue, RecordQueue, empty_queue, first_numbers, first_taken, given_back, no_records, owner_in, record_at, taken, with_record_at, zero_record}
 use Rattle.cb_queue.specs.Stored.{AreStored, seen_in, seen_record, seen_records}
 use Rattle.cb_queue.proofs.Changing.{first_free, first_here, reaches, sound_empty, sound_given, sound_put, sound_taken, sound_waiting}
 use Rattle.cb_queue.proofs.Parts.{in_use_zero, owner_zero}
@@ -108,7 +108,7 @@ module _ (l : Layout) (os : List ℕ) (rs : List (List ℕ)) (stack : List ℕ) 
 
     pub stored_put : (r : List ℕ) → IsInUse l r → number_at r (field 2 2) ≡ get_or os i 0 → AreStored l os (slice_set rs i r) stack count waiting
     stored_put r u owner = record {
-      sound = subst IsSoundQueue (sym (seen_put r)) (sound_put now i r h.sound used u);
+      sound = subst IsSoundQueue (sym (seen_put r)) (sound_put now i r h.sound used u (owner ∙ owner_seen i here));
       few = h.few;
       records_room = length-set rs i r ∙ h.records_room;
       owners_room = h.owners_room;
@@ -142,9 +142,9 @@ module _ (l : Layout) (os : List ℕ) (rs : List (List ℕ)) (stack : List ℕ) 
     pub seen_given : seen_in l (slice_set os i 0) rs (slice_set stack count (suc i)) (count + 1) waiting ≡ given_back now (suc i)
     seen_given = λ j. queue_of (records_given j) (stack_pushed stack count (suc i) room j)
 
-    pub stored_given : AreStored l (slice_set os i 0) rs (slice_set stack count (suc i)) (count + 1) waiting
-    stored_given = record {
-      sound = subst IsSoundQueue (sym seen_given) (sound_given now i h.sound used);
+    pub stored_given : All (λ x. x.jct ≢ suc i) waiting → AreStored l (slice_set os i 0) rs (slice_set stack count (suc i)) (count + 1) waiting
+    stored_given unqueued = record {
+      sound = subst IsSoundQueue (sym seen_given) (sound_given now i h.sound used unqueued);
       few = h.few;
       records_room = h.records_room;
       owners_room = length-set os i 0 ∙ h.owners_room;
@@ -209,9 +209,9 @@ module _ (l : Layout) (os : List ℕ) (rs : List (List ℕ)) (stack : List ℕ) 
     }
 
   -- other jobs wait
-  pub stored_waiting : (jobs : List Queued) → AreInOrder jobs → AreStored l os rs stack count jobs
-  stored_waiting jobs order = record {
-    sound = sound_waiting now jobs h.sound order;
+  pub stored_waiting : (jobs : List Queued) → AreInOrder jobs → All (IsQueued now) jobs → AreStored l os rs stack count jobs
+  stored_waiting jobs order queued = record {
+    sound = sound_waiting now jobs h.sound order queued;
     few = h.few;
     records_room = h.records_room;
     owners_room = h.owners_room;

@@ -92,10 +92,11 @@ module _ (a : Inside) (h : IsStored a) (n : ℕ) (used : is_some (record_at (see
       subst (λ m. seen_in a.layout (slice_set a.owners.items (n - 1) 0) a.records.items (slice_set a.free.items a.free_count m) (a.free_count + 1) a.waiting ≡ given_back (seen a) m) is
       (seen_given a.layout a.owners.items a.records.items a.free.items a.free_count a.waiting h (n - 1) at)
 
-  pub given_stored : AreStored a.layout (slice_set a.owners.items (n - 1) 0) a.records.items (slice_set a.free.items a.free_count n) (a.free_count + 1) a.waiting
-  given_stored =
+  pub given_stored : All (λ x. x.jct ≢ n) a.waiting → AreStored a.layout (slice_set a.owners.items (n - 1) 0) a.records.items (slice_set a.free.items a.free_count n) (a.free_count + 1) a.waiting
+  given_stored unqueued =
       subst (λ m. AreStored a.layout (slice_set a.owners.items (n - 1) 0) a.records.items (slice_set a.free.items a.free_count m) (a.free_count + 1) a.waiting) is
-      (stored_given a.layout a.owners.items a.records.items a.free.items a.free_count a.waiting h (n - 1) at)
+      (stored_given a.layout a.owners.items a.records.items a.free.items a.free_count a.waiting h (n - 1) at
+      (subst (λ m. All (λ x. x.jct ≢ m) a.waiting) (sym is) unqueued))
 
 -- what is done to the record that is taken next
 module _ (a : Inside) (h : IsStored a) (n c owner : ℕ) (more : c + 1 ≡ a.free_count) (got : n ≡ get_or a.free.items c n) (some : owner ≢ 0) where

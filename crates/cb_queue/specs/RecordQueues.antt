@@ -128,6 +128,13 @@ abbrev pub AreInOrder : List Queued → Type 0
 AreInOrder [] = Unit {0}
 AreInOrder (x ∷ behind) = All (λ y. x.job < y.job) behind × AreInOrder behind
 
+-- A job that waits: its first record is its own, and its class and its priority are those that a job can have, A to O and 0 to 13.
+pub record IsQueued (q : RecordQueue) (x : Queued) : Type 0 where
+  pub job : x.job ≢ 0
+  pub owner : owner_at q x.jct ≡ x.job
+  pub class : (65 ≤ x.class) × (x.class ≤ 79)
+  pub priority : x.priority ≤ 13
+
 -- What holds of a queue at any time.
 pub record IsSoundQueue (q : RecordQueue) : Type 0 where
   pub own_link : HasOwnLink q.layout
@@ -139,6 +146,7 @@ pub record IsSoundQueue (q : RecordQueue) : Type 0 where
   pub free : (n : ℕ) → 1 ≤ n → n ≤ q.layout.most_records → is_free (shown q) n ≡ is_none (record_at q n)
   pub in_use : (n : ℕ) → IfSome (record_at q n) (IsInUse q.layout)
   pub in_order : AreInOrder q.waiting
+  pub queued : All (IsQueued q) q.waiting
 
 -- What a reader of the shown records meets: those are free that are none in the queue, and the owners are the queue's.
 pub record ShowsRecord (q : RecordQueue) (n : ℕ) : Type 0 where

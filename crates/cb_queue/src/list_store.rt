@@ -212,6 +212,8 @@ impl ListStore {
 impl RecordStore for ListStore {
     ghost queue = { λ store. store };
 
+    ghost lacking = { λ store. 0 };
+
     fn layout(&self) -> &Layout {
         &self.layout
     }
@@ -244,6 +246,10 @@ impl RecordStore for ListStore {
         Some(self.free[self.free_count as usize - 1])
     }
 
+    fn make_room(&mut self, _count: u32) -> Result<(), AllocError> {
+        Ok(())
+    }
+
     fn take_free(&mut self, owner: u16) -> Option<u32> {
         if self.free_count == 0 {
             return None;
@@ -263,6 +269,7 @@ impl RecordStore for ListStore {
     }
 
     fn give_back_all(&mut self, owner: u16) {
+        let _layout = self.layout();
         let span = self.span(owner);
         let mut n = span.high;
         while n > span.low {
@@ -284,6 +291,10 @@ impl RecordStore for ListStore {
 
     fn first(&self, class: u8) -> Option<Queued> {
         self.waiting.first(class)
+    }
+
+    fn remove_first(&mut self, queued: Queued) {
+        self.waiting.remove(queued.job);
     }
 
     fn remove(&mut self, job: u16) -> Option<Queued> {

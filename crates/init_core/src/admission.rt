@@ -1,5 +1,5 @@
 //! A job whose names are held is answered: it is admitted, waits for space, or is not run.
-ghost use Rattle.std.specs.Prelude.{◌≡◌, ◌≢◌, List, IfErr, IfOk, OnErr};
+ghost use Rattle.std.specs.Prelude.{◌≡◌, ◌≢◌, All, List, IfErr, IfOk, OnErr};
 ghost use Rattle.jcl_plan.specs.declared.plan.JobPlan.{JobPlan};
 ghost use Rattle.jcl_meaning.specs.declared.program.SoloProgram.{SoloProgram};
 ghost use Rattle.turn_core.specs.Standing.{Stands, count_at};
@@ -63,6 +63,7 @@ pub(crate) fn admit_job<Q: RecordStore>(
     requires good { IsGood Q.queue (config_of profile.now (Q.queue parts.old.queue).layout) parts.old }
     requires provided { IsProvided Q.queue (config_of profile.now (Q.queue parts.old.queue).layout) parts.old
         (record { job = job; walk = walk; stage = stage.Named named }) }
+    requires unqueued { All (λ x. x.job ≢ job) (Q.queue parts.old.queue).waiting }
     ensures ok { IfOk result (Went Q.queue (config_of profile.now (Q.queue parts.old.queue).layout) parts.old
         (record { job = job; walk = walk; stage = stage.Named named }) parts.new) }
     ensures err { IfErr result (λ r. r ≡ record { job = job; walk = walk; stage = stage.Named named }) }

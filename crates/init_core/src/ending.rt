@@ -1,5 +1,5 @@
 //! An admitted job that is over gives back what it has.
-ghost use Rattle.std.specs.Prelude.{◌≡◌, ◌≢◌};
+ghost use Rattle.std.specs.Prelude.{◌≡◌, ◌≢◌, All};
 ghost use Rattle.world_meaning.specs.Worlds.{Config};
 ghost use Rattle.admit_core.specs.Admissions.{named_of};
 ghost use Rattle.machine_core.specs.Released.{GivesBack, IsReleased};
@@ -14,6 +14,7 @@ use machine_core::parts::Parts;
 pub fn release_admitted<Q: RecordStore>(parts: &mut Parts<Q>, job: u16, admitted: AdmittedJob)
     requires some { job ≢ 0 }
     requires its_own { (named_of admitted).held ≡ job }
+    requires unqueued { All (λ x. x.job ≢ job) (Q.queue parts.old.queue).waiting }
     ensures back { GivesBack Q.queue job parts.old parts.new }
     ensures released { (c : Config) → c.layout ≡ (Q.queue parts.old.queue).layout → IsReleased Q.queue c job parts.old parts.new }
 {

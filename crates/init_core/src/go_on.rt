@@ -1,5 +1,5 @@
 //! A job's turn.
-ghost use Rattle.std.specs.Prelude.{◌≡◌, IfErr, IfOk, OnErr};
+ghost use Rattle.std.specs.Prelude.{◌≡◌, ◌≢◌, All, IfErr, IfOk, OnErr};
 ghost use Rattle.init_core.specs.Going.{MayLeave, Went, WentInPlace};
 ghost use Rattle.init_core.specs.Providing.{IsProvided};
 ghost use Rattle.init_core.specs.Running.{IsGood, IsReady, config_of};
@@ -26,6 +26,7 @@ pub fn go_on<Q: RecordStore>(
     requires ready { IsReady (config_of profile.now (Q.queue parts.old.queue).layout) parts.old.names running }
     requires provided { IsProvided Q.queue (config_of profile.now (Q.queue parts.old.queue).layout) parts.old running }
     requires leaves { MayLeave profile.now parts.old running }
+    requires unqueued { All (λ x. x.job ≢ running.job) (Q.queue parts.old.queue).waiting }
     ensures ok { IfOk result (Went Q.queue (config_of profile.now (Q.queue parts.old.queue).layout) parts.old running parts.new) }
     ensures err { IfErr result (λ r. r ≡ running) }
     ensures same { OnErr result (parts.new ≡ parts.old) }

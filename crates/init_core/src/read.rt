@@ -1,5 +1,5 @@
 //! A selected job's records are read: BROKEN, or its names at once.
-ghost use Rattle.std.specs.Prelude.{◌≡◌, ◌≢◌, IfErr, IfOk, OnErr, length};
+ghost use Rattle.std.specs.Prelude.{◌≡◌, ◌≢◌, All, IfErr, IfOk, OnErr, length};
 ghost use Rattle.enq_core.specs.Holds.{HoldsNone};
 ghost use Rattle.cb_meaning.specs.Layouts.{HasOwnFields};
 ghost use Rattle.init_core.specs.Finding.{IsFound};
@@ -79,6 +79,7 @@ pub(crate) fn read<Q: RecordStore>(
     requires some { job ≢ 0 }
     requires none { HoldsNone parts.old.names job }
     requires good { IsGood Q.queue (config_of profile.now (Q.queue parts.old.queue).layout) parts.old }
+    requires unqueued { All (λ x. x.job ≢ job) (Q.queue parts.old.queue).waiting }
     ensures ok { IfOk result (Went Q.queue (config_of profile.now (Q.queue parts.old.queue).layout) parts.old
         (record { job = job; walk = walk; stage = stage.Selected first }) parts.new) }
     ensures err { IfErr result (λ r. r ≡ record { job = job; walk = walk; stage = stage.Selected first }) }

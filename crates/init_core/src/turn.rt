@@ -1,5 +1,5 @@
 //! A turn of an admitted job: its actions up to the first that writes, or its end.
-ghost use Rattle.std.specs.Prelude.{◌≡◌, ◌≢◌, false, IfErr, IfOk, IfSome, None, OnErr, OnOk, if◌then◌else◌};
+ghost use Rattle.std.specs.Prelude.{◌≡◌, ◌≢◌, All, false, IfErr, IfOk, IfSome, None, OnErr, OnOk, if◌then◌else◌};
 ghost use Rattle.jcl_plan.specs.declared.entry.JobLine.TheVariants as line;
 ghost use Rattle.prog_core.specs.Operations.{IsRoomFor, is_busy};
 ghost use Rattle.world_meaning.specs.Holdings.{cancels_without};
@@ -87,6 +87,7 @@ pub(crate) fn end<Q: RecordStore>(
 ) -> Result<Progress, Running>
     requires some { job ≢ 0 }
     requires its_own { (named_of admitted).held ≡ job }
+    requires unqueued { All (λ x. x.job ≢ job) (Q.queue parts.old.queue).waiting }
     ensures over { IfOk result (λ came. came ≡ progress.Over None line.End) }
     ensures ok { OnOk result (IsEnded Q.queue job walk (named_of admitted).plan parts.old parts.new) }
     ensures err { IfErr result (λ r. r ≡ record { job = job; walk = walk; stage = stage.Admitted admitted }) }

@@ -1,5 +1,5 @@
 //! A job that is over gives back what it has.
-ghost use Rattle.std.specs.Prelude.{◌≡◌, ◌≢◌};
+ghost use Rattle.std.specs.Prelude.{◌≡◌, ◌≢◌, All};
 ghost use Rattle.enq_core.specs.Holds.{HoldsNone};
 ghost use Rattle.world_meaning.specs.Holdings.{cancels_without};
 ghost use Rattle.world_meaning.specs.Worlds.{Config};
@@ -28,9 +28,10 @@ fn leave_volumes(store: &mut SharedStore, job: u16)
     volumes_add_up(&*store);
 }
 
-/// What a job that is over gives back beside its kept tracks and its names: its records, and a cancel that did not act. It takes no memory.
+/// What a job that is over, and does not wait, gives back beside its kept tracks and its names: its records, and a cancel that did not act. It takes no memory.
 pub fn release_rest<Q: RecordStore>(parts: &mut Parts<Q>, job: u16)
-    requires { job ≢ 0 }
+    requires some { job ≢ 0 }
+    requires unqueued { All (λ x. x.job ≢ job) (Q.queue parts.old.queue).waiting }
     ensures records { Releases job (Q.queue parts.old.queue) (Q.queue parts.new.queue) }
     ensures rest { parts.new ≡ record parts.old { queue = parts.new.queue; cancels = cancels_without parts.old.cancels job } }
 {
@@ -40,7 +41,8 @@ pub fn release_rest<Q: RecordStore>(parts: &mut Parts<Q>, job: u16)
 
 /// Gives back all but the names.
 fn leave<Q: RecordStore>(parts: &mut Parts<Q>, job: u16)
-    requires { job ≢ 0 }
+    requires some { job ≢ 0 }
+    requires unqueued { All (λ x. x.job ≢ job) (Q.queue parts.old.queue).waiting }
     ensures records { Releases job (Q.queue parts.old.queue) (Q.queue parts.new.queue) }
     ensures back { GivesBackAll job parts.old.store parts.new.store }
     ensures conserves { ConservesTracks parts.old.store parts.new.store }
@@ -54,6 +56,7 @@ fn leave<Q: RecordStore>(parts: &mut Parts<Q>, job: u16)
 pub fn release<Q: RecordStore>(parts: &mut Parts<Q>, job: u16, held: Held)
     requires some { job ≢ 0 }
     requires its_own { held ≡ job }
+    requires unqueued { All (λ x. x.job ≢ job) (Q.queue parts.old.queue).waiting }
     ensures back { GivesBack Q.queue job parts.old parts.new }
     ensures released { (c : Config) → c.layout ≡ (Q.queue parts.old.queue).layout → IsReleased Q.queue c job parts.old parts.new }
 {
@@ -65,6 +68,7 @@ pub fn release<Q: RecordStore>(parts: &mut Parts<Q>, job: u16, held: Held)
 pub fn release_unnamed<Q: RecordStore>(parts: &mut Parts<Q>, job: u16)
     requires some { job ≢ 0 }
     requires unnamed { HoldsNone parts.old.names job }
+    requires unqueued { All (λ x. x.job ≢ job) (Q.queue parts.old.queue).waiting }
     ensures back { GivesBack Q.queue job parts.old parts.new }
     ensures released { (c : Config) → c.layout ≡ (Q.queue parts.old.queue).layout → IsReleased Q.queue c job parts.old parts.new }
 {

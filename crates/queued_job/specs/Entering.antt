@@ -1,8 +1,9 @@
 -- A job that was read waits, and its records are written. (This profile)
-use Rattle.std.specs.Prelude.{◌≡◌, ℕ, ◌≤◌, ◌<◌, [], ◌∷◌, ◌++◌, length, Result, Ok, Err, Some}
+use Rattle.std.specs.Prelude.{◌≡◌, ℕ, ◌≤◌, ◌<◌, [], ◌∷◌, ◌++◌, length, true, Result, Ok, Err, Some}
 use Rattle.cb_meaning.specs.Needs.{records_needed}
 use Rattle.cb_meaning.specs.Writable.{IsWritable}
 use Rattle.cb_queue.specs.RecordQueues.{RecordQueue, next_free, shown}
+use Rattle.cb_chain.specs.Taking.{IsReady, TakesIf}
 use Rattle.jcl_plan.specs.declared.plan.JobPlan.{JobPlan}
 use Rattle.queue_core.specs.declared.queue.Queued.{Queued}
 use Rattle.world_meaning.specs.Readings.{IsWritten}
@@ -17,9 +18,11 @@ queued_of job plan first = record { job = job; jct = first; class = plan.class; 
 abbrev pub with_queued : RecordQueue → Queued → RecordQueue
 with_queued q queued = record q { waiting = q.waiting ++ queued ∷ [] }
 
--- the job waits with the number of the record that is taken next
-abbrev pub WaitsFirst : ℕ → JobPlan → RecordQueue → RecordQueue → Type 0
-WaitsFirst job plan old new = (first : ℕ) × (next_free old ≡ Some first) × (new ≡ with_queued old (queued_of job plan first))
+-- the job waits with the record that is taken next, which is taken for it
+pub record WaitsFirst (job : ℕ) (plan : JobPlan) (old new : RecordQueue) (first : ℕ) : Type 0 where
+  pub next : next_free old ≡ Some first
+  pub ready : IsReady old
+  pub takes : TakesIf job true (with_queued old (queued_of job plan first)) new first
 
 -- Its records are written as the world says, whatever else is configured, and it waits behind all others.
 pub record Enters (job : ℕ) (plan : JobPlan) (old new : RecordQueue) (first : ℕ) : Type 0 where

@@ -1,11 +1,12 @@
 //! A job that was read enters the queue.
-ghost use Rattle.std.specs.Prelude.{◌≡◌, ◌≢◌, ◌<◌, ◌≤◌, All, OnErr, OnOk, length, ℕ};
+ghost use Rattle.std.specs.Prelude.{◌≡◌, ◌≢◌, ◌+◌, ◌<◌, ◌≤◌, All, IfOk, OnErr, OnOk, length, ℕ};
+ghost use Rattle.cb_chain.specs.Taking.{IsReady, IsTaken};
 ghost use Rattle.cb_chain.specs.Written.{HoldsJobs};
 ghost use Rattle.cb_meaning.specs.Writable.{IsWritable};
-ghost use Rattle.queued_job.specs.Entering.{IsEntered, WaitsFirst};
+ghost use Rattle.queued_job.specs.Entering.{IsEntered, WaitsFirst, queued_of, with_queued};
 
-use cb_chain::room::is_room;
-use cb_chain::write::write_job;
+use cb_chain::room::records_of;
+use cb_chain::write::{take_first, write_from};
 use cb_queue::store::RecordStore;
 use jcl_plan::plan::JobPlan;
 use queue_core::queue::Queued;
@@ -17,19 +18,26 @@ use thiserror::Error;
 pub enum EnterFault {
     #[error("fewer records are free than the job takes")]
     Full,
-    #[error("memory is wanting")]
+    #[error("out of memory")]
     Memory,
 }
 
-/// The job waits, with the number of the record that is taken next.
-fn enter_waiting<Q: RecordStore>(queue: &mut Q, job: u16, plan: &JobPlan) -> Result<(), AllocError>
+/// The job waits, with the number of the record that was taken first for it.
+fn enter_waiting<Q: RecordStore>(
+    queue: &mut Q,
+    job: u16,
+    first: u32,
+    plan: &JobPlan,
+) -> Result<(), AllocError>
     requires owner { job ≢ 0 }
-    requires room { 1 ≤ length (Q.queue queue.old).free }
+    requires ready { IsReady (Q.queue queue.old) }
+    requires taken { IsTaken job (Q.queue queue.old) first }
     requires later { All (λ x. x.job < job) (Q.queue queue.old).waiting }
-    ensures ok { OnOk result (WaitsFirst job plan.now (Q.queue queue.old) (Q.queue queue.new)) }
+    requires writable { (units : ℕ) × IsWritable (Q.queue queue.old).layout.most_steps units plan.now }
+    ensures ok { OnOk result (Q.queue queue.new ≡ with_queued (Q.queue queue.old) (queued_of job plan.now first)) }
     ensures err { OnErr result (Q.queue queue.new ≡ Q.queue queue.old) }
+    ensures room { Q.lacking queue.new ≡ Q.lacking queue.old }
 {
-    let first = queue.next_free().unwrap();
     queue.enter(Queued {
         job,
         jct: first,
@@ -38,7 +46,33 @@ fn enter_waiting<Q: RecordStore>(queue: &mut Q, job: u16, plan: &JobPlan) -> Res
     })
 }
 
-/// Writes a job's records, and lets it wait behind all others. Tells the number of its first record. An `Err` changes nothing.
+/// Takes a job's first record, for which there is memory, and lets the job wait with it. Tells its number. An `Err` changes nothing.
+fn wait_with_first<Q: RecordStore>(
+    queue: &mut Q,
+    job: u16,
+    plan: &JobPlan,
+) -> Result<u32, AllocError>
+    requires owner { job ≢ 0 }
+    requires holds { HoldsJobs (Q.queue queue.old).layout }
+    requires later { All (λ x. x.job < job) (Q.queue queue.old).waiting }
+    requires writable { (units : ℕ) × IsWritable (Q.queue queue.old).layout.most_steps units plan.now }
+    requires room { Q.lacking queue.old + 1 ≤ length (Q.queue queue.old).free }
+    ensures ok { IfOk result (WaitsFirst job plan.now (Q.queue queue.old) (Q.queue queue.new)) }
+    ensures err { OnErr result (Q.queue queue.new ≡ Q.queue queue.old) }
+    ensures room { Q.lacking queue.new ≡ Q.lacking queue.old }
+{
+    let _layout = queue.layout();
+    let first = take_first(queue, job);
+    match enter_waiting(queue, job, first, plan) {
+        Ok(()) => Ok(first),
+        Err(_) => {
+            queue.give_back(first);
+            Err(AllocError)
+        }
+    }
+}
+
+/// Writes a job's records, and lets it wait after all others. Tells the number of its first record. An `Err` changes nothing.
 pub fn enter_job<Q: RecordStore>(queue: &mut Q, job: u16, plan: &JobPlan) -> Result<u32, EnterFault>
     requires owner { job ≢ 0 }
     requires later { All (λ x. x.job < job) (Q.queue queue.old).waiting }
@@ -46,14 +80,15 @@ pub fn enter_job<Q: RecordStore>(queue: &mut Q, job: u16, plan: &JobPlan) -> Res
     requires writable { (units : ℕ) × IsWritable (Q.queue queue.old).layout.most_steps units plan.now }
     ensures { IsEntered job plan.now (Q.queue queue.old) (Q.queue queue.new) result }
 {
-    if !is_room(plan, queue.free_count()) {
+    let Some(count) = records_of(plan, queue.free_count()) else {
         return Err(EnterFault::Full);
-    }
-    let Ok(()) = enter_waiting(queue, job, plan) else {
+    };
+    let Ok(()) = queue.make_room(count) else {
         return Err(EnterFault::Memory);
     };
-    let Ok(first) = write_job(queue, job, plan) else {
-        unreachable!();
+    let Ok(first) = wait_with_first(queue, job, plan) else {
+        return Err(EnterFault::Memory);
     };
+    write_from(queue, job, plan, first);
     Ok(first)
 }

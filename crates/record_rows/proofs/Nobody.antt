@@ -1,4 +1,4 @@
--- where nobody waits each job is behind all others
+-- where nobody waits each job is after all others
 use Rattle.std.proofs.Common.{◌≡◌, ◌<◌, ℕ, List, [], ◌∷◌, length, All, arith}
 use Rattle.std.proofs.lemmas.List.Elements.{All-nil}
 use Rattle.queue_core.specs.declared.queue.Queued.{Queued}

@@ -5,7 +5,7 @@ ghost use Rattle.cb_meaning.specs.declared.layout.TheConstants.{LAYOUT_1};
 
 use crate::deck::next_job;
 use crate::plan::tell_job;
-use crate::store::{put, set_bytes};
+use crate::store::{nobody_waits, put, set_bytes};
 use cb_chain::laws::the_first_layout_holds_jobs;
 use cb_chain::room::is_room;
 use cb_chain::write::write_job;
@@ -190,12 +190,16 @@ fn tell_strictly(alloc: Global, store: &ListStore, whole: bool, line: &mut Line<
     }
 }
 
+/// Gives every record of a job back, where nobody waits.
 fn release(store: &mut ListStore, words: &mut Words<'_>) {
     let job = words.short();
     if job == 0 {
-        words.refuse();
-    } else {
+        return words.refuse();
+    }
+    if nobody_waits(store) {
         release_records(store, job);
+    } else {
+        words.refuse();
     }
 }
 

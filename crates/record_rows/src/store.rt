@@ -1,5 +1,5 @@
 //! Records that are taken and given back, and what stands in them.
-ghost use Rattle.std.specs.Prelude.{◌≢◌};
+ghost use Rattle.std.specs.Prelude.{◌≡◌, ◌≢◌, [], true};
 
 use crate::record::{tell_record, with_bytes};
 use cb_meaning::layout::{LAYOUT_1, Layout};
@@ -33,15 +33,27 @@ pub(crate) fn few_records(alloc: Global) -> Result<ListStore, AllocError> {
     ListStore::new(alloc, FEW)
 }
 
+/// Takes a record for a job, if one is free.
+fn take_one<S: RecordStore>(store: &mut S, owner: u16) -> Result<Option<u32>, AllocError>
+    requires { owner ≢ 0 }
+{
+    if store.free_count() == 0 {
+        return Ok(None);
+    }
+    store.make_room(1)?;
+    Ok(store.take_free(owner))
+}
+
 /// Takes so many records for a job, and tells their numbers.
 fn take<S: RecordStore>(store: &mut S, owner: u16, count: u16, told: &mut Told)
     requires { owner ≢ 0 }
 {
     told.word(b"TAKEN");
     for _ in 0..count {
-        match store.take_free(owner) {
-            None => told.word(b" NONE"),
-            Some(n) => told.numbered(b" ", u64::from(n)),
+        match told.got(take_one(store, owner)) {
+            None => return,
+            Some(None) => told.word(b" NONE"),
+            Some(Some(n)) => told.numbered(b" ", u64::from(n)),
         }
     }
     told.end_line();
@@ -82,12 +94,34 @@ fn write_status<S: RecordStore>(store: &mut S, n: u32, text: &[u8]) -> bool {
     true
 }
 
-/// Gives a record back, if it is in use.
+/// Whether nobody waits.
+pub(crate) fn nobody_waits<S: RecordStore>(store: &S) -> bool
+    ensures { result ≡ true → (S.queue store.now).waiting ≡ [] }
+{
+    store.waiting_count() == 0
+}
+
+/// Gives a record back, if it is in use, where nobody waits.
 fn give_back<S: RecordStore>(store: &mut S, n: u32, told: &mut Told) {
     if store.get(n).is_none() {
         return told.not_allowed();
     }
-    store.give_back(n);
+    if nobody_waits(store) {
+        store.give_back(n);
+    } else {
+        told.not_allowed();
+    }
+}
+
+/// Gives every record of an owner back, where nobody waits.
+fn give_all_back<S: RecordStore>(store: &mut S, owner: u16, told: &mut Told)
+    requires { owner ≢ 0 }
+{
+    if nobody_waits(store) {
+        store.give_back_all(owner);
+    } else {
+        told.not_allowed();
+    }
 }
 
 /// The bytes of a record in use. What stands in its link is the store's own, and not shown.
@@ -111,7 +145,7 @@ fn on_owner<S: RecordStore>(store: &mut S, takes: bool, line: &mut Line<'_>) {
     if takes {
         take(store, owner, line.words.short(), &mut line.told);
     } else {
-        store.give_back_all(owner);
+        give_all_back(store, owner, &mut line.told);
     }
 }
 

@@ -1,4 +1,8 @@
 //! Jobs that wait, and which of them is selected.
+ghost use Rattle.std.specs.Prelude.{◌≡◌, ◌≢◌, ◌≤◌, [], true};
+ghost use Rattle.cb_queue.specs.RecordQueues.{IsQueued};
+
+use crate::store::nobody_waits;
 use cb_queue::store::RecordStore;
 use queue_core::queue::Queued;
 use queued_job::selecting::select;
@@ -38,21 +42,52 @@ fn class_of(alloc: Global, line: &mut Line<'_>) -> u8 {
     0
 }
 
-/// Lets a job wait where nobody waits yet, which is all that a text can be sure of: each job has to be behind all others.
+/// Whether a job may wait so: its first record is its own, and its class and its priority are those that a job can have.
+fn may_wait<S: RecordStore>(store: &S, queued: Queued) -> bool
+    ensures { result ≡ true → IsQueued (S.queue store.now) queued }
+{
+    let _layout = store.layout();
+    match store.get(queued.jct) {
+        None => false,
+        Some(rec) => rec.owner() == queued.job && can_be_of_a_job(queued),
+    }
+}
+
+/// Whether a job has a number, and its class and its priority are those that a job can have.
+fn can_be_of_a_job(queued: Queued) -> bool
+    ensures { result ≡ true → (queued.job ≢ 0) × (65 ≤ queued.class) × (queued.class ≤ 79) × (queued.priority ≤ 13) }
+{
+    queued.job != 0 && 65 <= queued.class && queued.class <= 79 && queued.priority <= 13
+}
+
+/// Lets a job wait, if it may.
+fn wait_first<S: RecordStore>(store: &mut S, queued: Queued, told: &mut Told)
+    requires { (S.queue store.old).waiting ≡ [] }
+{
+    if may_wait(store, queued) {
+        told.over(store.enter(queued));
+    } else {
+        told.not_allowed();
+    }
+}
+
+/// Lets a job wait where nobody waits yet, which is all that a text can be sure of: each job has to be after all others.
 fn wait<S: RecordStore>(alloc: Global, store: &mut S, line: &mut Line<'_>) {
     let job = line.words.short();
     let jct = line.words.number();
     let priority = line.words.byte();
     let class = class_of(alloc, line);
-    if store.waiting_count() != 0 {
-        return line.told.not_allowed();
-    }
-    line.told.over(store.enter(Queued {
+    let queued = Queued {
         job,
         jct,
         class,
         priority,
-    }));
+    };
+    if nobody_waits(store) {
+        wait_first(store, queued, &mut line.told);
+    } else {
+        line.told.not_allowed();
+    }
 }
 
 /// Does a command about the jobs that wait.

@@ -22,3 +22,4 @@ pub mod Begun
 pub mod Nexts
 pub mod Driving
 pub mod Followed
+pub mod Unqueued

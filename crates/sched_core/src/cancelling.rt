@@ -84,7 +84,8 @@ fn cancel_waiting<Q: RecordStore>(
 
 /// A job at an initiator gives back what it has.
 fn give_up<Q: RecordStore>(parts: &mut Parts<Q>, running: Running)
-    requires { (c : Config) × IsReady c parts.old.names running }
+    requires ready { (c : Config) × IsReady c parts.old.names running }
+    requires unqueued { All (λ x. x.job ≢ running.job) (Q.queue parts.old.queue).waiting }
     ensures { GivesUp Q.queue running.job parts.old parts.new }
 {
     let Running {
@@ -110,7 +111,8 @@ fn cancel_selected<Q: RecordStore>(
     x: &mut Initiator,
     job: u16,
 ) -> Result<Listed<Entry>, AllocError>
-    requires { RunsJob parts.old.names x.old job }
+    requires runs { RunsJob parts.old.names x.old job }
+    requires unqueued { All (λ q. q.job ≢ job) (Q.queue parts.old.queue).waiting }
     ensures ok { IfOk result (λ lines. lines ≡ cancelled_lines job) }
     ensures gives { OnOk result (GivesUp Q.queue job parts.old parts.new) }
     ensures leaves { OnOk result (x.new ≡ record x.old { running = None }) }
@@ -146,7 +148,8 @@ fn cancel_running<Q: RecordStore>(
     x: &mut Initiator,
     job: u16,
 ) -> Result<Listed<Entry>, AllocError>
-    requires { RunsJob parts.old.names x.old job }
+    requires runs { RunsJob parts.old.names x.old job }
+    requires unqueued { All (λ q. q.job ≢ job) (Q.queue parts.old.queue).waiting }
     ensures ok { IfOk result (CancelsRunning Q.queue job parts.old x.old parts.new x.new) }
     ensures err { OnErr result ((parts.new ≡ parts.old) × (x.new ≡ x.old)) }
 {
@@ -165,7 +168,8 @@ fn cancel_at<Q: RecordStore>(
     place: usize,
     job: u16,
 ) -> Result<Listed<Entry>, AllocError>
-    requires { (x : Initiator) × (slice_get initiators.old.items place ≡ Some x) × RunsJob parts.old.names x job }
+    requires runs { (x : Initiator) × (slice_get initiators.old.items place ≡ Some x) × RunsJob parts.old.names x job }
+    requires unqueued { All (λ x. x.job ≢ job) (Q.queue parts.old.queue).waiting }
     ensures ok { IfOk result (CancelsAt Q.queue job place parts.old initiators.old.items parts.new initiators.new.items) }
     ensures err { OnErr result ((parts.new ≡ parts.old) × (initiators.new.items ≡ initiators.old.items)) }
 {

@@ -144,7 +144,7 @@ fn turn_away<Q: RecordStore>(
     requires good { IsGood Q.queue (config_of profile.now (Q.queue parts.old.queue).layout) parts.old }
     requires runs { (r : Running) × (x.old.running ≡ Some r) × IsReady (config_of profile.now (Q.queue parts.old.queue).layout) parts.old.names r
         × IsProvided Q.queue (config_of profile.now (Q.queue parts.old.queue).layout) parts.old r × MayLeave profile.now parts.old r
-        × HasRoomFor profile.now r entries }
+        × HasRoomFor profile.now r entries × All (λ q. q.job ≢ r.job) (Q.queue parts.old.queue).waiting }
     ensures ok { IfOk result (TurnsJob Q.queue (config_of profile.now (Q.queue parts.old.queue).layout) parts.old x.old parts.new x.new) }
     ensures err { OnErr result ((parts.new ≡ parts.old) × (x.new ≡ x.old)) }
 {

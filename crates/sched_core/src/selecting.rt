@@ -3,6 +3,7 @@ ghost use Rattle.std.specs.Prelude.{◌≡◌, ◌≢◌, ◌∷◌, ◌++◌, [
 ghost use Rattle.std.specs.Vec.{vec_len};
 ghost use Rattle.jcl_plan.specs.declared.entry.JobLine.TheVariants as line;
 ghost use Rattle.jcl_plan.specs.declared.fault.Cause.{Cause};
+ghost use Rattle.queue_core.specs.Queues.{IsFirstOf};
 ghost use Rattle.queue_core.specs.declared.queue.Queued.{Queued};
 ghost use Rattle.world_meaning.specs.Selections.{Selects};
 ghost use Rattle.queued_job.specs.Backlogs.{IsListingOf, told};
@@ -62,23 +63,24 @@ fn selected(alloc: Global, queued: Queued, listing: Listing, room: Vec<JobLine>)
     }
 }
 
-/// Takes a job that waits out of the queue, and its listing with a line more. An `Err` changes nothing.
+/// Takes the job that is selected next of its class out of the queue, and its listing with a line more. An `Err` changes nothing.
 fn take_out<Q: RecordStore>(
     queue: &mut Q,
     backlog: &mut Backlog,
-    job: u16,
+    queued: Queued,
     line: JobLine,
 ) -> Result<Listing, AllocError>
-    requires { (l : Listing) × IsListingOf backlog.old job l }
-    ensures ok { IfOk result (λ taken. (l : Listing) × IsListingOf backlog.old job l × (taken ≡ told l line)) }
-    ensures queue { OnOk result (Q.queue queue.new ≡ queue_without (Q.queue queue.old) job) }
-    ensures backlog { OnOk result (backlog.new ≡ but_listing job backlog.old) }
+    requires listed { (l : Listing) × IsListingOf backlog.old queued.job l }
+    requires first { IsFirstOf (Q.queue queue.old).waiting queued.class queued }
+    ensures ok { IfOk result (λ taken. (l : Listing) × IsListingOf backlog.old queued.job l × (taken ≡ told l line)) }
+    ensures queue { OnOk result (Q.queue queue.new ≡ queue_without (Q.queue queue.old) queued.job) }
+    ensures backlog { OnOk result (backlog.new ≡ but_listing queued.job backlog.old) }
     ensures err { OnErr result ((Q.queue queue.new ≡ Q.queue queue.old) × (backlog.new ≡ backlog.old)) }
 {
-    let Some(listing) = backlog.take_with(job, line)? else {
+    let Some(listing) = backlog.take_with(queued.job, line)? else {
         unreachable!();
     };
-    queue.remove(job);
+    queue.remove_first(queued);
     Ok(listing)
 }
 
@@ -106,7 +108,7 @@ fn seat_next<Q: RecordStore>(
         Entry::Job(queued.job, JobLine::Selected(number)),
     )?;
     let few = Vec::with_capacity(alloc, FEW_LINES)?;
-    let listing = take_out(queue, backlog, queued.job, JobLine::Selected(number))?;
+    let listing = take_out(queue, backlog, queued, JobLine::Selected(number))?;
     let running = selected(alloc, queued, listing, few);
     seat(&mut initiators[place], Some(running));
     Ok(lines)

@@ -7,14 +7,17 @@ use Rattle.cb_chain.proofs.SoFar.{begins, ends, goes_on, ready_now, room_now, so
 use Rattle.cb_chain.proofs.cards.write_cards.Goals as goal
 
 pub loop-rest-init : goal.loop-rest-init
-loop-rest-init g c =
-    begins c.args.job cards_needed (CardsFrom c.args.layout.now c.args.job) c.args.cards.now (g.S.RecordStore.queue c.args.store.now) c.take_if-first.result
-    (g.S.RecordStore.queue c.take_if-first.new.store) c.is_more.result c.is_more.ensures c.take_if-first.ensures
+loop-rest-init g c = record {
+  so =
+      begins c.args.job cards_needed (CardsFrom c.args.layout.now c.args.job) c.args.cards.now (g.S.RecordStore.queue c.args.store.now) c.take_if-first.result
+      (g.S.RecordStore.queue c.take_if-first.new.store) c.is_more.result c.is_more.ensures c.take_if-first.ensures.value;
+  room = c.take_if-first.ensures.room;
+}
 
 pub write_pair-here-requires-clause-ready : goal.write_pair-here-requires-clause-ready
 write_pair-here-requires-clause-ready g c =
     ready_now c.args.job cards_needed (CardsFrom c.args.layout.now c.args.job) c.args.cards.now c.loop-rest.rest.now (g.S.RecordStore.queue c.args.store.now)
-    (g.S.RecordStore.queue c.loop-rest.store) c.take_if-first.result c.loop-rest.here c.loop-rest.invariant c.requires.ready
+    (g.S.RecordStore.queue c.loop-rest.store) c.take_if-first.result c.loop-rest.here c.loop-rest.invariant.so c.requires.ready
 
 -- two cards fewer are left, or none
 needed_by : (cards : List (List ℕ)) (k : ℕ) (behind : List (List ℕ)) → k ≡ min (length cards) 2 → behind ≡ drop k cards → 1 ≤ length cards →
@@ -45,28 +48,31 @@ write_pair-here-requires-clause-room g c = λ more.
     let some = sym c.is_more-in-loop-rest.ensures ∙ c.loop-rest-test.true in
     let room = room_now c.args.job cards_needed (CardsFrom c.args.layout.now c.args.job) c.args.cards.now c.loop-rest.rest.now
     (g.S.RecordStore.queue c.args.store.now)
-    (g.S.RecordStore.queue c.loop-rest.store) c.take_if-first.result c.loop-rest.here c.loop-rest.invariant some c.requires.room in
+    (g.S.RecordStore.queue c.loop-rest.store) c.take_if-first.result c.loop-rest.here c.loop-rest.invariant.so some (g.S.RecordStore.lacking c.args.store.now) c.requires.room in
     let needed = needed_by c.loop-rest.rest.now c.min.result c.split_at.result.1.now c.min.ensures c.split_at.ensures.back
     (some_more c.loop-rest.rest.now some) in
     let behind = some_more c.split_at.result.1.now (sym c.is_more-in-loop-rest-2.ensures ∙ more) in
-    omega (arith, room, needed, behind)
+    let same = c.loop-rest.invariant.room in omega (arith, room, needed, behind, same)
 
 pub loop-rest-preserved : goal.loop-rest-preserved
 loop-rest-preserved g c =
     let some = sym c.is_more-in-loop-rest.ensures ∙ c.loop-rest-test.true in
     let rest = c.loop-rest.rest.now in
     let both = parted c.min.result rest c.split_at.result.0.now c.split_at.result.1.now c.split_at.ensures.front c.split_at.ensures.back in
-    goes_on c.args.job cards_needed (CardsFrom c.args.layout.now c.args.job) c.args.cards.now (g.S.RecordStore.queue c.args.store.now)
-    c.take_if-first.result rest
-    c.split_at.result.1.now c.split_at.result.0.now (g.S.RecordStore.queue c.loop-rest.store) (g.S.RecordStore.queue c.write_pair-here.new.store)
-    c.loop-rest.here
-    c.write_pair-here.result 0 c.is_more-in-loop-rest-2.result c.is_more-in-loop-rest-2.ensures c.requires.ready some both
-    (needed_by rest c.min.result c.split_at.result.1.now c.min.ensures c.split_at.ensures.back (some_more rest some)) c.loop-rest.invariant
-    c.write_pair-here.ensures
+    record {
+      so =
+          goes_on c.args.job cards_needed (CardsFrom c.args.layout.now c.args.job) c.args.cards.now (g.S.RecordStore.queue c.args.store.now)
+          c.take_if-first.result rest c.split_at.result.1.now c.split_at.result.0.now (g.S.RecordStore.queue c.loop-rest.store)
+          (g.S.RecordStore.queue c.write_pair-here.new.store) c.loop-rest.here c.write_pair-here.result 0 c.is_more-in-loop-rest-2.result
+          c.is_more-in-loop-rest-2.ensures c.requires.ready some both
+          (needed_by rest c.min.result c.split_at.result.1.now c.min.ensures c.split_at.ensures.back (some_more rest some)) c.loop-rest.invariant.so
+          c.write_pair-here.ensures.value;
+      room = c.write_pair-here.ensures.room ∙ c.loop-rest.invariant.room;
+    }
 
-pub returns : goal.returns
-returns g c =
+pub returns-clause-value : goal.returns-clause-value
+returns-clause-value g c =
     ends c.args.job cards_needed (CardsFrom c.args.layout.now c.args.job) c.args.cards.now (g.S.RecordStore.queue c.args.store.now) c.take_if-first.result
     (g.S.RecordStore.queue c.loop-rest.store) c.loop-rest.here c.loop-rest.rest.now (sym c.is_more-in-loop-rest.ensures ∙ c.loop-rest-test.false) refl
-    c.take_if-first.ensures.most
-    (λ later. ((refl, refl), All-nil (λ n. IsFresh c.args.layout.now (later.at n)))) c.loop-rest.invariant
+    c.take_if-first.ensures.value.most
+    (λ later. ((refl, refl), All-nil (λ n. IsFresh c.args.layout.now (later.at n)))) c.loop-rest.invariant.so

@@ -25,14 +25,17 @@ take_if-first-requires-clause-room g c = λ more.
     let some = some_needed c.args.dds.now (sym c.is_more.ensures ∙ more) in let room = c.requires.room in omega (arith, some, room)
 
 pub loop-dd-init : goal.loop-dd-init
-loop-dd-init g c =
-    begins c.args.job dds_needed (DdsFrom c.args.layout.now c.args.job) c.args.dds.now (g.S.RecordStore.queue c.args.store.now) c.take_if-first.result
-    (g.S.RecordStore.queue c.take_if-first.new.store) c.is_more.result c.is_more.ensures c.take_if-first.ensures
+loop-dd-init g c = record {
+  so =
+      begins c.args.job dds_needed (DdsFrom c.args.layout.now c.args.job) c.args.dds.now (g.S.RecordStore.queue c.args.store.now) c.take_if-first.result
+      (g.S.RecordStore.queue c.take_if-first.new.store) c.is_more.result c.is_more.ensures c.take_if-first.ensures.value;
+  room = c.take_if-first.ensures.room;
+}
 
 pub write_dd-here-requires-clause-ready : goal.write_dd-here-requires-clause-ready
 write_dd-here-requires-clause-ready g c =
     ready_now c.args.job dds_needed (DdsFrom c.args.layout.now c.args.job) c.args.dds.now c.loop-dd.rest.now (g.S.RecordStore.queue c.args.store.now)
-    (g.S.RecordStore.queue c.loop-dd.store) c.take_if-first.result c.loop-dd.here c.loop-dd.invariant c.requires.ready
+    (g.S.RecordStore.queue c.loop-dd.store) c.take_if-first.result c.loop-dd.here c.loop-dd.invariant.so c.requires.ready
 
 pub write_dd-here-requires-clause-room : goal.write_dd-here-requires-clause-room
 write_dd-here-requires-clause-room g c =
@@ -40,9 +43,9 @@ write_dd-here-requires-clause-room g c =
     let some = more_of c.loop-dd.rest.now c.in-Some.behind.now c.in-Some.dd.now is in
     let room = room_now c.args.job dds_needed (DdsFrom c.args.layout.now c.args.job) c.args.dds.now c.loop-dd.rest.now
     (g.S.RecordStore.queue c.args.store.now)
-    (g.S.RecordStore.queue c.loop-dd.store) c.take_if-first.result c.loop-dd.here c.loop-dd.invariant some c.requires.room in
+    (g.S.RecordStore.queue c.loop-dd.store) c.take_if-first.result c.loop-dd.here c.loop-dd.invariant.so some (g.S.RecordStore.lacking c.args.store.now) c.requires.room in
     let needed = needed_by c.loop-dd.rest.now c.in-Some.behind.now c.in-Some.dd.now is in
-    omega (arith, room, needed)
+    let same = c.loop-dd.invariant.room in omega (arith, room, needed, same)
 
 pub write_dd-here-requires-clause-next : goal.write_dd-here-requires-clause-next
 write_dd-here-requires-clause-next g c = λ more.
@@ -50,23 +53,27 @@ write_dd-here-requires-clause-next g c = λ more.
     let some = more_of c.loop-dd.rest.now c.in-Some.behind.now c.in-Some.dd.now is in
     let room = room_now c.args.job dds_needed (DdsFrom c.args.layout.now c.args.job) c.args.dds.now c.loop-dd.rest.now
     (g.S.RecordStore.queue c.args.store.now)
-    (g.S.RecordStore.queue c.loop-dd.store) c.take_if-first.result c.loop-dd.here c.loop-dd.invariant some c.requires.room in
+    (g.S.RecordStore.queue c.loop-dd.store) c.take_if-first.result c.loop-dd.here c.loop-dd.invariant.so some (g.S.RecordStore.lacking c.args.store.now) c.requires.room in
     let needed = needed_by c.loop-dd.rest.now c.in-Some.behind.now c.in-Some.dd.now is in
     let behind = some_needed c.in-Some.behind.now (sym c.is_more-in-Some.ensures ∙ more) in
-    omega (arith, room, needed, behind)
+    let same = c.loop-dd.invariant.room in omega (arith, room, needed, behind, same)
 
 pub loop-dd-preserved : goal.loop-dd-preserved
 loop-dd-preserved g c =
     let is : c.loop-dd.rest.now ≡ c.in-Some.dd.now ∷ c.in-Some.behind.now = c.in-Some.ensures.cases.0 in
-    goes_on c.args.job dds_needed (DdsFrom c.args.layout.now c.args.job) c.args.dds.now (g.S.RecordStore.queue c.args.store.now) c.take_if-first.result
-    c.loop-dd.rest.now c.in-Some.behind.now (c.in-Some.dd.now ∷ []) (g.S.RecordStore.queue c.loop-dd.store) (g.S.RecordStore.queue c.write_dd-here.new.store)
-    c.loop-dd.here c.write_dd-here.result (records_below c.in-Some.dd.now.kind) c.is_more-in-Some.result c.is_more-in-Some.ensures c.requires.ready
-    (more_of c.loop-dd.rest.now c.in-Some.behind.now c.in-Some.dd.now is) is (needed_by c.loop-dd.rest.now c.in-Some.behind.now c.in-Some.dd.now is)
-    c.loop-dd.invariant c.write_dd-here.ensures
+    record {
+      so =
+          goes_on c.args.job dds_needed (DdsFrom c.args.layout.now c.args.job) c.args.dds.now (g.S.RecordStore.queue c.args.store.now) c.take_if-first.result
+          c.loop-dd.rest.now c.in-Some.behind.now (c.in-Some.dd.now ∷ []) (g.S.RecordStore.queue c.loop-dd.store) (g.S.RecordStore.queue c.write_dd-here.new.store)
+          c.loop-dd.here c.write_dd-here.result (records_below c.in-Some.dd.now.kind) c.is_more-in-Some.result c.is_more-in-Some.ensures c.requires.ready
+          (more_of c.loop-dd.rest.now c.in-Some.behind.now c.in-Some.dd.now is) is (needed_by c.loop-dd.rest.now c.in-Some.behind.now c.in-Some.dd.now is)
+          c.loop-dd.invariant.so c.write_dd-here.ensures.value;
+      room = c.write_dd-here.ensures.room ∙ c.loop-dd.invariant.room;
+    }
 
-pub returns : goal.returns
-returns g c =
+pub returns-clause-value : goal.returns-clause-value
+returns-clause-value g c =
     let over : is_more c.loop-dd.rest.now ≡ false = ap is_more (nil_from_length c.loop-dd.rest.now c.in_default.ensures.cases) in
     ends c.args.job dds_needed (DdsFrom c.args.layout.now c.args.job) c.args.dds.now (g.S.RecordStore.queue c.args.store.now) c.take_if-first.result
-    (g.S.RecordStore.queue c.loop-dd.store) c.loop-dd.here c.loop-dd.rest.now over refl c.take_if-first.ensures.most
-    (λ later. ((refl, refl), All-nil (λ n. IsFresh c.args.layout.now (later.at n)))) c.loop-dd.invariant
+    (g.S.RecordStore.queue c.loop-dd.store) c.loop-dd.here c.loop-dd.rest.now over refl c.take_if-first.ensures.value.most
+    (λ later. ((refl, refl), All-nil (λ n. IsFresh c.args.layout.now (later.at n)))) c.loop-dd.invariant.so

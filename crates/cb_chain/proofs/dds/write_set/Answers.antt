@@ -8,27 +8,27 @@ use Rattle.cb_chain.proofs.Linked.{filled_took, none_after, nothing_taken, stepp
 use Rattle.cb_chain.proofs.Stored.{ready_after}
 use Rattle.cb_chain.proofs.dds.write_set.Goals as goal
 
-pub returns : goal.returns
-returns g c =
+pub returns-clause-value : goal.returns-clause-value
+returns-clause-value g c =
     let l = c.args.layout.now in
     let job = c.args.job in
     let here = c.take_if-here.result in
     let old = g.S.RecordStore.queue c.args.store.now in
     let q = g.S.RecordStore.queue c.take_if-here.new.store in
     let new = g.S.RecordStore.queue c.put.new.self in
-    let took = c.take_if-here.ensures.took in
-    let taken : IsTaken job q here = c.take_if-here.ensures.is_held in
+    let took = c.take_if-here.ensures.value.took in
+    let taken : IsTaken job q here = c.take_if-here.ensures.value.is_held in
     let r = c.jfcb_record.result in
     let same : l ≡ q.layout = c.requires.layout ∙ sym took.layout in
     let step = stepped l job jfcb here q q q new [] false 0 r (ready_after (here ∷ []) old q c.requires.ready took) taken (nothing_taken q)
     (none_after job q) same
-    c.jfcb_record.ensures.head c.put.ensures in
+    c.jfcb_record.ensures.head c.put.ensures.value in
     let within : here ≤ l.most_records = subst (λ m. here ≤ m) (sym (ap (λ k. k.most_records) same)) taken.within in
     record {
       numbers = here ∷ [];
       count_is = refl;
       took = filled_took here [] old q new took step.filled;
-      most = c.take_if-here.ensures.most;
+      most = c.take_if-here.ensures.value.most;
       spells = λ later kept. (
         (
           refl,

@@ -31,8 +31,9 @@ loop-step-init g c =
       so =
           begins c.args.job steps_needed (StepsFrom c.args.layout.now c.args.job) c.args.steps.now (g.S.RecordStore.queue c.args.store.now)
           c.take_if-first.result
-          (g.S.RecordStore.queue c.take_if-first.new.store) c.is_more.result c.is_more.ensures c.take_if-first.ensures;
+          (g.S.RecordStore.queue c.take_if-first.new.store) c.is_more.result c.is_more.ensures c.take_if-first.ensures.value;
       few = c.requires.few;
+      room = c.take_if-first.ensures.room;
     }
 
 pub write_step-here-requires-clause-ready : goal.write_step-here-requires-clause-ready
@@ -46,9 +47,9 @@ write_step-here-requires-clause-room g c =
     let some = more_of c.loop-step.rest.now c.in-Some.behind.now c.in-Some.step.now is in
     let room = room_now c.args.job steps_needed (StepsFrom c.args.layout.now c.args.job) c.args.steps.now c.loop-step.rest.now
     (g.S.RecordStore.queue c.args.store.now)
-    (g.S.RecordStore.queue c.loop-step.store) c.take_if-first.result c.loop-step.here c.loop-step.invariant.so some c.requires.room in
+    (g.S.RecordStore.queue c.loop-step.store) c.take_if-first.result c.loop-step.here c.loop-step.invariant.so some (g.S.RecordStore.lacking c.args.store.now) c.requires.room in
     let needed = needed_by c.loop-step.rest.now c.in-Some.behind.now c.in-Some.step.now is in
-    omega (arith, room, needed)
+    let same = c.loop-step.invariant.room in omega (arith, room, needed, same)
 
 pub write_step-here-requires-clause-next : goal.write_step-here-requires-clause-next
 write_step-here-requires-clause-next g c = λ more.
@@ -56,10 +57,10 @@ write_step-here-requires-clause-next g c = λ more.
     let some = more_of c.loop-step.rest.now c.in-Some.behind.now c.in-Some.step.now is in
     let room = room_now c.args.job steps_needed (StepsFrom c.args.layout.now c.args.job) c.args.steps.now c.loop-step.rest.now
     (g.S.RecordStore.queue c.args.store.now)
-    (g.S.RecordStore.queue c.loop-step.store) c.take_if-first.result c.loop-step.here c.loop-step.invariant.so some c.requires.room in
+    (g.S.RecordStore.queue c.loop-step.store) c.take_if-first.result c.loop-step.here c.loop-step.invariant.so some (g.S.RecordStore.lacking c.args.store.now) c.requires.room in
     let needed = needed_by c.loop-step.rest.now c.in-Some.behind.now c.in-Some.step.now is in
     let behind = some_needed c.in-Some.behind.now (sym c.is_more-in-Some.ensures ∙ more) in
-    omega (arith, room, needed, behind)
+    let same = c.loop-step.invariant.room in omega (arith, room, needed, behind, same)
 
 pub loop-step-preserved : goal.loop-step-preserved
 loop-step-preserved g c =
@@ -73,16 +74,17 @@ loop-step-preserved g c =
           c.loop-step.here c.write_step-here.result (dds_needed c.in-Some.step.now.dds) c.is_more-in-Some.result c.is_more-in-Some.ensures c.requires.ready
           (more_of c.loop-step.rest.now c.in-Some.behind.now c.in-Some.step.now is) is (needed_by c.loop-step.rest.now c.in-Some.behind.now
           c.in-Some.step.now is)
-          c.loop-step.invariant.so c.write_step-here.ensures;
+          c.loop-step.invariant.so c.write_step-here.ensures.value;
       few = All-rest (λ (step : StepPlan). length step.dds ≤ most_dds) c.in-Some.step.now c.in-Some.behind.now c.loop-step.rest.now is
           c.loop-step.invariant.few;
+      room = c.write_step-here.ensures.room ∙ c.loop-step.invariant.room;
     }
 
-pub returns : goal.returns
-returns g c =
+pub returns-clause-value : goal.returns-clause-value
+returns-clause-value g c =
     let over : is_more c.loop-step.rest.now ≡ false = ap is_more (nil_from_length c.loop-step.rest.now c.in_default.ensures.cases) in
     ends c.args.job steps_needed (StepsFrom c.args.layout.now c.args.job) c.args.steps.now (g.S.RecordStore.queue c.args.store.now) c.take_if-first.result
-    (g.S.RecordStore.queue c.loop-step.store) c.loop-step.here c.loop-step.rest.now over refl c.take_if-first.ensures.most
+    (g.S.RecordStore.queue c.loop-step.store) c.loop-step.here c.loop-step.rest.now over refl c.take_if-first.ensures.value.most
     (λ later. ((refl, refl), All-nil (λ n. IsFresh c.args.layout.now (later.at n))))
     c.loop-step.invariant.so
 

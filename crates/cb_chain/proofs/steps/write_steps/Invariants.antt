@@ -1,4 +1,4 @@
-use Rattle.std.proofs.Common.{◌≤◌, length}
+use Rattle.std.proofs.Common.{◌≡◌, ◌≤◌, length}
 use Rattle.std.specs.Prelude.{All}
 use Rattle.cb_meaning.specs.Writable.{most_dds}
 use Rattle.jcl_plan.specs.declared.plan.StepPlan.{StepPlan}
@@ -12,6 +12,7 @@ invariant-loop-step g l =
       so : SoFar {X = StepPlan} l.job steps_needed (StepsFrom l.layout l.job) l.steps l.rest (g.S.RecordStore.queue l.fn.store)
           (g.S.RecordStore.queue l.store) l.first l.here;
       few : All (λ (step : StepPlan). length step.dds ≤ most_dds) l.rest;
+      room : g.S.RecordStore.lacking l.store ≡ g.S.RecordStore.lacking l.fn.store;
     }
 
 abbrev pub decreases-loop-step : goal.decreases-loop-step

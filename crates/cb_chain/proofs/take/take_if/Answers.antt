@@ -4,8 +4,8 @@ use Rattle.cb_chain.specs.Taking.{TakesIf}
 use Rattle.cb_chain.proofs.Stored.{takes}
 use Rattle.cb_chain.proofs.take.take_if.Goals as goal
 
-pub returns-then-more : goal.returns-then-more
-returns-then-more g c =
+pub returns-then-more-clause-value : goal.returns-then-more-clause-value
+returns-then-more-clause-value g c =
     let old = g.S.RecordStore.queue c.args.store.now in
     let some : Some c.unwrap.result ≡ next_free old = sym c.unwrap.ensures ∙ c.take_free.ensures.answer in
     let took = takes old c.args.job c.unwrap.result c.requires.ready some in

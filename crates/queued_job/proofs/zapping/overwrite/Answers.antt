@@ -13,7 +13,7 @@ put-requires-clause-owner g c =
 pub returns : goal.returns
 returns g c =
     let q = g.Q.RecordStore.queue c.args.queue.now in
-    subst (Overwrites c.args.n c.args.offset c.args.bytes.now q) (sym c.put.ensures)
+    subst (Overwrites c.args.n c.args.offset c.args.bytes.now q) (sym c.put.ensures.value)
     (overwritten q c.args.n c.args.offset c.args.bytes.now c.in-Some.rec.now c.layout-layout.ensures.sound
     (lent_of q c.args.n c.in-Some.rec.now c.in-Some.ensures) c.requires.behind c.requires.within c.write_part.new.self c.write_part.ensures.value
     c.write_part.ensures.others)

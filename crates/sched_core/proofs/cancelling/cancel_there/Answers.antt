@@ -1,4 +1,4 @@
-use Rattle.std.proofs.Common.{Ok, Err, ap, refl}
+use Rattle.std.proofs.Common.{◌≢◌, All, Ok, Err, ap, refl, subst}
 use Rattle.machine_core.specs.declared.parts.Parts.{Parts}
 use Rattle.sched_core.specs.Machines.{config_in, world_in}
 use Rattle.sched_core.specs.Systems.{parts_of}
@@ -6,10 +6,17 @@ use Rattle.sched_core.specs.declared.fault.ApplyFault.TheVariants.{Memory}
 use Rattle.sched_core.proofs.Cancelled.{fit_running, leads_running, never_refused, some_running}
 use Rattle.sched_core.proofs.Unchanged.{same_world, queue_alone, same_fit, same_machine}
 use Rattle.sched_core.proofs.Followed.{cancelled_extents}
+use Rattle.sched_core.proofs.Unqueued.{unqueued_at}
 use Rattle.sched_core.proofs.cancelling.cancel_there.Goals as goal
 
-pub cancel_at-requires : goal.cancel_at-requires
-cancel_at-requires g c =
+pub cancel_at-requires-clause-unqueued : goal.cancel_at-requires-clause-unqueued
+cancel_at-requires-clause-unqueued g c =
+    let s = c.args.state.now in
+    subst (λ job. All (λ x. x.job ≢ job) (g.Q.RecordStore.queue s.parts.queue).waiting) c.requires.runs.2
+    (unqueued_at g.Q.RecordStore.queue (config_in g.Q.RecordStore.queue c.args.profile.now s) s c.requires.kept c.args.place c.requires.runs.0 c.requires.runs.1)
+
+pub cancel_at-requires-clause-runs : goal.cancel_at-requires-clause-runs
+cancel_at-requires-clause-runs g c =
     let s = c.args.state.now in
     let r = c.requires.runs.0 in
     let its = c.requires.runs.1 in (

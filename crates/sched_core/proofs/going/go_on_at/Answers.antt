@@ -1,4 +1,4 @@
-use Rattle.std.proofs.Common.{◌≡◌, ◌++◌, ◌∙◌, All, Some, ap, length, refl, subst, sym}
+use Rattle.std.proofs.Common.{◌≡◌, ◌≢◌, ◌++◌, ◌∙◌, All, Some, ap, length, refl, subst, sym}
 use Rattle.std.proofs.lemmas.Option.{slice_get_read, slice_get_within}
 use Rattle.init_core.specs.Going.{MayLeave, WentInPlace}
 use Rattle.init_core.specs.Providing.{IsProvided}
@@ -15,6 +15,7 @@ use Rattle.sched_core.proofs.GoingOn.{away, back, has_records, in_place, ready, 
 use Rattle.sched_core.proofs.Risks.{no_risk}
 use Rattle.sched_core.proofs.Turning.{fit, leads}
 use Rattle.sched_core.proofs.Unchanged.{queue_alone}
+use Rattle.sched_core.proofs.Unqueued.{unqueued_at}
 use Rattle.sched_core.proofs.going.go_on_at.Goals as goal
 
 pub returns-in_default-room_for-clause-done : goal.returns-in_default-room_for-clause-done
@@ -88,6 +89,8 @@ turn_away-requires-clause-runs g c =
           (has_records queue_of profile s c.requires.kept c.requires.runs.0 c.in-Some.running x c.args.place there at c.in-Some.is),
       subst (λ (z : Parts _ × Running). MayLeave profile z.0 z.1) (λ i. (sym went.0 i, sym went.1 i)) went.2,
       subst (λ r. HasRoomFor profile r c.in-Ok.entries) (sym went.1) c.in-Ok.ensures,
+      subst (λ (z : Parts _ × Running). All (λ q. q.job ≢ z.1.job) (queue_of z.0.queue).waiting) (λ i. (sym went.0 i, sym went.1 i))
+          (unqueued_at queue_of config s c.requires.kept c.args.place c.in-Some.running (record { it = x; at = at; running = c.in-Some.is })),
     )
 
 pub returns-in-Ok-Some-clause-done : goal.returns-in-Ok-Some-clause-done

@@ -1,13 +1,19 @@
-use Rattle.std.proofs.Common.{◌≡◌, ◌≤◌, All, Some, arith, length, subst, sym}
+use Rattle.std.proofs.Common.{◌≡◌, ◌≢◌, ◌≤◌, All, Some, arith, length, subst, sym}
 use Rattle.init_core.specs.Going.{Went}
 use Rattle.init_core.specs.Running.{config_of, path_before}
 use Rattle.init_core.specs.declared.running.Progress.TheVariants.{Answered, Over}
+use Rattle.init_core.specs.declared.running.Running.{Running}
 use Rattle.sched_core.specs.Copies.{unless_risk}
 use Rattle.sched_core.specs.Explaining.{most_explained}
 use Rattle.sched_core.specs.Going.{HasRoomFor}
 use Rattle.sched_core.proofs.Explained.{few_paths}
 use Rattle.sched_core.proofs.Risks.{no_risk}
 use Rattle.sched_core.proofs.going.turn_away.Goals as goal
+
+pub go_on-requires-clause-unqueued : goal.go_on-requires-clause-unqueued
+go_on-requires-clause-unqueued g c =
+    let is : c.requires.runs.0 ≡ c.in-Some.running = cc (c.requires.runs.1, c.in-Some.ensures.value) in
+    subst (λ (r : Running). All (λ q. q.job ≢ r.job) (g.Q.RecordStore.queue c.args.parts.now.queue).waiting) is c.requires.runs.6
 
 pub tell-requires-clause-no_risk : goal.tell-requires-clause-no_risk
 tell-requires-clause-no_risk g c =

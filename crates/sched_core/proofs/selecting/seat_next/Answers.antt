@@ -13,11 +13,11 @@ returns-in_default-clause-ok g c =
     let at = c.requires.idle.1 in
     let same = read_at c.args.initiators.now.items c.args.place x c.index-2.result.now at c.index-2.ensures in
     let classed = c.as_slice.ensures.value ∙ ap (λ (y : Initiator). y.classes) same in
-    nobody x at (subst (λ cs. SelectsOf (g.Q.RecordStore.queue c.args.queue.now).waiting cs None) classed c.in_default.ensures) c.empty.ensures refl refl refl
+    nobody x at (subst (λ cs. SelectsOf (g.Q.RecordStore.queue c.args.queue.now).waiting cs None) classed c.in_default.ensures.value) c.empty.ensures refl refl refl
 
-pub take_out-requires : goal.take_out-requires
-take_out-requires g c =
-    listing_there (g.Q.RecordStore.queue c.args.queue.now).waiting c.args.backlog.now c.as_slice.result.now c.in-Some.queued c.requires.listed c.in-Some.ensures
+pub take_out-requires-clause-listed : goal.take_out-requires-clause-listed
+take_out-requires-clause-listed g c =
+    listing_there (g.Q.RecordStore.queue c.args.queue.now).waiting c.args.backlog.now c.as_slice.result.now c.in-Some.queued c.requires.listed c.in-Some.ensures.value
 
 pub index_mut-requires : goal.index_mut-requires
 index_mut-requires g c =
@@ -40,6 +40,6 @@ returns-clause-ok g c =
     seats_job (g.Q.RecordStore.queue c.args.queue.now) c.args.backlog.now items c.args.place
     (g.Q.RecordStore.queue c.take_out.new.queue) c.take_out.new.backlog c.in_ok-lines.lines
     x c.index_mut.result.now c.seat.new.x c.as_slice.result.now c.index.result.now.number c.in-Some.queued c.in_ok-listing.listing c.selected-running.result at
-    (c.as_slice.ensures.value ∙ ap (λ (y : Initiator). y.classes) classed) (ap (λ (y : Initiator). y.number) named) c.in-Some.ensures c.in_ok-lines.ensures
+    (c.as_slice.ensures.value ∙ ap (λ (y : Initiator). y.classes) classed) (ap (λ (y : Initiator). y.number) named) c.in-Some.ensures.value c.in_ok-lines.ensures
     c.in_ok-listing.ensures.ok c.in_ok-listing.ensures.queue c.in_ok-listing.ensures.backlog c.selected-running.ensures
     (read_at items c.args.place x c.index_mut.result.now at c.index_mut.ensures.value) c.seat.ensures

@@ -1,6 +1,7 @@
-use Rattle.std.proofs.Common.{◌≡◌, suc, ◌-◌, ◌<◌, ◌≤◌, ◌∙◌, ap, arith, length, subst, sym}
-use Rattle.cb_queue.specs.RecordQueues.{HasNoneBetween, given_back, owner_at}
-use Rattle.cb_queue.proofs.Given.{block_kept, none_given, step_given, step_kept, unowned_kept}
+use Rattle.std.proofs.Common.{◌≡◌, ◌≢◌, All, suc, ◌-◌, ◌<◌, ◌≤◌, ◌∙◌, ap, arith, length, subst, sym}
+use Rattle.cb_queue.specs.RecordQueues.{HasNoneBetween, IsQueued, IsSoundQueue, RecordQueue, given_back, owner_at}
+use Rattle.cb_queue.proofs.Changing.{each}
+use Rattle.cb_queue.proofs.Given.{block_kept, none_given, step_given, step_kept, still_owned, unowned_kept}
 use Rattle.cb_queue.proofs.list_store.ListStoreRecordStore.give_back_all.Goals as goal
 use Rattle.cb_queue.proofs.list_store.ListStoreRecordStore.give_back_all.Goals.{then-owner, else-owner}
 
@@ -17,6 +18,20 @@ loop-n-init c =
           ∙ unowned_kept q c.args.owner (most - high) high most (omega (arith, within)) (omega arith) c.span-span.ensures.none_behind;
     }
 
+-- a job that waits is another, so that its first record is another too
+pub give_back-requires-clause-unqueued : goal.give_back-requires-clause-unqueued
+give_back-requires-clause-unqueued c =
+    let n = c.loop-n.n in
+    let q = c.args.self.now in
+    let more : suc (n - 1) ≡ n = omega (arith, c.loop-n-test.true) in
+    let here : n - 1 < length q.records = omega (arith, c.loop-n.invariant.within, more) in
+    let owned : owner_at q n ≡ c.args.owner =
+    sym (still_owned q c.args.owner n (n - 1) more here) ∙ sym (ap (λ s. owner_at s n) c.loop-n.invariant.is) ∙ sym c.owner.ensures.value ∙ c.if-owner.true in
+    let sound : IsSoundQueue q = c.layout-layout.ensures.sound in
+    subst (λ (s : RecordQueue). All (λ x. x.jct ≢ n) s.waiting) (sym c.loop-n.invariant.is)
+    (each (IsQueued q) (λ x. x.job ≢ c.args.owner) (λ x. x.jct ≢ n) (λ x own other is. other (sym own.owner ∙ ap (owner_at q) is ∙ owned)) q.waiting sound.queued
+    c.requires.unqueued)
+
 pub loop-n-preserved : goal.loop-n-preserved
 loop-n-preserved c =
     let n = c.loop-n.n in
@@ -28,7 +43,7 @@ loop-n-preserved c =
           record {
             within = omega (arith, here);
             is =
-                w.self-is ∙ w.give_back.ensures ∙ ap (λ s. given_back s n) c.loop-n.invariant.is
+                w.self-is ∙ w.give_back.ensures.value ∙ ap (λ s. given_back s n) c.loop-n.invariant.is
                 ∙ step_given q c.args.owner n (n - 1) more here (sym (ap (λ s. owner_at s n) c.loop-n.invariant.is) ∙ sym c.owner.ensures.value ∙ w.if-owner.true);
           }
       | else-owner w ↦
@@ -56,8 +71,8 @@ loop-n-preserved-then-has_none c =
           (subst (λ s. HasNoneBetween s c.args.owner low n) invariant.is (c.has_none.ensures c.if-has_none.true));
     }
 
-pub returns : goal.returns
-returns c =
+pub returns-clause-value : goal.returns-clause-value
+returns-clause-value c =
     let n = c.loop-n.n in
     let low = c.loop-n-test.false in
     c.loop-n.invariant.is

@@ -30,8 +30,8 @@ invariant_of-self c =
       c.self.invariant.1,
     )
 
-pub returns : goal.returns
-returns c =
+pub returns-clause-value : goal.returns-clause-value
+returns-clause-value c =
     let used : is_some (record_at (seen c.self.inside) c.args.n) ≡ true = rw c.self.view_is c.requires.used in
     put_seen c.self.inside c.self.invariant.0 c.args.n used c.write_unlinked.new.own ∙ ap (λ r. with_record_at (seen c.self.inside) c.args.n (Some r)) c.write_unlinked.ensures.value
     ∙ ap (λ q. with_record_at q c.args.n (Some (unlinked q.layout c.args.rec.now))) c.self.view_is

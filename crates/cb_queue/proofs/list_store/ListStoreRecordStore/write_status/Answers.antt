@@ -23,8 +23,8 @@ invariant_of-self c =
       c.self.invariant.1,
     )
 
-pub returns : goal.returns
-returns c =
+pub returns-clause-value : goal.returns-clause-value
+returns-clause-value c =
     let used : is_some (record_at (seen c.self.inside) c.args.n) ≡ true = rw c.self.view_is c.requires in
     status_seen c.self.inside c.self.invariant.0 c.args.n used c.index_mut-rec.result.now c.write_part.new.self c.args.status.now c.index_mut-rec.ensures.value
     c.write_part.ensures.whole (c.write_part.ensures.value ∙ c.as_slice.ensures) c.write_part.ensures.others

@@ -9,11 +9,11 @@ returns-in-None g c =
     let x = c.self.inside in
     subst (λ m. IsNext (world_of m).waiting c.args.class None) c.self.view_is
     (next_none (machine_in g.Q.RecordStore.queue x.profile x.units.now x.library.now x.state) c.args.class c.waiting_are_listed.ensures.queued
-    c.self.invariant.kept.fit.listed c.in-None.ensures)
+    c.self.invariant.kept.fit.listed c.in-None.ensures.value)
 
 pub returns-in-Some : goal.returns-in-Some
 returns-in-Some g c =
     let x = c.self.inside in
     subst (λ m. IsNext (world_of m).waiting c.args.class (Some c.in-Some.queued.job)) c.self.view_is
     (next_some (machine_in g.Q.RecordStore.queue x.profile x.units.now x.library.now x.state) c.args.class c.waiting_are_listed.ensures.queued
-    c.self.invariant.kept.fit.listed c.in-Some.queued c.in-Some.ensures)
+    c.self.invariant.kept.fit.listed c.in-Some.queued c.in-Some.ensures.value)
