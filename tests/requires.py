@@ -8,7 +8,7 @@ import glob
 import re
 import sys
 
-CALL = re.compile(r"^( *)pub fn (\w+)((?:.|\n)*?)\n\1\{", re.M)
+CALL = re.compile(r"^( *)pub fn (\w+)(?![^\n]* \{\n)((?:.|\n)*?)\n\1\{", re.M)
 OWNER = re.compile(r"^impl(?:<[^\n]*?>)? ([A-Za-z0-9]+)", re.M)
 
 

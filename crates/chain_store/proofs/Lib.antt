@@ -1,0 +1,15 @@
+pub mod AllJobs
+pub mod Bytes
+pub mod Jobs
+pub mod Known
+pub mod Ops
+pub mod Walks
+pub mod Rechained
+pub mod Uses
+pub mod Entering
+pub mod Spanned
+pub mod Leaving
+pub mod Starting
+pub mod Taking
+pub mod Selecting
+pub mod Removing

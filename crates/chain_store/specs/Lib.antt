@@ -1,0 +1,4 @@
+pub mod Chained
+pub mod Chains
+pub mod Links
+pub mod Values

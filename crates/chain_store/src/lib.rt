@@ -1,0 +1,6 @@
+//! A store of records that are linked through their own bytes. (This profile)
+#![tactic(auto)]
+
+mod chains;
+mod records;
+pub mod store;
