@@ -8,7 +8,7 @@ ghost use Rattle.config_core.specs.Starts.{IsTakenApart};
 ghost use Rattle.session_core.specs.Opening.{IsOpened};
 
 use crate::watch::Watch;
-use cb_queue::list_store::ListStore;
+use chain_store::store::ChainStore;
 use config_core::start::Fixed;
 use history_core::history::History;
 use run_options::Options;
@@ -28,7 +28,7 @@ use std::io::Read;
 /// Applies an event so many times.
 fn run_events(
     alloc: Global,
-    system: &mut System<'_, ListStore>,
+    system: &mut System<'_, ChainStore>,
     event: &Event<'_>,
     times: u16,
     watch: &mut Watch,
@@ -46,7 +46,7 @@ fn run_from(
     alloc: Global,
     statements: &[Statement<'_>],
     late: Option<Fault>,
-    system: &mut System<'_, ListStore>,
+    system: &mut System<'_, ChainStore>,
     history: &mut History,
 ) -> Result<SessionEnd, SessionFault> {
     let mut watch = Watch::new(alloc);
@@ -71,7 +71,7 @@ fn run_from(
 /// Starts a machine of these parts, and runs the statements behind the configuration.
 fn run_on(
     alloc: Global,
-    parts: (SharedStore, ListStore),
+    parts: (SharedStore, ChainStore),
     fixed: &Fixed,
     statements: &[Statement<'_>],
     late: Option<Fault>,
@@ -79,7 +79,7 @@ fn run_on(
     history: &mut History,
 ) -> Result<SessionEnd, SessionFault>
     requires configured { (c : Configuration) × IsConfigured c × IsTakenApart c parts.0 fixed.now }
-    requires empty { parts.1 ≡ empty_queue QUEUE_LAYOUT }
+    requires empty { parts.1.queue ≡ empty_queue QUEUE_LAYOUT }
 {
     let (store, queue) = parts;
     let Ok(mut system) = start(alloc, store, queue, fixed, options) else {

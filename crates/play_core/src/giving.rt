@@ -7,7 +7,7 @@ ghost use Rattle.play_core.specs.Giving.{Adds, IsWait, SaysWait};
 
 use crate::given::Given;
 use crate::waits::Waits;
-use cb_queue::list_store::ListStore;
+use chain_store::store::ChainStore;
 use jcl_plan::entry::{Entry, JobLine};
 use machine_meaning::machine::MOST_EVENTS;
 use plain::listed::Listed;
@@ -33,7 +33,7 @@ impl Added {
 }
 
 /// Whether the machine takes an event more.
-pub(crate) fn has_room(system: &System<'_, ListStore>) -> bool
+pub(crate) fn has_room(system: &System<'_, ChainStore>) -> bool
     ensures yes { result ≡ true → (world_of system.now).events < MOST_EVENTS }
     ensures no { result ≡ false → MOST_EVENTS ≤ (world_of system.now).events }
 {
@@ -42,7 +42,7 @@ pub(crate) fn has_room(system: &System<'_, ListStore>) -> bool
 
 /// Gives an event to the machine, and tells its lines. With an `Err` nothing is claimed.
 pub(crate) fn give(
-    system: &mut System<'_, ListStore>,
+    system: &mut System<'_, ChainStore>,
     given: &mut Vec<Given>,
     next: Given,
 ) -> Result<Listed<Entry>, AllocError>

@@ -4,7 +4,7 @@ ghost use Rattle.std.specs.List.{list_all};
 ghost use Rattle.session_core.specs.Sessions.{events_of, has_events};
 ghost use Rattle.play_core.specs.Giving.{Leads};
 
-use cb_queue::list_store::ListStore;
+use chain_store::store::ChainStore;
 use sched_core::system::System;
 use session_input::event::Event;
 use session_text::statement::{Says, Statement};
@@ -12,7 +12,7 @@ use std::alloc::AllocError;
 
 /// Gives an event so many times.
 fn repeat(
-    system: &mut System<'_, ListStore>,
+    system: &mut System<'_, ChainStore>,
     event: &Event<'_>,
     times: u16,
 ) -> Result<(), AllocError>
@@ -28,7 +28,7 @@ fn repeat(
 /// Gives the events of the statements, up to one that is none. Tells whether all are events.
 pub(crate) fn replay(
     statements: &[Statement<'_>],
-    system: &mut System<'_, ListStore>,
+    system: &mut System<'_, ChainStore>,
 ) -> Result<bool, AllocError>
     ensures all { IfOk result (λ all. all ≡ list_all (λ s. has_events s.says) statements.now) }
     ensures leads { IfOk result (λ all. all ≡ true → Leads system.old (events_of statements.now) system.new) }

@@ -6,13 +6,13 @@ ghost use Rattle.play_core.specs.Giving.{Adds, IsOver, IsQuiet, Stays};
 
 use crate::given::Given;
 use crate::giving::{Added, give, has_room, note};
-use cb_queue::list_store::ListStore;
+use chain_store::store::ChainStore;
 use machine_meaning::machine::MOST_EVENTS;
 use sched_core::system::System;
 use std::alloc::AllocError;
 
 /// Each initiator acts once. Tells whether jobs that wait were all that was told.
-fn turn_all(system: &mut System<'_, ListStore>, added: &mut Added) -> Result<bool, AllocError>
+fn turn_all(system: &mut System<'_, ChainStore>, added: &mut Added) -> Result<bool, AllocError>
     ensures adds { OnOk result (Adds system.old added.old.given.items system.new added.new.given.items) }
     ensures still { IfOk result (λ still. still ≡ true → Stays system.old 0 (length (world_of system.old).initiators) system.new) }
     ensures more { IfOk result (λ still. still ≡ false → (length added.old.given.items < length added.new.given.items)
@@ -35,7 +35,7 @@ fn turn_all(system: &mut System<'_, ListStore>, added: &mut Added) -> Result<boo
 }
 
 /// Each operation under way ends. Tells whether there was none.
-fn end_all(system: &mut System<'_, ListStore>, added: &mut Added) -> Result<bool, AllocError>
+fn end_all(system: &mut System<'_, ChainStore>, added: &mut Added) -> Result<bool, AllocError>
     ensures adds { OnOk result (Adds system.old added.old.given.items system.new added.new.given.items) }
     ensures quiet { IfOk result (λ quiet. quiet ≡ true → IsQuiet system.new × (system.new ≡ system.old)) }
     ensures more { IfOk result (λ quiet. quiet ≡ false → (length added.old.given.items < length added.new.given.items)
@@ -61,7 +61,7 @@ fn end_all(system: &mut System<'_, ListStore>, added: &mut Added) -> Result<bool
 
 /// Rounds, up to the first in which nothing moves, or to the limit of events.
 pub(crate) fn play_rounds(
-    system: &mut System<'_, ListStore>,
+    system: &mut System<'_, ChainStore>,
     added: &mut Added,
 ) -> Result<(), AllocError>
     ensures adds { OnOk result (Adds system.old added.old.given.items system.new added.new.given.items) }

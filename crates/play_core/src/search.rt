@@ -8,7 +8,7 @@ use crate::giving::{Added, has_room};
 use crate::replaying::replay;
 use crate::rounds::play_rounds;
 use crate::waits::Waits;
-use cb_queue::list_store::ListStore;
+use chain_store::store::ChainStore;
 use run_options::Options;
 use sched_core::system::System;
 use session_core::SessionFault;
@@ -20,7 +20,7 @@ use std::alloc::{AllocError, Global};
 static CLASSES: [u8; 36] = *b"ABCDEFGHIJKLMNOPQRSTUVWXYZ0123456789";
 
 /// Whether an initiator selects from the class.
-fn is_taken(system: &System<'_, ListStore>, class: u8) -> bool {
+fn is_taken(system: &System<'_, ChainStore>, class: u8) -> bool {
     for place in 0..system.initiator_count() {
         if let Some(x) = system.initiator_at(place) {
             if x.classes.as_slice().contains(&class) {
@@ -33,7 +33,7 @@ fn is_taken(system: &System<'_, ListStore>, class: u8) -> bool {
 
 /// Notes what waits of a class: its first job, and its output.
 fn note_class(
-    system: &System<'_, ListStore>,
+    system: &System<'_, ChainStore>,
     waits: &mut Vec<Waits>,
     class: u8,
 ) -> Result<(), AllocError> {
@@ -51,7 +51,7 @@ fn note_class(
 }
 
 /// Notes what waits beside jobs at initiators.
-fn note_rest(system: &System<'_, ListStore>, waits: &mut Vec<Waits>) -> Result<(), AllocError> {
+fn note_rest(system: &System<'_, ChainStore>, waits: &mut Vec<Waits>) -> Result<(), AllocError> {
     for class in CLASSES.iter() {
         note_class(system, waits, *class)?;
     }
@@ -65,7 +65,7 @@ fn note_rest(system: &System<'_, ListStore>, waits: &mut Vec<Waits>) -> Result<(
 fn play_machine(
     alloc: Global,
     rest: &[Statement<'_>],
-    system: &mut System<'_, ListStore>,
+    system: &mut System<'_, ChainStore>,
 ) -> Result<Option<Added>, AllocError>
     ensures { IfOk result (λ found. PlaysMachine system.old rest.now found) }
 {

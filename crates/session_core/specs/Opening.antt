@@ -16,4 +16,4 @@ pub record IsOpened (all : List Statement) (x : Opened) : Type 0 where
   pub late : x.late ≡ late_in config (drop x.from all)
   pub sound : IsConfigured config
   pub apart : IsTakenApart config x.store x.fixed
-  pub empty : x.queue ≡ empty_queue QUEUE_LAYOUT
+  pub empty : x.queue.queue ≡ empty_queue QUEUE_LAYOUT

@@ -15,7 +15,7 @@ ghost use Rattle.session_core.specs.declared.SessionEnd.{SessionEnd};
 use crate::configure::{configure, late_in};
 use crate::{SessionFault, refuses};
 use cb_meaning::layout::QUEUE_LAYOUT;
-use cb_queue::list_store::ListStore;
+use chain_store::store::ChainStore;
 use config_core::config::Config;
 use config_core::start::Fixed;
 use run_options::Options;
@@ -31,17 +31,17 @@ use std::alloc::{AllocError, Global};
 pub struct Opened {
     pub store: SharedStore,
     pub fixed: Fixed,
-    pub queue: ListStore,
+    pub queue: ChainStore,
     pub from: usize,
     pub late: Option<Fault>,
 }
 
 /// The queue of a machine that begins: no record is in use.
-fn first_queue(alloc: Global) -> Result<ListStore, AllocError>
-    ensures { IfOk result (λ queue. queue ≡ empty_queue QUEUE_LAYOUT) }
+fn first_queue(alloc: Global) -> Result<ChainStore, AllocError>
+    ensures { IfOk result (λ store. store.queue ≡ empty_queue QUEUE_LAYOUT) }
 {
     queue_layout_is_for_machine();
-    let queue = ListStore::new(alloc, QUEUE_LAYOUT)?;
+    let queue = ChainStore::new(alloc, QUEUE_LAYOUT)?;
     Ok(queue)
 }
 
@@ -77,12 +77,12 @@ pub fn open(alloc: Global, statements: &[Statement<'_>]) -> Result<Opened, Sessi
 pub fn start<'c>(
     alloc: Global,
     store: SharedStore,
-    queue: ListStore,
+    queue: ChainStore,
     fixed: &'c Fixed,
     options: Options,
-) -> Result<System<'c, ListStore>, AllocError>
+) -> Result<System<'c, ChainStore>, AllocError>
     requires configured { (c : Configuration) × IsConfigured c × IsTakenApart c store fixed.now }
-    requires empty { queue ≡ empty_queue QUEUE_LAYOUT }
+    requires empty { queue.queue ≡ empty_queue QUEUE_LAYOUT }
     ensures { IfOk result (λ m. (c : Configuration) → IsConfigured c → IsTakenApart c store fixed.now →
         IsStarted c (refuses_in options) options.views options.explains QUEUE_LAYOUT m) }
 {

@@ -17,7 +17,7 @@ use crate::listing::{Listing, MOST_HELD, Mark};
 use crate::open::{Opened, open, start};
 use crate::stream::Sink;
 use crate::{SessionEnd, SessionFault};
-use cb_queue::list_store::ListStore;
+use chain_store::store::ChainStore;
 use jcl_plan::entry::Entry;
 use run_options::Options;
 use sched_core::fault::ApplyFault;
@@ -30,7 +30,7 @@ use std::io::Write;
 
 /// Applies an event and lists its lines, or lists nothing.
 fn run_event(
-    system: &mut System<'_, ListStore>,
+    system: &mut System<'_, ChainStore>,
     event: &Event<'_>,
     listing: &mut Listing,
 ) -> Result<(), AllocError>
@@ -49,7 +49,7 @@ fn run_event(
 
 /// Applies an event so many times and lists its lines. With an `Err` it lists those of the first times.
 fn run_events(
-    system: &mut System<'_, ListStore>,
+    system: &mut System<'_, ChainStore>,
     event: &Event<'_>,
     times: u16,
     listing: &mut Listing,
@@ -71,7 +71,7 @@ fn run_events(
 pub fn run_statement(
     statement: &Statement<'_>,
     late: Option<Fault>,
-    system: &mut System<'_, ListStore>,
+    system: &mut System<'_, ChainStore>,
     listing: &mut Listing,
 ) -> Result<(), SessionFault>
     requires late { (s : ConfigStatement) (has_end : Bool) → statement.now.says ≡ says.Config s has_end → is_some late ≡ true }
@@ -108,7 +108,7 @@ pub fn run_from<W: Write>(
     statements: &[Statement<'_>],
     from: usize,
     late: Option<Fault>,
-    system: &mut System<'_, ListStore>,
+    system: &mut System<'_, ChainStore>,
     sink: &mut Sink<'_, W>,
 ) -> Result<SessionEnd, SessionFault>
     requires configured { (c : Configuration) × IsConfiguredBy statements.now from c × (late ≡ late_in c (drop from statements.now))

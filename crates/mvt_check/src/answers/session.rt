@@ -11,7 +11,7 @@ ghost use Rattle.mvt_check.specs.Telling.{AreAnswered, AreAnsweredFrom, Tells, T
 use crate::answers::answer::{Answer, Answers, DeckRead};
 use crate::answers::noted::note_answer;
 use crate::answers::told::told_by;
-use cb_queue::list_store::ListStore;
+use chain_store::store::ChainStore;
 use play_core::given::Given;
 use play_core::play::added_events;
 use run_options::Options;
@@ -84,7 +84,7 @@ fn first_of(one: Option<u16>, later: Option<u16>) -> Option<u16>
 fn apply(
     alloc: Global,
     event: &Event<'_>,
-    system: &mut System<'_, ListStore>,
+    system: &mut System<'_, ChainStore>,
     by_job: &mut Vec<Option<Answer>>,
 ) -> Result<Option<u16>, AllocError>
     ensures { IfOk result (Tells system.old by_job.old.items (event.now ∷ []) system.new by_job.new.items) }
@@ -100,7 +100,7 @@ fn repeat(
     alloc: Global,
     event: &Event<'_>,
     times: u16,
-    system: &mut System<'_, ListStore>,
+    system: &mut System<'_, ChainStore>,
     by_job: &mut Vec<Option<Answer>>,
 ) -> Result<Option<u16>, AllocError>
     ensures { IfOk result (Tells system.old by_job.old.items (replicate times event.now) system.new by_job.new.items) }
@@ -119,7 +119,7 @@ fn run_own(
     alloc: Global,
     statements: &[Statement<'_>],
     from: usize,
-    system: &mut System<'_, ListStore>,
+    system: &mut System<'_, ChainStore>,
     decks: &mut Vec<DeckRead>,
     by_job: &mut Vec<Option<Answer>>,
 ) -> Result<(), AllocError>
@@ -144,7 +144,7 @@ fn run_own(
 fn run_added(
     alloc: Global,
     given: &[Given],
-    system: &mut System<'_, ListStore>,
+    system: &mut System<'_, ChainStore>,
     by_job: &mut Vec<Option<Answer>>,
 ) -> Result<Option<u16>, AllocError>
     ensures { IfOk result (Tells system.old by_job.old.items (map event_of given.now) system.new by_job.new.items) }
@@ -163,7 +163,7 @@ fn run_all(
     statements: &[Statement<'_>],
     from: usize,
     given: &[Given],
-    system: &mut System<'_, ListStore>,
+    system: &mut System<'_, ChainStore>,
     answers: &mut Answers,
 ) -> Result<(), AllocError>
     requires within { from ≤ length statements.now }
