@@ -2,12 +2,12 @@
 use crate::job::{DeckVerb, JobVerb, on_deck, on_job};
 use crate::names::{CancelVerb, on_cancels, tell_held, tell_listings};
 use crate::record::{RecordVerb, on_record};
-use crate::store::{StoreVerb, few_records, on_store};
+use crate::store::{RowStore, StoreVerb, on_store};
 use crate::sweep::tell_sweep;
 use crate::waiting::{WaitingVerb, on_waiting};
-use cb_meaning::layout::LAYOUT_1;
 use cb_queue::list_store::ListStore;
 use cb_records::rec::Rec;
+use chain_store::store::ChainStore;
 use queued_job::cancels::Cancels;
 use row_table::desk::Line;
 use row_table::told::Told;
@@ -70,21 +70,21 @@ const VERBS: [(&str, Verb); 37] = [
 
 /// A record in hand, records in a store with the jobs that wait, and the cancels that have not acted yet.
 #[derive(Drop)]
-struct Desk {
+struct Desk<S: RowStore> {
     rec: Rec,
-    store: ListStore,
+    store: S,
     cancels: Cancels,
 }
 
 /// A store of 9 records in place of the one so far.
-fn take_few(alloc: Global, store: &mut ListStore, told: &mut Told) {
-    if let Some(few) = told.got(few_records(alloc)) {
+fn take_few<S: RowStore>(alloc: Global, store: &mut S, told: &mut Told) {
+    if let Some(few) = told.got(S::few(alloc)) {
         *store = few;
     }
 }
 
 /// Does a command.
-fn act(alloc: Global, desk: &mut Desk, line: &mut Line<'_>) {
+fn act<S: RowStore>(alloc: Global, desk: &mut Desk<S>, line: &mut Line<'_>) {
     let store = &mut desk.store;
     match line.words.one_of(&VERBS) {
         Some(Verb::Record(verb)) => on_record(alloc, &mut desk.rec, verb, line),
@@ -101,11 +101,8 @@ fn act(alloc: Global, desk: &mut Desk, line: &mut Line<'_>) {
     }
 }
 
-/// What the commands of a row tell, in turn.
-pub fn answer(alloc: Global, input: &[u8], told: &mut Told) {
-    let Some(store) = told.got(ListStore::new(alloc, LAYOUT_1)) else {
-        return;
-    };
+/// What the commands of a row tell, in turn, over a store of a kind.
+fn answer_over<S: RowStore>(alloc: Global, input: &[u8], store: S) -> Told {
     let mut desk = Desk {
         rec: Rec::zeroed(),
         store,
@@ -122,5 +119,22 @@ pub fn answer(alloc: Global, input: &[u8], told: &mut Told) {
             line.told.line_of_two(b"?", text);
         }
     }
-    told.append(&line.told);
+    line.told
+}
+
+/// What the commands of a row tell, in turn. They are done over each kind of store, and where these tell something else, that is told.
+pub fn answer(alloc: Global, input: &[u8], told: &mut Told) {
+    let Some(list) = told.got(ListStore::whole(alloc)) else {
+        return;
+    };
+    let Some(chains) = told.got(ChainStore::whole(alloc)) else {
+        return;
+    };
+    let of_list = answer_over(alloc, input, list);
+    let of_chains = answer_over(alloc, input, chains);
+    told.append(&of_list);
+    if of_chains.as_slice() != of_list.as_slice() {
+        told.line(b"THE STORES DIFFER");
+        told.append(&of_chains);
+    }
 }

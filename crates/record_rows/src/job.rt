@@ -1,5 +1,6 @@
 //! Jobs in the records of a store: how they are written, and what is read of them.
-ghost use Rattle.std.specs.Prelude.{◌≡◌, ◌≢◌, ℕ, length, true};
+ghost use Rattle.std.specs.Prelude.{◌≡◌, ◌≢◌, ◌+◌, ◌≤◌, ℕ, length, true};
+ghost use Rattle.cb_meaning.specs.Needs.{records_needed};
 ghost use Rattle.cb_meaning.specs.Writable.{IsWritable};
 ghost use Rattle.cb_meaning.specs.declared.layout.TheConstants.{LAYOUT_1};
 
@@ -7,10 +8,9 @@ use crate::deck::next_job;
 use crate::plan::tell_job;
 use crate::store::{nobody_waits, put, set_bytes};
 use cb_chain::laws::the_first_layout_holds_jobs;
-use cb_chain::room::is_room;
+use cb_chain::room::{is_room, records_of};
 use cb_chain::write::write_job;
 use cb_meaning::layout::LAYOUT_1;
-use cb_queue::list_store::ListStore;
 use cb_queue::store::RecordStore;
 use cb_read::laws::the_first_layout_has_own_fields;
 use cb_walk::first_fault::first_fault;
@@ -43,29 +43,36 @@ pub(crate) enum JobVerb {
 }
 
 /// Whether all of a store's layout is that of the first one.
-fn is_first(store: &ListStore) -> bool
-    ensures { result ≡ true → store.now.layout ≡ LAYOUT_1 }
+fn is_first<S: RecordStore>(store: &S) -> bool
+    ensures { result ≡ true → (S.queue store.now).layout ≡ LAYOUT_1 }
 {
     *store.layout() == LAYOUT_1
 }
 
-/// Writes a job's records in the first layout. Tells the first, where there is room.
-fn write_first(store: &mut ListStore, job: u16, plan: &JobPlan) -> Result<u32, QueueFault>
-    requires layout { store.old.layout ≡ LAYOUT_1 }
+/// Writes a job's records in the first layout, for which there is memory. Tells the first, where there is room.
+fn write_first<S: RecordStore>(store: &mut S, job: u16, plan: &JobPlan) -> Result<u32, QueueFault>
+    requires layout { (S.queue store.old).layout ≡ LAYOUT_1 }
     requires owner { job ≢ 0 }
     requires writable { (units : ℕ) × IsWritable 32 units plan.now }
+    requires memory { S.lacking store.old + records_needed plan.now ≤ length (S.queue store.old).free }
 {
     the_first_layout_holds_jobs();
     write_job(store, job, plan)
 }
 
 /// Writes a job's records, and tells the first.
-fn write(store: &mut ListStore, job: u16, plan: &JobPlan, told: &mut Told)
+fn write<S: RecordStore>(store: &mut S, job: u16, plan: &JobPlan, told: &mut Told)
     requires { (units : ℕ) × IsWritable 32 units plan.now }
 {
     if job == 0 || !is_first(store) {
         return told.not_allowed();
     }
+    let Some(count) = records_of(plan, store.free_count()) else {
+        return told.line(b"FULL");
+    };
+    let Ok(()) = store.make_room(count) else {
+        return told.want();
+    };
     match write_first(store, job, plan) {
         Ok(first) => told.numbered_line(b"FIRST RECORD ", u64::from(first)),
         Err(_) => told.line(b"FULL"),
@@ -73,9 +80,9 @@ fn write(store: &mut ListStore, job: u16, plan: &JobPlan, told: &mut Told)
 }
 
 /// Writes a job's records in the first layout and lets it wait, where nobody waits yet. Tells the first record.
-fn enter_first(store: &mut ListStore, job: u16, plan: &JobPlan) -> Result<u32, EnterFault>
-    requires layout { store.old.layout ≡ LAYOUT_1 }
-    requires nobody { length store.old.waiting ≡ 0 }
+fn enter_first<S: RecordStore>(store: &mut S, job: u16, plan: &JobPlan) -> Result<u32, EnterFault>
+    requires layout { (S.queue store.old).layout ≡ LAYOUT_1 }
+    requires nobody { length (S.queue store.old).waiting ≡ 0 }
     requires owner { job ≢ 0 }
     requires writable { (units : ℕ) × IsWritable 32 units plan.now }
 {
@@ -84,7 +91,7 @@ fn enter_first(store: &mut ListStore, job: u16, plan: &JobPlan) -> Result<u32, E
 }
 
 /// Writes a job's records and lets it wait, where nobody waits yet. Tells the first record.
-fn enter(store: &mut ListStore, job: u16, plan: &JobPlan, told: &mut Told)
+fn enter<S: RecordStore>(store: &mut S, job: u16, plan: &JobPlan, told: &mut Told)
     requires { (units : ℕ) × IsWritable 32 units plan.now }
 {
     if job == 0 || store.waiting_count() != 0 || !is_first(store) {
@@ -107,23 +114,23 @@ fn tell_room(told: &mut Told, plan: &JobPlan, free: u32) {
 }
 
 /// What the records of a job denote in the first layout.
-fn read_first(
+fn read_first<S: RecordStore>(
     alloc: Global,
-    store: &ListStore,
+    store: &S,
     units: u16,
     job: u16,
     first: u32,
 ) -> Result<Read, AllocError>
-    requires { store.now.layout ≡ LAYOUT_1 }
+    requires { (S.queue store.now).layout ≡ LAYOUT_1 }
 {
     the_first_layout_has_own_fields();
     read_job(alloc, store, units, job, first)
 }
 
 /// The plan that a job's records denote, or the fault that is told.
-pub(crate) fn tell_read(
+pub(crate) fn tell_read<S: RecordStore>(
     alloc: Global,
-    store: &ListStore,
+    store: &S,
     units: u16,
     job: u16,
     first: u32,
@@ -148,7 +155,7 @@ fn tell_fault(told: &mut Told, fault: Result<Option<u8>, AllocError>) {
 }
 
 /// Tells the first fault of job 1 from record 1 on, with one list of volumes, where these bytes stand in a record, which is as it was again.
-fn tell_tried(alloc: Global, store: &mut ListStore, line: &mut Line<'_>) {
+fn tell_tried<S: RecordStore>(alloc: Global, store: &mut S, line: &mut Line<'_>) {
     let n = line.words.number();
     let at = line.words.byte();
     let Some(bytes) = line.told.got(line.words.text(alloc)) else {
@@ -166,7 +173,12 @@ fn tell_tried(alloc: Global, store: &mut ListStore, line: &mut Line<'_>) {
 }
 
 /// Does a command about the job of the deck that comes next.
-pub(crate) fn on_deck(alloc: Global, store: &mut ListStore, verb: DeckVerb, line: &mut Line<'_>) {
+pub(crate) fn on_deck<S: RecordStore>(
+    alloc: Global,
+    store: &mut S,
+    verb: DeckVerb,
+    line: &mut Line<'_>,
+) {
     let Some(plan) = next_job(alloc, line) else {
         return;
     };
@@ -179,7 +191,7 @@ pub(crate) fn on_deck(alloc: Global, store: &mut ListStore, verb: DeckVerb, line
 }
 
 /// Tells the plan that a job's records denote, or its first fault alone.
-fn tell_strictly(alloc: Global, store: &ListStore, whole: bool, line: &mut Line<'_>) {
+fn tell_strictly<S: RecordStore>(alloc: Global, store: &S, whole: bool, line: &mut Line<'_>) {
     let job = line.words.short();
     let first = line.words.number();
     let units = line.words.short();
@@ -191,7 +203,7 @@ fn tell_strictly(alloc: Global, store: &ListStore, whole: bool, line: &mut Line<
 }
 
 /// Gives every record of a job back, where nobody waits.
-fn release(store: &mut ListStore, words: &mut Words<'_>) {
+fn release<S: RecordStore>(store: &mut S, words: &mut Words<'_>) {
     let job = words.short();
     if job == 0 {
         return words.refuse();
@@ -204,7 +216,12 @@ fn release(store: &mut ListStore, words: &mut Words<'_>) {
 }
 
 /// Does a command about a job in records.
-pub(crate) fn on_job(alloc: Global, store: &mut ListStore, verb: JobVerb, line: &mut Line<'_>) {
+pub(crate) fn on_job<S: RecordStore>(
+    alloc: Global,
+    store: &mut S,
+    verb: JobVerb,
+    line: &mut Line<'_>,
+) {
     match verb {
         JobVerb::Read => tell_strictly(alloc, store, true, line),
         JobVerb::Fault => tell_strictly(alloc, store, false, line),

@@ -6,6 +6,7 @@ use cb_meaning::layout::{LAYOUT_1, Layout};
 use cb_queue::list_store::ListStore;
 use cb_queue::store::RecordStore;
 use cb_records::rec::Rec;
+use chain_store::store::ChainStore;
 use row_table::desk::Line;
 use row_table::told::Told;
 use std::alloc::{AllocError, Global};
@@ -28,9 +29,33 @@ const FEW: Layout = Layout {
     ..LAYOUT_1
 };
 
-/// A store of 9 records of the first layout.
-pub(crate) fn few_records(alloc: Global) -> Result<ListStore, AllocError> {
-    ListStore::new(alloc, FEW)
+/// A store as the rows begin with.
+pub(crate) trait RowStore: RecordStore + Drop {
+    /// All records of the first layout, free.
+    fn whole(alloc: Global) -> Result<Self, AllocError>;
+
+    /// 9 records of the first layout, free.
+    fn few(alloc: Global) -> Result<Self, AllocError>;
+}
+
+impl RowStore for ListStore {
+    fn whole(alloc: Global) -> Result<ListStore, AllocError> {
+        ListStore::new(alloc, LAYOUT_1)
+    }
+
+    fn few(alloc: Global) -> Result<ListStore, AllocError> {
+        ListStore::new(alloc, FEW)
+    }
+}
+
+impl RowStore for ChainStore {
+    fn whole(alloc: Global) -> Result<ChainStore, AllocError> {
+        ChainStore::new(alloc, LAYOUT_1)
+    }
+
+    fn few(alloc: Global) -> Result<ChainStore, AllocError> {
+        ChainStore::new(alloc, FEW)
+    }
 }
 
 /// Takes a record for a job, if one is free.

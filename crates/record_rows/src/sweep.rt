@@ -1,7 +1,6 @@
 //! Each byte of a record, from the eighth on, set to a value.
 use crate::job::tell_read;
 use crate::store::{put, set_bytes};
-use cb_queue::list_store::ListStore;
 use cb_queue::store::RecordStore;
 use row_table::desk::Line;
 use row_table::told::Told;
@@ -25,14 +24,14 @@ fn tell_others(told: &mut Told, before: &[u8], now: &[u8]) {
 }
 
 /// What is told of job 1 from record 1 on, with two lists of volumes.
-fn read(alloc: Global, store: &ListStore) -> Told {
+fn read<S: RecordStore>(alloc: Global, store: &S) -> Told {
     let mut told = Told::new(alloc);
     tell_read(alloc, store, 2, 1, 1, &mut told);
     told
 }
 
 /// What is told of the job: `same` as before, its other lines, or its fault.
-fn now_told(alloc: Global, store: &ListStore, before: &[u8]) -> Told {
+fn now_told<S: RecordStore>(alloc: Global, store: &S, before: &[u8]) -> Told {
     let mut told = Told::new(alloc);
     let now = read(alloc, store);
     if now.as_slice() == before {
@@ -49,9 +48,9 @@ fn now_told(alloc: Global, store: &ListStore, before: &[u8]) -> Told {
 }
 
 /// What is told where a byte of a record is another; it is as it was again.
-fn told_with(
+fn told_with<S: RecordStore>(
     alloc: Global,
-    store: &mut ListStore,
+    store: &mut S,
     n: u32,
     at: u8,
     value: u8,
@@ -80,7 +79,7 @@ fn tell_run(told: &mut Told, from: u8, to: u8, run: &Told) {
 }
 
 /// What is told where each byte of a record in turn has a value.
-fn tell_bytes(alloc: Global, store: &mut ListStore, n: u32, value: u8, told: &mut Told) {
+fn tell_bytes<S: RecordStore>(alloc: Global, store: &mut S, n: u32, value: u8, told: &mut Told) {
     let before = read(alloc, store);
     let mut from = 8u8;
     let mut run = told_with(alloc, store, n, from, value, before.as_slice());
@@ -96,7 +95,7 @@ fn tell_bytes(alloc: Global, store: &mut ListStore, n: u32, value: u8, told: &mu
 }
 
 /// Sets each byte of a record in turn to a value.
-pub(crate) fn tell_sweep(alloc: Global, store: &mut ListStore, line: &mut Line<'_>) {
+pub(crate) fn tell_sweep<S: RecordStore>(alloc: Global, store: &mut S, line: &mut Line<'_>) {
     let n = line.words.number();
     let value = line.words.byte();
     if store.get(n).is_none() {
