@@ -1,5 +1,7 @@
 -- What is told of a deck, as text. Lines of the session count from 1, cards from 0. (This profile)
-use Rattle.std.specs.Prelude.{◌≡◌, ℕ, ◌+◌, ◌-◌, ◌&&◌, nat_le, min, List, [], ◌∷◌, ◌++◌, map, replicate, take, slice_get, Option, None, Some, codes, decimal, if◌then◌else◌}
+use Rattle.std.specs.Prelude.{◌≡◌, ℕ, ◌+◌, ◌-◌, ◌==◌, Bool, true, false, not, ◌&&◌, nat_eq, nat_le, min, List, [], ◌∷◌, ◌++◌, map, replicate, take, slice_get, Option, None, Some, codes, decimal, if◌then◌else◌}
+use Rattle.std.specs.List.{starts_with}
+use Rattle.std.specs.Option.{option_map_or}
 use Rattle.jcl_plan.specs.Texts.{cause_text}
 use Rattle.jcl_plan.specs.declared.fault.Cause.{Cause}
 use Rattle.check_core.specs.declared.report.Checked.{Checked}
@@ -21,9 +23,26 @@ line_of first (Some n) = first + n
 abbrev pub shown : ℕ → ℕ
 shown c = if nat_le 32 c && nat_le c 126 then c else 63
 
--- a card, of which 80 columns are shown
+-- a card has text in a column, which counts from 0
+abbrev pub has_text : ℕ → List ℕ → Bool
+has_text column card = option_map_or (λ c. not (c == 32)) (slice_get card column) false
+
+-- the text of a statement goes on behind column 71, where it is not read
+abbrev pub is_cut : List ℕ → Bool
+is_cut card =
+    starts_with nat_eq card (codes "//") && not (starts_with nat_eq card (codes "//*")) && has_text 70 card && has_text 71 card
+
+-- how many columns of a card are shown: where its text is cut those that are read, else all 80
+abbrev pub column_count : Bool → ℕ
+column_count cut = if cut then 71 else 80
+
+-- a cut is marked by a bar
+abbrev pub cut_mark : Bool → List ℕ
+cut_mark cut = if cut then codes "|" else []
+
+-- a card as it is shown
 abbrev pub card_text : List ℕ → List ℕ
-card_text card = codes "    " ++ map shown (take 80 card) ++ 10 ∷ []
+card_text card = codes "    " ++ map shown (take (column_count (is_cut card)) card) ++ cut_mark (is_cut card) ++ 10 ∷ []
 
 -- the mark below a column
 abbrev pub mark_text : Option ℕ → List ℕ

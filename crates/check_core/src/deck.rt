@@ -6,8 +6,9 @@ ghost use Rattle.check_core.specs.Insides.{IsInsideAt};
 ghost use Rattle.check_core.specs.Reports.{AreTold};
 ghost use Rattle.check_core.specs.Spots.{IsSpotOf};
 
+use crate::advice::{guess_inside, hint_at};
 use crate::called::brought_in;
-use crate::guess::{guess_of, hint_at};
+use crate::guess::guess_of;
 use crate::inside::inside_at;
 use crate::known::is_known;
 use crate::mark::spot_of;
@@ -64,12 +65,11 @@ fn report_of(
 {
     let spot = spot_of(alloc, mended, cause, at)?;
     let inside = inside_at(alloc, sources, mended, cause, at)?;
-    let guess = if inside.is_some() {
-        None
-    } else {
-        guess_of(alloc, sources, mended, cause, spot)?
+    let guess = match &inside {
+        Some(inside) => guess_inside(alloc, cause, inside)?,
+        None => guess_of(alloc, sources, mended, cause, spot)?,
     };
-    let hint = hint_at(mended, cause, spot);
+    let hint = hint_at(alloc, mended, cause, spot, &inside)?;
     let spot = Spot {
         card: own_card(mended, spot.card),
         column: spot.column,

@@ -1,6 +1,6 @@
 //! A word that may have been meant.
 use crate::deck::Sources;
-use crate::hint::{hint_of, value_of};
+use crate::hint::value_of;
 use crate::mended::{Mended, card_at};
 use crate::report::Spot;
 use card_core::card::{Kind, card_of, kind_of};
@@ -202,7 +202,7 @@ fn nearest_step(alloc: Global, mended: &Mended, text: &[u8]) -> Result<Option<Te
 }
 
 /// Whether a word stands before an equals sign, as a keyword does.
-fn is_keyword(card: &DataCard, column: usize, word: &[u8]) -> bool {
+pub(crate) fn is_keyword(card: &DataCard, column: usize, word: &[u8]) -> bool {
     card.get(column.saturating_add(word.len())) == Some(&b'=')
 }
 
@@ -225,7 +225,7 @@ fn name_in(text: &[u8], with_periods: bool) -> &[u8] {
 }
 
 /// The word of a card from a column on.
-fn word_at(card: &DataCard, column: usize) -> &[u8] {
+pub(crate) fn word_at(card: &DataCard, column: usize) -> &[u8] {
     let (_, behind) = card.as_slice().split_at(column.min(80));
     let len = behind.iter().take_while(|c| is_name_character(**c)).count();
     let (word, _) = behind.split_at(len);
@@ -233,7 +233,7 @@ fn word_at(card: &DataCard, column: usize) -> &[u8] {
 }
 
 /// The name of the procedure that an operand calls, behind `PROC=` too.
-fn procedure_at(card: &DataCard, column: usize) -> &[u8] {
+pub(crate) fn procedure_at(card: &DataCard, column: usize) -> &[u8] {
     let word = word_at(card, column);
     if word == b"PROC".as_slice() && is_keyword(card, column, word) {
         name_in(behind(card, column, 5), false)
@@ -281,20 +281,14 @@ fn operation_at(alloc: Global, mended: &Mended, n: usize) -> Result<Text, AllocE
     Ok(found)
 }
 
-/// The keyword of its statement that is nearest to the word of a card.
-fn nearest_keyword(
+/// The keyword of a statement with this operation that is nearest to the word of a card.
+pub(crate) fn nearest_keyword(
     alloc: Global,
-    mended: &Mended,
-    n: usize,
+    operation: &[u8],
     card: &DataCard,
     column: usize,
 ) -> Result<Option<Text>, AllocError> {
-    let operation = operation_at(alloc, mended, n)?;
-    nearest_of(
-        alloc,
-        word_at(card, column),
-        keywords_of(operation.as_slice()),
-    )
+    nearest_of(alloc, word_at(card, column), keywords_of(operation))
 }
 
 /// Of the words of a value the first that is nearly one that it may have.
@@ -315,16 +309,15 @@ fn nearest_in_value(alloc: Global, words: &str, text: &[u8]) -> Result<Option<Te
 }
 
 /// The nearest word that the value of the operand at a column may have, or the nearest keyword.
-fn nearest_value(
+pub(crate) fn nearest_value(
     alloc: Global,
-    mended: &Mended,
-    n: usize,
+    operation: &[u8],
     card: &DataCard,
     column: usize,
 ) -> Result<Option<Text>, AllocError> {
     let word = word_at(card, column);
     if !is_keyword(card, column, word) {
-        return nearest_keyword(alloc, mended, n, card, column);
+        return nearest_keyword(alloc, operation, card, column);
     }
     match value_of(word) {
         Some(value) if !value.words.is_empty() => {
@@ -373,16 +366,6 @@ fn nearest_procedure_step(
     Ok(nearest.word)
 }
 
-/// What else is said of a refusal there.
-pub(crate) fn hint_at(mended: &Mended, cause: Cause, spot: Spot) -> &'static str {
-    let Some(n) = spot.card else { return "" };
-    match (card_at(mended.lines.as_slice(), n), spot.column) {
-        (Some(card), Some(column)) => hint_of(cause, &card, column),
-        (Some(card), None) => hint_of(cause, &card, 80),
-        (None, _) => "",
-    }
-}
-
 /// A word that may have been meant in place of the one that is refused.
 pub(crate) fn guess_of(
     alloc: Global,
@@ -403,10 +386,14 @@ pub(crate) fn guess_of(
         Cause::P(StatementFault::UnknownOperation) => {
             nearest_of(alloc, fields_of(&card).operation, OPERATIONS.as_slice())
         }
-        Cause::P(StatementFault::UnknownKeyword) => nearest_keyword(
-            alloc, mended, n, &card, column,
-        ),
-        Cause::P(StatementFault::BadValue) => nearest_value(alloc, mended, n, &card, column),
+        Cause::P(StatementFault::UnknownKeyword) => {
+            let operation = operation_at(alloc, mended, n)?;
+            nearest_keyword(alloc, operation.as_slice(), &card, column)
+        }
+        Cause::P(StatementFault::BadValue) => {
+            let operation = operation_at(alloc, mended, n)?;
+            nearest_value(alloc, operation.as_slice(), &card, column)
+        }
         Cause::P(StatementFault::NoSuchProcedureStep)
             if fields_of(&card).operation == b"DD".as_slice() => {
             let step = name_in(fields_of(&card).name, false);

@@ -4,7 +4,8 @@ use card_core::card::{Kind, kind_of};
 use card_core::field::fields_of;
 use card_core::statement::DataCard;
 use jcl_plan::fault::{Cause, StatementFault};
-use jname_core::name8::is_name_character;
+use jname_core::name8::{is_first, is_name_character};
+use std::alloc::AllocError;
 
 /// A keyword's value: the words that it may have, with blanks between them, and its form.
 pub(crate) struct Value {
@@ -94,38 +95,155 @@ pub(crate) fn value_of(keyword: &[u8]) -> Option<&'static Value> {
         .find(|value| value.keyword.as_bytes() == keyword)
 }
 
-/// The form of the value at a column of a card, which is a keyword's or a DD's first operand.
-fn form_at(text: &[u8]) -> &'static str {
+/// The keyword with which a text begins, and its value behind the equals sign.
+fn keyword_and_value(text: &[u8]) -> Option<(&'static Value, &[u8])> {
     let len = text.iter().take_while(|c| is_name_character(**c)).count();
     let (keyword, behind) = text.split_at(len.min(text.len()));
-    match (value_of(keyword), behind.first()) {
-        (Some(value), Some(b'=')) => value.form,
-        _ => "",
+    let value = value_of(keyword)?;
+    match behind.split_first() {
+        Some((b'=', behind)) => Some((value, behind)),
+        _ => None,
     }
 }
 
-/// Whether a card begins a statement without a name whose operation has an equals sign, as one that should continue another does.
+/// Whether a value consists of words, names and numbers apart.
+fn is_of_words(value: &Value) -> bool {
+    value.keyword == "DISP" || value.keyword == "SPACE"
+}
+
+/// Whether a word is one of these, which have blanks between them.
+fn is_among(words: &str, word: &[u8]) -> bool {
+    words
+        .as_bytes()
+        .split(|c| *c == b' ')
+        .any(|other| other == word)
+}
+
+/// A value with what stands behind it, up to a comma outside its parentheses or a blank.
+fn own_value(text: &[u8]) -> &[u8] {
+    let mut depth: usize = 0;
+    for (len, c) in text.iter().enumerate() {
+        if *c == b' ' || (*c == b',' && depth == 0) {
+            let (value, _) = text.split_at(len.min(text.len()));
+            return value;
+        }
+        if *c == b'(' {
+            depth = depth.saturating_add(1);
+        } else if *c == b')' {
+            depth = depth.saturating_sub(1);
+        }
+    }
+    text
+}
+
+/// Whether a word begins as a name does.
+fn begins_name(word: &[u8]) -> bool {
+    match word.first() {
+        Some(c) => is_first(*c),
+        None => false,
+    }
+}
+
+/// The first word of a value that it may not have.
+pub(crate) fn wrong_word<'a>(value: &Value, text: &'a [u8]) -> Option<&'a [u8]> {
+    if !is_of_words(value) {
+        return None;
+    }
+    own_value(text)
+        .split(|c| !is_name_character(*c))
+        .find(|word| begins_name(*word) && !is_among(value.words, *word))
+}
+
+/// Puts the form of the value behind a text, that begins at a column of a card, and the word of it that is wrong.
+fn push_form(sentences: &mut Vec<u8>, text: &[u8]) -> Result<(), AllocError> {
+    let Some((value, behind)) = keyword_and_value(text) else {
+        return Ok(());
+    };
+    begin(sentences)?;
+    if let Some(word) = wrong_word(value, behind) {
+        sentences.extend_from_slice(word)?;
+        sentences.extend_from_slice(b" is none of its words: ")?;
+    }
+    sentences.extend_from_slice(value.form.as_bytes())
+}
+
+/// Whether a card begins a statement without a name whose operation is an operand, as one that should continue another does.
 fn continues_nothing(card: &DataCard) -> bool {
     let fields = fields_of(card);
-    kind_of(card) == Kind::Jcl && fields.name.is_empty() && fields.operation.contains(&b'=')
+    let word = fields.operation;
+    kind_of(card) == Kind::Jcl
+        && fields.name.is_empty()
+        && (word.iter().any(|c| *c == b'=' || *c == b'(' || *c == b',')
+            || word == b"DUMMY".as_slice()
+            || word == b"*".as_slice())
 }
 
-/// What else is said of a refusal on a card, at a column of it; nothing where it is clear.
-pub(crate) fn hint_of(cause: Cause, card: &DataCard, column: usize) -> &'static str {
+/// Begins a sentence on a line of its own.
+fn begin(sentences: &mut Vec<u8>) -> Result<(), AllocError> {
+    if !sentences.is_empty() {
+        sentences.extend_from_slice(b"\n    ")?;
+    }
+    Ok(())
+}
+
+pub(crate) fn push_sentence(
+    sentences: &mut Vec<u8>,
+    sentence: &'static str,
+) -> Result<(), AllocError> {
+    begin(sentences)?;
+    sentences.extend_from_slice(sentence.as_bytes())
+}
+
+/// The symbol that a value of the operand begins with, by its name behind `=&`.
+fn symbol_in(text: &[u8]) -> Option<&[u8]> {
+    let place = text.windows(2).position(|pair| pair == b"=&".as_slice())?;
+    let (_, behind) = text.split_at(place.saturating_add(2).min(text.len()));
+    if behind.first() == Some(&b'&') {
+        return None;
+    }
+    let len = behind.iter().take_while(|c| is_name_character(**c)).count();
+    let (name, _) = behind.split_at(len.min(behind.len()));
+    Some(name)
+}
+
+/// A symbol where there are none.
+fn push_symbol(sentences: &mut Vec<u8>, name: &[u8]) -> Result<(), AllocError> {
+    begin(sentences)?;
+    sentences.extend_from_slice(b"the symbol &")?;
+    sentences.extend_from_slice(name)?;
+    sentences.extend_from_slice(
+        b" has no value here: outside a procedure & begins a temporary name",
+    )
+}
+
+/// Puts behind these sentences what else is said of a refusal on a card, at a column of it; nothing where it is clear.
+pub(crate) fn push_hint(
+    sentences: &mut Vec<u8>,
+    cause: Cause,
+    card: &DataCard,
+    column: usize,
+) -> Result<(), AllocError> {
     let (_, text) = card.as_slice().split_at(column.min(card.len()));
     match cause {
-        Cause::C(3) | Cause::P(StatementFault::UnbalancedParentheses | StatementFault::LeftOut)
-            if is_cut(card) => { "the text behind column 71 is not read" }
-        Cause::C(7) if card.starts_with(b"/") => "a statement begins with two slashes",
+        Cause::C(7) if card.starts_with(b"/") => {
+            push_sentence(sentences, "a statement begins with two slashes")?;
+        }
         Cause::P(StatementFault::UnknownOperation) if continues_nothing(card) => {
-            "if it continues the card before it, that one lacks a comma at its end"
+            push_sentence(
+                sentences,
+                "if it continues the card before it, that one lacks a comma at its end",
+            )?;
         }
-        Cause::N(_)
-            if text.windows(2).any(|pair| pair == b"=&".as_slice())
-                && !text.windows(3).any(|three| three == b"=&&".as_slice()) => {
-            "a symbol has no value here: & begins a temporary name outside a procedure"
+        Cause::N(_) => {
+            if let Some(name) = symbol_in(text) {
+                push_symbol(sentences, name)?;
+            }
         }
-        Cause::P(StatementFault::BadValue) => form_at(text),
-        _ => "",
+        Cause::P(StatementFault::BadValue) => push_form(sentences, text)?,
+        _ => {}
     }
+    if is_cut(card) && kind_of(card) == Kind::Jcl {
+        push_sentence(sentences, "the text behind column 71 is not read")?;
+    }
+    Ok(())
 }

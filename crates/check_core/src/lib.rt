@@ -1,6 +1,7 @@
 //! Decks looked at for all that is wrong with them, one refusal after another. (This profile)
 #![tactic(auto)]
 
+mod advice;
 mod called;
 pub mod deck;
 pub mod guess;

@@ -30,7 +30,8 @@ pub struct Report {
     pub spot: Spot,
     pub inside: Option<Inside>,
     pub guess: Option<Text>,
-    pub hint: &'static str,
+    /// Sentences, a line each; nothing where all is said.
+    pub hint: Text,
 }
 
 /// What is told of a deck.

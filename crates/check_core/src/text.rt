@@ -1,7 +1,7 @@
 //! Refusals as text.
 ghost use Rattle.std.specs.Prelude.{◌≡◌, ℕ, ◌++◌, ◌∷◌, List, IfOk, OnOk, Some, decimal, map, replicate, take};
 ghost use Rattle.jcl_plan.specs.Texts.{cause_text};
-ghost use Rattle.check_core.specs.Texts.{AddsToldText, TellsPlace, card_text, head, inside_text, line_of, mark_text, marked_text, of_session_text, shown, spot_text};
+ghost use Rattle.check_core.specs.Texts.{AddsToldText, TellsPlace, card_text, column_count, cut_mark, has_text, head, inside_text, is_cut, line_of, mark_text, marked_text, of_session_text, shown, spot_text};
 
 use crate::report::{Checked, Inside, Report, Spot};
 use card_core::statement::Card;
@@ -12,6 +12,9 @@ use std::alloc::{AllocError, Global};
 
 /// The most columns of a card that are shown.
 const COLUMNS: usize = 80;
+
+/// How many columns of a statement's card are read.
+const FIELD_END: usize = 71;
 
 /// The letter and the number of a refusal.
 fn number_of(cause: Cause) -> (u8, u8) {
@@ -88,16 +91,53 @@ fn shown(c: u8) -> u8
     if 0x20 <= c && c <= 0x7e { c } else { b'?' }
 }
 
-/// The columns of a card that are shown.
-fn columns_of(card: &[u8]) -> &[u8]
-    ensures { result.now ≡ take 80 card.now }
+/// Whether a card has text in a column, which counts from 0.
+fn has_text(card: &[u8], column: usize) -> bool
+    ensures { result ≡ has_text column card.now }
 {
-    if COLUMNS < card.len() {
-        let (columns, _) = card.split_at(COLUMNS);
+    match card.get(column) {
+        Some(c) => *c != b' ',
+        None => false,
+    }
+}
+
+/// Whether the text of a statement goes on behind the last column that is read.
+fn is_cut(card: &[u8]) -> bool
+    ensures { result ≡ is_cut card.now }
+{
+    card.starts_with(b"//".as_slice())
+        && !card.starts_with(b"//*".as_slice())
+        && has_text(card, FIELD_END - 1)
+        && has_text(card, FIELD_END)
+}
+
+/// The first columns of a card.
+fn first_columns(card: &[u8], count: usize) -> &[u8]
+    ensures { result.now ≡ take count card.now }
+{
+    if count < card.len() {
+        let (columns, _) = card.split_at(count);
         columns
     } else {
         card
     }
+}
+
+/// How many columns of a card are shown.
+fn column_count(cut: bool) -> usize
+    ensures { result ≡ column_count cut }
+{
+    if cut { FIELD_END } else { COLUMNS }
+}
+
+/// Puts the mark of a cut behind a text.
+fn push_cut(text: &mut Vec<u8>, cut: bool) -> Result<(), AllocError>
+    ensures { OnOk result (text.new.items ≡ text.old.items ++ cut_mark cut) }
+{
+    if cut {
+        text.push(b'|')?;
+    }
+    Ok(())
 }
 
 /// Puts characters behind a text, as they can be printed.
@@ -110,12 +150,15 @@ fn push_shown(text: &mut Vec<u8>, columns: &[u8]) -> Result<(), AllocError>
     Ok(())
 }
 
-/// A card as it can be printed: what is no printable character is a question mark.
+/// A card as it can be printed: what is no printable character is a question mark. A statement whose text is cut at column 71 is shown so far, with a bar
+/// behind it.
 pub fn push_card(text: &mut Vec<u8>, card: &[u8]) -> Result<(), AllocError>
     ensures { OnOk result (text.new.items ≡ text.old.items ++ card_text card.now) }
 {
+    let cut = is_cut(card);
     text.extend_from_slice(b"    ")?;
-    push_shown(text, columns_of(card))?;
+    push_shown(text, first_columns(card, column_count(cut)))?;
+    push_cut(text, cut)?;
     text.push(b'\n')?;
     Ok(())
 }
@@ -231,9 +274,9 @@ fn advice_of(alloc: Global, report: &Report) -> Result<Vec<u8>, AllocError> {
         text.extend_from_slice(guess.as_slice())?;
         text.push(b'?')?;
     }
-    if !report.hint.is_empty() {
+    if !report.hint.as_slice().is_empty() {
         text.extend_from_slice(b"\n    ")?;
-        text.extend_from_slice(report.hint.as_bytes())?;
+        text.extend_from_slice(report.hint.as_slice())?;
     }
     text.push(b'\n')?;
     Ok(text)

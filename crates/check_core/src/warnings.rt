@@ -111,7 +111,7 @@ fn is_told(checked: &Checked, n: usize) -> bool {
 }
 
 fn tells_hint(report: &Report, n: usize) -> bool {
-    report.spot.card == Some(n) && !report.hint.is_empty()
+    report.spot.card == Some(n) && !report.hint.as_slice().is_empty()
 }
 
 /// A card, which counts from 0, and what it warns of.
