@@ -97,6 +97,7 @@ pictures: mvt-picture
 test-check: mvt tools
 	tests/check.sh ./mvt-check ./mvt
 	python3 tests/faults.py ./mvt-check
+	python3 tests/independent.py ./mvt-check
 
 # Compares what ./mvt-play writes with the sessions that were played on.
 test-play: mvt tools
