@@ -228,6 +228,12 @@ def waits_for_the_last_name(n):
     return b"./ VOLUME V 9\n" + all_sets + initiators(2) + deck(steps) * 2 + turns(1, 3) + turns(2, n + 2)
 
 
+def cancelled_last(n):
+    """{:,} jobs that wait for an initiator, and as often the last of them is cancelled and another is read."""
+    job = deck(b"//S EXEC PGM=IEFBR14\n")
+    return b"./ INIT 1 B\n" + job * n + b"".join(b"./ CANCEL %04d\n" % (n + k) + job for k in range(n))
+
+
 # Analysis
 
 
@@ -429,6 +435,7 @@ GROWING = [
     (waits_for_the_last_name, 19_998),
     (waits_beside_shared_names, 60_000),
     (longest_wait_for_space, 8),
+    (cancelled_last, 2000),
     (many_classes, 32),
     (opposite_tests, 300),
     (views_of_old_sets, 20),
