@@ -8,6 +8,7 @@ pub mod Rechained
 pub mod Uses
 pub mod Entering
 pub mod Spanned
+pub mod Marked
 pub mod Leaving
 pub mod Starting
 pub mod Taking

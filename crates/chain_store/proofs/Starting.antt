@@ -15,7 +15,7 @@ nobody : (owner link : ℕ → ℕ) (place count : ℕ) → all_jobs owner link 
 nobody owner link place zero = refl
 nobody owner link place (suc count) = nobody owner link (place + 1) count
 
-no_chain_at : (count place : ℕ) → get_or (replicate count no_chain) place no_chain ≡ no_chain
+pub no_chain_at : (count place : ℕ) → get_or (replicate count no_chain) place no_chain ≡ no_chain
 no_chain_at zero place = refl
 no_chain_at (suc count) zero = refl
 no_chain_at (suc count) (suc place) = no_chain_at count place

@@ -10,7 +10,7 @@ use Rattle.record_spans.specs.declared.spans.Span.{Span}
 use Rattle.record_spans.specs.Spans.{MayOwn}
 use Rattle.chain_store.specs.declared.chains.Chain.{Chain}
 use Rattle.chain_store.specs.declared.store.ChainStore.TheInside.{Inside}
-use Rattle.chain_store.specs.Chains.{AreDifferentJobs, AreThere, all_jobs, chain, chain_of, jobs_of, last_of, ordered}
+use Rattle.chain_store.specs.Chains.{AreDifferentJobs, AreMarked, AreThere, all_jobs, chain, chain_of, jobs_of, last_of, ordered}
 use Rattle.chain_store.specs.Links.{AreWhole, link_at, owned_by, unlinked_all}
 use Rattle.chain_store.specs.Values.{Linked}
 
@@ -97,3 +97,4 @@ view_of a = linked (tables_of a)
 pub record IsChained (a : Inside) : Type 0 where
   pub tables : AreChained (tables_of a)
   pub spanned : AreSpanned a.spans a.owners.items
+  pub marked : AreMarked a.occupied a.chains.items

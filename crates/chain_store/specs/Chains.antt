@@ -1,5 +1,5 @@
 -- Records that lead from one to the next by their links, and the jobs whose first records they are. (This profile)
-use Rattle.std.specs.Prelude.{◌≡◌, ◌≢◌, ℕ, zero, suc, ◌+◌, ◌-◌, ◌/◌, ◌%◌, ◌<◌, ◌≤◌, ◌==◌, All, nat_lt, not, slice_index_or, Bool, List, [], ◌∷◌, ◌++◌, map, if◌then◌else◌}
+use Rattle.std.specs.Prelude.{◌≡◌, ◌≢◌, ℕ, zero, suc, ◌+◌, ◌-◌, ◌/◌, ◌%◌, ◌<◌, ◌≤◌, ◌==◌, All, nat_lt, not, get_or, slice_index_or, Bool, true, false, List, [], ◌∷◌, ◌++◌, map, if◌then◌else◌}
 use Rattle.queue_core.specs.declared.queue.Queued.{Queued}
 use Rattle.chain_store.specs.declared.chains.Chain.{Chain}
 use Rattle.chain_store.specs.declared.chains.Found.{Found}
@@ -89,3 +89,7 @@ pub record IsFirstUsed (chains : List Chain) (from place : ℕ) : Type 0 where
   pub within : place < from + 14
   pub used : (chain_of chains place).count ≢ 0
   pub before : AreEmpty chains from place
+
+-- each class of which a chain has a record is marked; a class has fourteen chains
+abbrev pub AreMarked : List Bool → List Chain → Type 0
+AreMarked occupied chains = (place : ℕ) → (chain_of chains place).count ≢ 0 → get_or occupied (place / 14) false ≡ true

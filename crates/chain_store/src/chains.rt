@@ -1,5 +1,5 @@
 //! The jobs of a class and a priority that wait, by the links of their first records.
-ghost use Rattle.std.specs.Prelude.{◌≡◌, ◌≢◌, ℕ, ◌+◌, ◌-◌, ◌<◌, ◌≤◌, All, IfNone, IfSome, length};
+ghost use Rattle.std.specs.Prelude.{◌≡◌, ◌≢◌, ℕ, ◌+◌, ◌-◌, ◌*◌, ◌/◌, ◌<◌, ◌≤◌, All, IfNone, IfSome, false, length};
 ghost use Rattle.chain_store.specs.Chains.{AreAllThere, AreEmpty, AreThere, HasNone, IsFirstUsed, IsFound, chain, chain_of};
 ghost use Rattle.chain_store.specs.Links.{link_at, owned_by};
 ghost use Rattle.cb_queue.specs.RecordQueues.{HasOwnLink};
@@ -64,6 +64,15 @@ pub(crate) fn first_used(chains: &[Chain], from: usize) -> Option<usize>
         place += 1;
     }
     None
+}
+
+/// Whether a job of a class waits, one of whose chains is at a place. The others are looked at only if that one has none.
+pub(crate) fn is_occupied(chains: &[Chain], place: usize) -> bool
+    requires within { place < 210 }
+    requires size { length chains.now ≡ 210 }
+    ensures { result ≡ false → AreEmpty chains.now (place / 14 * 14) (place / 14 * 14 + 14) }
+{
+    chains[place].count != 0 || first_used(chains, place / 14 * 14).is_some()
 }
 
 /// The record of a chain that a job owns.

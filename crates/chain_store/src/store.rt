@@ -2,7 +2,7 @@
 ghost use Rattle.std.specs.Prelude.{◌≡◌, ◌≢◌, ◌+◌, ◌^◌, ◌<◌, ◌≤◌, ◌-◌, ◌%◌, ◌/◌, IfOk, None, length, true};
 ghost use Rattle.cb_queue.specs.RecordQueues.{HasNoneBetween, HasOwnLink, empty_queue, owner_at, record_at};
 
-use crate::chains::{Chain, Found, find_any, first_used, without};
+use crate::chains::{Chain, Found, find_any, first_used, is_occupied, without};
 use crate::records::{more_owners, more_records, relink, renew, rewrite, rewrite_status};
 use cb_meaning::layout::Layout;
 use cb_queue::store::RecordStore;
@@ -24,7 +24,9 @@ const HIGHEST_PRIORITY: u8 = 13;
 
 const PRIORITIES: usize = 14;
 
-const CHAINS: usize = 15 * PRIORITIES;
+const CLASSES: usize = 15;
+
+const CHAINS: usize = CLASSES * PRIORITIES;
 
 /// Where the chain of a class and a priority is.
 fn place_of(class: u8, priority: u8) -> usize
@@ -69,6 +71,8 @@ pub struct ChainStore {
     spans: Spans,
     /// The first records of the jobs that wait, by class and priority: class A first, and in a class the highest priority.
     chains: Vec<Chain>,
+    /// The classes of which a job waits.
+    occupied: [bool; CLASSES],
     waiting: usize,
 }
 
@@ -104,6 +108,7 @@ impl ChainStore {
                 last: 0,
                 count: 0
             }; CHAINS]?,
+            occupied: [false; CLASSES],
             waiting: 0,
         })
     }
@@ -235,6 +240,7 @@ impl RecordStore for ChainStore {
     fn enter(&mut self, queued: Queued) -> Result<(), AllocError> {
         let place = place_of(queued.class, queued.priority);
         let chain = self.chains[place];
+        self.occupied[place / PRIORITIES] = true;
         if chain.count == 0 {
             self.chains[place] = Chain {
                 first: queued.jct,
@@ -258,7 +264,11 @@ impl RecordStore for ChainStore {
         if self.waiting == 0 || class < FIRST_CLASS || class > LAST_CLASS {
             return None;
         }
-        match first_used(&self.chains, place_of(class, HIGHEST_PRIORITY)) {
+        let from = place_of(class, HIGHEST_PRIORITY);
+        if !self.occupied[from / PRIORITIES] {
+            return None;
+        }
+        match first_used(&self.chains, from) {
             Some(place) => {
                 let n = self.chains[place].first;
                 Some(queued_at(self.owners[n as usize - 1], n, place))
@@ -278,6 +288,7 @@ impl RecordStore for ChainStore {
         };
         let next = self.records[chain.first as usize - 1].number(self.layout.link);
         self.chains[place] = without(chain, found, next);
+        self.occupied[place / PRIORITIES] = is_occupied(&self.chains, place);
         self.waiting -= 1;
     }
 
@@ -290,10 +301,12 @@ impl RecordStore for ChainStore {
                 if found.place != 0 {
                     relink(&mut self.records, &self.layout, found.before, next);
                     self.chains[spot.place] = without(chain, found, next);
+                    self.occupied[spot.place / PRIORITIES] = is_occupied(&self.chains, spot.place);
                     self.waiting -= 1;
                     return Some(queued_at(job, found.n, spot.place));
                 }
                 self.chains[spot.place] = without(chain, found, next);
+                self.occupied[spot.place / PRIORITIES] = is_occupied(&self.chains, spot.place);
                 self.waiting -= 1;
                 Some(queued_at(job, found.n, spot.place))
             }

@@ -1,5 +1,6 @@
-use Rattle.std.proofs.Common.{sym, subst}
+use Rattle.std.proofs.Common.{false, replicate, subst, sym}
 use Rattle.chain_store.specs.Chained.{AreSpanned}
+use Rattle.chain_store.proofs.Marked.{marked_first}
 use Rattle.chain_store.proofs.Spanned.{spanned_first}
 use Rattle.chain_store.proofs.Starting.{chained_new, linked_new}
 use Rattle.chain_store.proofs.store.ChainStore.new.Goals as goal
@@ -8,6 +9,7 @@ pub invariant_of-result : goal.invariant_of-result
 invariant_of-result c = record {
   tables = chained_new c.args.layout c.requires.own_link c.requires.links c.new.result.items c.new-2.result.items c.in_ok-vec.field-0.items c.new.ensures.items c.new-2.ensures.items
       (c.in_ok-vec.ensures.items_if_clones_equal (λ _ e. e));
+  marked = marked_first (replicate 15 false) c.in_ok-vec.field-0.items 210 (c.in_ok-vec.ensures.items_if_clones_equal (λ _ e. e));
   spanned = subst (AreSpanned c.in_ok-new.field-0) (sym c.new-2.ensures.items) (spanned_first c.in_ok-new.field-0);
 }
 

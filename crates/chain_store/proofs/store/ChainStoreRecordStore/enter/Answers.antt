@@ -9,6 +9,7 @@ use Rattle.chain_store.specs.Chained.{AreChained, Tables, chain_in, queue_in, ta
 use Rattle.chain_store.specs.Links.{Changes, link_at, record_of}
 use Rattle.chain_store.specs.Values.{Linked}
 use Rattle.chain_store.proofs.Entering.{chained_alone, chained_longer, few_before, last_there, queue_alone, queue_longer, waits_owned}
+use Rattle.chain_store.proofs.Marked.{marked_entered}
 use Rattle.chain_store.proofs.Ops.{few_wait, owned_place}
 use Rattle.chain_store.proofs.store.ChainStoreRecordStore.enter.Goals as goal
 
@@ -84,6 +85,7 @@ invariant_of-self c = record {
   tables = chained_first (tables_of c.self.inside) c.self.invariant.tables c.args.self.now c.args.queued (ap (λ (v : Linked). v.queue) c.self.view_is) c.requires.queued c.requires.later
       c.place_of-place.result c.place_of-place.ensures.within c.index-chain.result.now c.index-chain.ensures c.place_of-place.ensures.class c.place_of-place.ensures.priority c.if-chain-eq0.true;
   spanned = c.self.invariant.spanned;
+  marked = marked_entered c.self.inside.occupied c.self.inside.chains.items c.place_of-place.result _ (let w = c.place_of-place.ensures.within in omega (arith, w)) c.self.invariant.marked;
 }
 
 pub returns-then-chain-eq0-clause-ok : goal.returns-then-chain-eq0-clause-ok
@@ -129,6 +131,7 @@ invariant_of-self-2 c = record {
       c.place_of-place.result c.place_of-place.ensures.within c.index-chain.result.now c.index-chain.ensures c.place_of-place.ensures.class c.place_of-place.ensures.priority
       c.if-chain-eq0.false c.relink.new.records.items c.relink.ensures.change c.relink.ensures.link;
   spanned = c.self.invariant.spanned;
+  marked = marked_entered c.self.inside.occupied c.self.inside.chains.items c.place_of-place.result _ (let w = c.place_of-place.ensures.within in omega (arith, w)) c.self.invariant.marked;
 }
 
 pub returns-clause-ok : goal.returns-clause-ok

@@ -51,6 +51,7 @@ invariant_of-self c =
       tables = subst (λ m. AreChained (record t { records = c.relink.new.records.items; owners = slice_set t.owners (c.args.n - 1) 0; first_free = m; free_count = t.free_count + 1 })) is
           (chained_given t h (c.args.n - 1) c.relink.new.records.items (used_at t h c.args.n used) unqueued c.relink.ensures.change
           (subst (λ m. link_at t.layout c.relink.new.records.items m ≡ t.first_free) (sym is) c.relink.ensures.link) fits);
+      marked = c.self.invariant.marked;
       spanned = spanned_given c.self.inside.spans c.self.inside.owners.items (c.args.n - 1) c.self.invariant.spanned;
     }
 

@@ -29,6 +29,7 @@ invariant_of-self c =
     record {
       tables = chained_room t h c.more_records.new.records.items t.owners 0 kept (c.more_records.ensures.whole h.whole) (sym (append-nil t.owners))
           (let room = h.room in let longer = ap length kept in omega (arith, room, longer, length-take (length t.records) c.more_records.new.records.items)) h.most;
+      marked = c.self.invariant.marked;
       spanned = c.self.invariant.spanned;
     }
 
@@ -61,6 +62,7 @@ invariant_of-self-2 c =
       tables = chained_room t h new owners (length owners - length t.owners) kept (c.more_records.ensures.whole h.whole) c.more_owners.ensures.zeros
           (c.more_owners.ensures.most (length new) (omega (arith, room, longer, cut)) enough)
           (c.more_owners.ensures.most t.layout.most_records most (omega (arith, asked, size, reached, most, sub)));
+      marked = c.self.invariant.marked;
       spanned = spanned_more c.self.inside.spans t.owners owners (length owners - length t.owners) c.more_owners.ensures.zeros c.self.invariant.spanned;
     }
 

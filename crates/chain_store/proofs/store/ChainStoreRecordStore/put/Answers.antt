@@ -31,6 +31,7 @@ invariant_of-self c =
           (subst (λ m. link_at l c.rewrite.new.records.items m ≡ link_at l t.records m) (sym is) c.rewrite.ensures.link)
           (in_use_put l h.sound.own_link c.args.rec.now c.rewrite.ensures.whole rec_owner (bytes_unlinked l h.sound.own_link c.args.rec.now c.rewrite.ensures.bytes))
           (owner_put l h.sound.own_link c.args.rec.now c.rewrite.ensures.whole ∙ owner ∙ ap (owner_at (queue_in t)) (sym is));
+      marked = c.self.invariant.marked;
       spanned = c.self.invariant.spanned;
     }
 

@@ -12,6 +12,7 @@ use Rattle.chain_store.specs.Chained.{AreChained, Tables, chain_in, link_in, tab
 use Rattle.chain_store.specs.Links.{link_at, owned_by}
 use Rattle.chain_store.specs.Values.{Linked}
 use Rattle.chain_store.proofs.Jobs.{filter_all}
+use Rattle.chain_store.proofs.Marked.{marked_left}
 use Rattle.chain_store.proofs.Removing.{IsWithout, before_place, chained_without_first, chained_without_later, fewer, found_there, is_job_of, queue_without_first, queue_without_later}
 use Rattle.chain_store.proofs.Selecting.{none_found, there_of}
 use Rattle.chain_store.proofs.store.ChainStoreRecordStore.remove.Goals as goal
@@ -137,6 +138,8 @@ invariant_of-self c =
       tables = chained_without_later t h spot.place here c.index-chain.result.now c.index-chain.ensures c.args.job spot.found is c.number-next.result next_is c.without.result left c.if-found-ne0.true c.relink.new.records.items c.relink.ensures.change
           c.relink.ensures.link;
       spanned = c.self.invariant.spanned;
+      marked = marked_left c.self.inside.occupied t.chains c.deref-then-found-ne0.result.now spot.place c.without.result c.is_occupied.result c.deref-then-found-ne0.ensures.value
+          (let all = h.chains in omega (arith, here, all)) c.is_occupied.ensures c.self.invariant.marked;
     }
 
 pub returns-then-found-ne0-clause-left : goal.returns-then-found-ne0-clause-left
@@ -183,6 +186,8 @@ invariant_of-self-in-Some c =
     record {
       tables = chained_without_first t h spot.place here c.index-chain.result.now c.index-chain.ensures c.args.job spot.found is c.number-next.result next_is c.without-in-Some.result left c.if-found-ne0.false;
       spanned = c.self.invariant.spanned;
+      marked = marked_left c.self.inside.occupied t.chains c.deref-in-Some.result.now spot.place c.without-in-Some.result c.is_occupied-in-Some.result c.deref-in-Some.ensures.value
+          (let all = h.chains in omega (arith, here, all)) c.is_occupied-in-Some.ensures c.self.invariant.marked;
     }
 
 pub returns-else-found-ne0-clause-left : goal.returns-else-found-ne0-clause-left

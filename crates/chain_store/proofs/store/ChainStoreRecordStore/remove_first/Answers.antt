@@ -12,6 +12,7 @@ use Rattle.chain_store.specs.Chains.{IsFound, is_other, no_chain}
 use Rattle.chain_store.specs.Chained.{AreChained, Tables, chain_in, link_in, queue_in, tables_of}
 use Rattle.chain_store.specs.Links.{owned_by}
 use Rattle.chain_store.specs.Values.{Linked}
+use Rattle.chain_store.proofs.Marked.{marked_left}
 use Rattle.chain_store.proofs.Removing.{chained_without_first, fewer, found_there, queue_without_first, within}
 use Rattle.chain_store.proofs.Selecting.{leads}
 use Rattle.chain_store.proofs.store.ChainStoreRecordStore.remove_first.Goals as goal
@@ -111,6 +112,8 @@ invariant_of-self c =
       tables = chained_without_first t h place there ch c.index-chain.ensures c.args.queued.job (record { place = 0; before = 0; n = ch.first }) is c.number-next.result next_is c.without.result
           (record { count = c.without.ensures.count; front = c.without.ensures.front; behind = c.without.ensures.behind; end = c.without.ensures.end; middle = c.without.ensures.middle }) refl;
       spanned = c.self.invariant.spanned;
+      marked = marked_left c.self.inside.occupied t.chains c.deref.result.now place c.without.result c.is_occupied.result c.deref.ensures.value (omega (arith, small))
+          c.is_occupied.ensures c.self.invariant.marked;
     }
 
 pub returns-clause-left : goal.returns-clause-left

@@ -58,6 +58,7 @@ invariant_of-self c =
     record {
       tables = chained_from_given t h c.args.owner c.requires.owner c.ranges.owner.fits c.if-self-ne0.true c.renew.new.records.items c.number-self-inside.result led
           c.number-self-inside.ensures.small c.renew.ensures.change c.renew.ensures.bytes;
+      marked = c.self.invariant.marked;
       spanned = spanned_taken c.self.inside.spans c.widen.new.self c.self.inside.owners.items (t.first_free - 1) c.args.owner c.widen.ensures.still c.widen.ensures.further
           c.self.invariant.spanned;
     }
@@ -112,6 +113,7 @@ invariant_of-self-2 c =
           is
           (chained_from_fresh t h c.args.owner c.requires.owner c.ranges.owner.fits c.if-self-ne0.false c.if-self.false enough c.renew-2.new.records.items change
           c.renew-2.ensures.bytes);
+      marked = c.self.invariant.marked;
       spanned = spanned_taken c.self.inside.spans c.widen-2.new.self c.self.inside.owners.items (t.reached + 1 - 1) c.args.owner c.widen-2.ensures.still
           c.widen-2.ensures.further c.self.invariant.spanned;
     }

@@ -31,6 +31,7 @@ invariant_of-self c =
           (subst (λ m. link_at l c.rewrite_status.new.records.items m ≡ link_at l t.records m) (sym is) c.rewrite_status.ensures.link)
           (in_use_status l h.sound.own_link old c.args.status.now (used_record t h (c.args.n - 1) at) c.told-status c.rewrite_status.ensures.bytes)
           (owner_status l h.sound.own_link old c.args.status.now (used_record t h (c.args.n - 1) at) c.told-status ∙ sym (ap owner_in (record_there t h (c.args.n - 1) at)));
+      marked = c.self.invariant.marked;
       spanned = c.self.invariant.spanned;
     }
 
