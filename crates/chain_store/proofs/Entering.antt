@@ -139,7 +139,7 @@ module _ (t : Tables) (h : AreChained t) (place : ℕ) (here : place < length t.
         omega (arith, few, whole, a, b, c, d)
 
     module _ (new : List (List ℕ)) (change : Changes t.layout t.records new (old.last - 1) (record_of t.layout t.records (old.last - 1))) (link : link_at t.layout new old.last ≡ q.jct) where
-      links : (m : ℕ) → m ≢ old.last → link_at t.layout new m ≡ link_in t m
+      pub links : (m : ℕ) → m ≢ old.last → link_at t.layout new m ≡ link_in t m
       links zero other = refl
       links (suc i) other = change.others i (λ is. let there = last_there in other (omega (arith, is, there.0)))
 
@@ -160,7 +160,7 @@ module _ (t : Tables) (h : AreChained t) (place : ℕ) (here : place < length t.
       abbrev longer : Chain
       longer = record { first = old.first; last = q.jct; count = old.count + 1 }
 
-      chain_longer : chain (link_at t.layout new) old.first (old.count + 1) ≡ chain (link_in t) old.first old.count ++ q.jct ∷ []
+      pub chain_longer : chain (link_at t.layout new) old.first (old.count + 1) ≡ chain (link_in t) old.first old.count ++ q.jct ∷ []
       chain_longer =
           let two : old.count + 1 ≡ suc (suc k) = (let c = count_is in omega (arith, c)) in
           ap (chain (link_at t.layout new) old.first) two

@@ -69,10 +69,10 @@ module _ (t : Tables) (h : AreChained t) (place : ℕ) (here : place < length t.
 
   -- a later one: so many are before the record behind which it is
   module _ (a gone n : ℕ) (within : suc a < old.count) (gone_is : walk link old.first a ≡ gone) (n_is : walk link old.first (suc a) ≡ n) where
-    b : ℕ
+    pub b : ℕ
     b = old.count - suc (suc a)
 
-    counted : old.count ≡ suc (suc a) + b
+    pub counted : old.count ≡ suc (suc a) + b
     unfolding b
     counted = omega (arith, within)
 
@@ -151,7 +151,7 @@ module _ (t : Tables) (h : AreChained t) (place : ℕ) (here : place < length t.
       rest_apart : All (λ m. m ≢ gone) rest
       rest_apart = chain_of_all owner link (λ x. x.jct ≢ gone) place (link n) b (all_left (λ x. x.jct ≢ gone) (jobs rest) (at.behind t h place here) after_apart)
 
-      chain_left : chain (link_at t.layout new) c.first c.count ≡ front ++ rest
+      pub chain_left : chain (link_at t.layout new) c.first c.count ≡ front ++ rest
       chain_left =
           let k = counted in
           let size : c.count ≡ suc (a + b) = omega (arith, k, count) in

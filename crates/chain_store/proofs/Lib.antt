@@ -9,8 +9,11 @@ pub mod Uses
 pub mod Entering
 pub mod Spanned
 pub mod Marked
+pub mod Noted
+pub mod Placed
 pub mod Leaving
 pub mod Starting
 pub mod Taking
 pub mod Selecting
 pub mod Removing
+pub mod Cancelling

@@ -6,17 +6,28 @@ use Rattle.std.proofs.lemmas.List.{get_or_read}
 use Rattle.queue_core.specs.declared.queue.Queued.{Queued}
 use Rattle.queue_core.specs.Queues.{IsJobOf}
 use Rattle.chain_store.specs.declared.chains.Chain.{Chain}
-use Rattle.chain_store.specs.declared.chains.Found.{Found}
-use Rattle.chain_store.specs.Chains.{IsFound, chain, is_other, job_at, last_of, no_chain, walk}
+use Rattle.chain_store.specs.Chains.{chain, is_other, job_at, last_of, no_chain, walk}
 use Rattle.chain_store.specs.Chained.{AreChained, Tables, chain_in, jobs_in, link_in, queue_in}
 use Rattle.chain_store.specs.Links.{Changes, link_at, owned_by, record_of}
 use Rattle.chain_store.proofs.Jobs.{length_ordered}
 use Rattle.chain_store.proofs.Leaving.{chained_first_left, chained_later_left, gone_owned, queue_first_left, queue_later_left}
-use Rattle.chain_store.proofs.Selecting.{found_contained, there_of}
-use Rattle.chain_store.proofs.Walks.{at_walk, last_chain}
+use Rattle.chain_store.proofs.Selecting.{found_contained}
+use Rattle.chain_store.proofs.Walks.{last_chain}
+
+-- where a record stands in a chain: so many are before it, of which this is the last
+pub record Standing : Type 0 where
+  pub place : ℕ
+  pub before : ℕ
+  pub n : ℕ
+
+pub record IsStanding (owner link : ℕ → ℕ) (c : Chain) (job : ℕ) (found : Standing) : Type 0 where
+  pub place : found.place < c.count
+  pub n : walk link c.first found.place ≡ found.n
+  pub of_job : owner found.n ≡ job
+  pub before : last_of (chain link c.first found.place) ≡ found.before
 
 -- a chain without one of its records
-pub record IsWithout (jobs : Chain) (found : Found) (next : ℕ) (left : Chain) : Type 0 where
+pub record IsWithout (jobs : Chain) (found : Standing) (next : ℕ) (left : Chain) : Type 0 where
   pub count : left.count + 1 ≡ jobs.count
   pub front : found.place ≡ 0 → left.first ≡ next
   pub behind : found.place ≢ 0 → left.first ≡ jobs.first
@@ -32,44 +43,36 @@ some_wait t h place here some =
     omega (arith, has.1, size, is)
 
 -- where a record is found that is not the first of its chain, the one before it stands in the table
-module _ (t : Tables) (h : AreChained t) (place : ℕ) (here : place < length t.chains) (job : ℕ) (found : Found) (is : IsFound (owned_by t.owners) (link_in t) (chain_in t place) job found)
+module _ (t : Tables) (h : AreChained t) (place : ℕ) (here : place < length t.chains) (job : ℕ) (found : Standing) (is : IsStanding (owned_by t.owners) (link_in t) (chain_in t place) job found)
     (later : found.place ≢ 0) where
-  ahead : ℕ
+  pub ahead : ℕ
   ahead = found.place - 1
 
-  ahead_is : found.place ≡ suc ahead
+  pub ahead_is : found.place ≡ suc ahead
   unfolding ahead
   ahead_is = omega (arith, later)
 
-  ahead_within : suc ahead < (chain_in t place).count
+  pub ahead_within : suc ahead < (chain_in t place).count
   ahead_within = let p = is.place in let e = ahead_is in omega (arith, p, e)
 
-  before_is : walk (link_in t) (chain_in t place).first ahead ≡ found.before
+  pub before_is : walk (link_in t) (chain_in t place).first ahead ≡ found.before
   before_is =
       sym (last_chain (link_in t) (chain_in t place).first ahead) ∙ ap (λ k. last_of (chain (link_in t) (chain_in t place).first k)) (sym ahead_is) ∙ is.before
 
-  n_behind : walk (link_in t) (chain_in t place).first (suc ahead) ≡ found.n
+  pub n_behind : walk (link_in t) (chain_in t place).first (suc ahead) ≡ found.n
   n_behind = ap (walk (link_in t) (chain_in t place).first) (sym ahead_is) ∙ is.n
 
   pub before_place : (1 ≤ found.before) × (found.before ≤ length t.owners)
   before_place =
       gone_owned t h place here (t.waiting - 1) (some_wait t h place here (λ none. let p = is.place in absurd (omega (arith, p, none)))) ahead found.before found.n ahead_within before_is n_behind
 
-module _ (t : Tables) (h : AreChained t) (place : ℕ) (here : place < length t.chains) (ch : Chain) (read : ch ≡ slice_index_or t.chains place ch) (job : ℕ) (found : Found)
-    (is : IsFound (owned_by t.owners) (link_in t) (chain_in t place) job found) where
+module _ (t : Tables) (h : AreChained t) (place : ℕ) (here : place < length t.chains) (ch : Chain) (read : ch ≡ slice_index_or t.chains place ch) (job : ℕ) (found : Standing)
+    (is : IsStanding (owned_by t.owners) (link_in t) (chain_in t place) job found) where
   abbrev old : Chain
   old = chain_in t place
 
   pub is_read : ch ≡ old
   is_read = get_or_read t.chains place ch here read no_chain
-
-  pub within : found.place < ch.count
-  within = subst (λ (x : Chain). found.place < x.count) (sym is_read) is.place
-
-  pub found_there : (1 ≤ found.n) × (found.n ≤ length t.owners)
-  found_there =
-      subst (λ n. (1 ≤ n) × (n ≤ length t.owners)) is.n
-      (at_walk (λ n. (1 ≤ n) × (n ≤ length t.owners)) (link_in t) old.first old.count found.place is.place (there_of t h place here))
 
   pub fewer : t.waiting - 1 + 1 ≡ t.waiting
   fewer = some_wait t h place here (λ none. let p = is.place in absurd (omega (arith, p, none)))

@@ -6,8 +6,8 @@ use Rattle.std.proofs.lemmas.List.Elements.{All-cons, All-contains, All-contains
 use Rattle.queue_core.specs.declared.queue.Queued.{Queued}
 use Rattle.queue_core.specs.Queues.{HasNoneOf, IsFirstOf}
 use Rattle.cb_queue.specs.RecordQueues.{AreInOrder, IsQueued}
-use Rattle.chain_store.specs.Chains.{AreEmpty, AreThere, HasNone, IsFirstUsed, chain, job_at, jobs_of, ordered, walk}
-use Rattle.chain_store.specs.Chained.{AreChained, Tables, chain_in, jobs_in, link_in, queue_in}
+use Rattle.chain_store.specs.Chains.{AreEmpty, AreThere, IsFirstUsed, chain, job_at, jobs_of, ordered, walk}
+use Rattle.chain_store.specs.Chained.{AreChained, Tables, chain_in, chained_in, jobs_in, link_in, queue_in}
 use Rattle.chain_store.specs.Links.{owned_by}
 use Rattle.chain_store.proofs.AllJobs.{all_chains, all_of_chain, all_of_place, chain_of_all, of_all_chains}
 use Rattle.chain_store.proofs.Entering.{waits_owned}
@@ -184,7 +184,7 @@ module _ (t : Tables) (h : AreChained t) where
     leads = All-contains Leads (queue_in t).waiting q (all_waiting Leads each_leads) first.contained refl refl refl
 
   -- no job of a number waits
-  pub none_found : (job : ℕ) → ((place : ℕ) → place < length t.chains → HasNone owner link (chain_in t place) job) → All (λ x. x.job ≢ job) (queue_in t).waiting
+  pub none_found : (job : ℕ) → ((place : ℕ) → place < length t.chains → All (λ n. owner n ≢ job) (chained_in t place)) → All (λ x. x.job ≢ job) (queue_in t).waiting
   none_found job none =
       all_waiting (λ x. x.job ≢ job) (λ place here. all_of_chain owner link (λ x. x.job ≢ job) place (chain_in t place).first (chain_in t place).count (none place here))
 

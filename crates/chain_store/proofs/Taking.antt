@@ -7,10 +7,11 @@ use Rattle.plain.specs.Lists.{are_different, numbers_from}
 use Rattle.cb_queue.specs.RecordQueues.{next_free, taken, zero_record}
 use Rattle.cb_queue.proofs.Changing.{member}
 use Rattle.chain_store.specs.Chains.{AreThere, chain}
-use Rattle.chain_store.specs.Chained.{AreChained, Tables, free_in, given_in, link_in, queue_in}
+use Rattle.chain_store.specs.Chained.{AreChained, Tables, chained_in, free_in, given_in, link_in, queue_in}
 use Rattle.chain_store.specs.Links.{Changes, link_at}
 use Rattle.chain_store.proofs.Jobs.{all_left}
 use Rattle.chain_store.proofs.Ops.{chained_taken, free_size, not_member, queue_taken}
+use Rattle.chain_store.proofs.Placed.{next_out}
 use Rattle.chain_store.proofs.Walks.{chain_kept}
 
 is_false : (b : Bool) → not b ≡ true → b ≡ false
@@ -50,6 +51,10 @@ module _ (t : Tables) (h : AreChained t) (owner : ℕ) (some : owner ≢ 0) (sma
     free_is : free_in t ≡ suc i ∷ rest
     free_is =
         ap (λ ns. ns ++ numbers_from (t.reached + 1) (t.layout.most_records - t.reached)) given_is ∙ ap (λ n. n ∷ rest) number
+
+    -- it is in no chain
+    pub out_given : (place : ℕ) → All (λ m. m ≢ suc i) (chained_in t place)
+    out_given = next_out t h i rest free_is
 
     pub answer_given : Some t.first_free ≡ next_free (queue_in t)
     answer_given = ap Some number ∙ sym (ap (λ ns. slice_get ns 0) free_is)
@@ -107,6 +112,9 @@ module _ (t : Tables) (h : AreChained t) (owner : ℕ) (some : owner ≢ 0) (sma
 
     fresh_free : free_in t ≡ suc t.reached ∷ fresh
     fresh_free = ap (λ c. chain (link_in t) t.first_free c ++ numbers_from (t.reached + 1) (t.layout.most_records - t.reached)) none ∙ numbers_are
+
+    pub out_fresh : (place : ℕ) → All (λ m. m ≢ suc t.reached) (chained_in t place)
+    out_fresh = next_out t h t.reached fresh fresh_free
 
     pub answer_fresh : Some (t.reached + 1) ≡ next_free (queue_in t)
     answer_fresh = (let first : t.reached + 1 ≡ suc t.reached = omega arith in ap Some first) ∙ sym (ap (λ ns. slice_get ns 0) fresh_free)

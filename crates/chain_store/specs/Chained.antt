@@ -12,6 +12,7 @@ use Rattle.chain_store.specs.declared.chains.Chain.{Chain}
 use Rattle.chain_store.specs.declared.store.ChainStore.TheInside.{Inside}
 use Rattle.chain_store.specs.Chains.{AreDifferentJobs, AreMarked, AreThere, all_jobs, chain, chain_of, jobs_of, last_of, ordered}
 use Rattle.chain_store.specs.Links.{AreWhole, link_at, owned_by, unlinked_all}
+use Rattle.chain_store.specs.Spots.{AreNoted}
 use Rattle.chain_store.specs.Values.{Linked}
 
 -- the fields of a store, as values
@@ -60,6 +61,10 @@ jobs_in t = all_jobs (owned_by t.owners) (link_in t) 0 t.chains
 abbrev pub chain_in : Tables → ℕ → Chain
 chain_in t place = chain_of t.chains place
 
+-- the records of the chain at a place
+abbrev pub chained_in : Tables → ℕ → List ℕ
+chained_in t place = chain (link_in t) (chain_in t place).first (chain_in t place).count
+
 abbrev pub queue_in : Tables → RecordQueue
 queue_in t = record { layout = t.layout; records = records_in t; free = free_in t; waiting = ordered (jobs_in t) }
 
@@ -98,3 +103,5 @@ pub record IsChained (a : Inside) : Type 0 where
   pub tables : AreChained (tables_of a)
   pub spanned : AreSpanned a.spans a.owners.items
   pub marked : AreMarked a.occupied a.chains.items
+  pub noted : AreNoted a.spots.items (chained_in (tables_of a))
+  pub spots : length a.owners.items ≤ length a.spots.items

@@ -2,7 +2,6 @@
 use Rattle.std.specs.Prelude.{◌≡◌, ◌≢◌, ℕ, zero, suc, ◌+◌, ◌-◌, ◌/◌, ◌%◌, ◌<◌, ◌≤◌, ◌==◌, All, nat_lt, not, get_or, slice_index_or, Bool, true, false, List, [], ◌∷◌, ◌++◌, map, if◌then◌else◌}
 use Rattle.queue_core.specs.declared.queue.Queued.{Queued}
 use Rattle.chain_store.specs.declared.chains.Chain.{Chain}
-use Rattle.chain_store.specs.declared.chains.Found.{Found}
 
 -- so many records from one on, of which each leads to the next
 abbrev pub chain : (ℕ → ℕ) → ℕ → ℕ → List ℕ
@@ -58,26 +57,12 @@ AreDifferentJobs (x ∷ xs) = HasNoJob x.job xs × AreDifferentJobs xs
 abbrev pub is_other : ℕ → Queued → Bool
 is_other job x = not (x.job == job)
 
--- Where a job stands in a chain: so many are before it, of which this is the last.
-pub record IsFound (owner link : ℕ → ℕ) (c : Chain) (job : ℕ) (found : Found) : Type 0 where
-  pub place : found.place < c.count
-  pub n : walk link c.first found.place ≡ found.n
-  pub of_job : owner found.n ≡ job
-  pub before : last_of (chain link c.first found.place) ≡ found.before
-
 -- each of these records stands in a table of so many
 abbrev pub AreThere : ℕ → List ℕ → Type 0
 AreThere count numbers = All (λ n. (1 ≤ n) × (n ≤ count)) numbers
 
 abbrev pub chain_of : List Chain → ℕ → Chain
 chain_of chains place = slice_index_or chains place no_chain
-
-abbrev pub AreAllThere : ℕ → (ℕ → ℕ) → List Chain → Type 0
-AreAllThere count link chains = (place : ℕ) → AreThere count (chain link (chain_of chains place).first (chain_of chains place).count)
-
--- no record of a chain is a job's
-abbrev pub HasNone : (ℕ → ℕ) → (ℕ → ℕ) → Chain → ℕ → Type 0
-HasNone owner link c job = All (λ n. owner n ≢ job) (chain link c.first c.count)
 
 -- the chains from one place to another have no record
 abbrev pub AreEmpty : List Chain → ℕ → ℕ → Type 0

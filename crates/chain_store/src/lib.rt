@@ -3,4 +3,5 @@
 
 mod chains;
 mod records;
+mod spots;
 pub mod store;

@@ -24,6 +24,21 @@ pub(crate) fn relink(records: &mut Vec<Rec>, layout: &Layout, n: u32, next: u32)
     records[n as usize - 1].write_number(layout.link, next);
 }
 
+/// Lets the record before one lead to the one behind it, where there is one before it.
+pub(crate) fn relink_before(records: &mut Vec<Rec>, layout: &Layout, before: u32, next: u32)
+    requires layout { HasOwnLink layout.now }
+    requires there { before ≤ length records.old.items }
+    requires whole { AreWhole records.old.items }
+    requires fits { next < 256 ^ layout.now.link.width }
+    ensures none { before ≡ 0 → records.new.items ≡ records.old.items }
+    ensures change { before ≢ 0 → Changes layout.now records.old.items records.new.items (before - 1) (record_of layout.now records.old.items (before - 1)) }
+    ensures link { before ≢ 0 → link_at layout.now records.new.items before ≡ next }
+{
+    if before != 0 {
+        relink(records, layout, before, next);
+    }
+}
+
 /// Writes a record in the place of another, whose link stays.
 fn write_beside_link(own: &mut Rec, layout: &Layout, rec: &Rec)
     requires { HasOwnLink layout.now }

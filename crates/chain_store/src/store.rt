@@ -2,8 +2,11 @@
 ghost use Rattle.std.specs.Prelude.{◌≡◌, ◌≢◌, ◌+◌, ◌^◌, ◌<◌, ◌≤◌, ◌-◌, ◌%◌, ◌/◌, IfOk, None, length, true};
 ghost use Rattle.cb_queue.specs.RecordQueues.{HasNoneBetween, HasOwnLink, empty_queue, owner_at, record_at};
 
-use crate::chains::{Chain, Found, find_any, first_used, is_occupied, without};
-use crate::records::{more_owners, more_records, relink, renew, rewrite, rewrite_status};
+use crate::chains::{Chain, first_used, is_occupied, without};
+use crate::records::{
+    more_owners, more_records, relink, relink_before, renew, rewrite, rewrite_status,
+};
+use crate::spots::{Spot, find, leave, more_spots};
 use cb_meaning::layout::Layout;
 use cb_queue::store::RecordStore;
 use cb_records::rec::Rec;
@@ -69,6 +72,8 @@ pub struct ChainStore {
     /// No record behind this one was ever taken.
     reached: u32,
     spans: Spans,
+    /// Where each record stands that is in one of the chains.
+    spots: Vec<Option<Spot>>,
     /// The first records of the jobs that wait, by class and priority: class A first, and in a class the highest priority.
     chains: Vec<Chain>,
     /// The classes of which a job waits.
@@ -103,6 +108,7 @@ impl ChainStore {
             free_count: 0,
             reached: 0,
             spans: Spans::new(alloc)?,
+            spots: Vec::new(alloc),
             chains: vec![in alloc; Chain {
                 first: 0,
                 last: 0,
@@ -143,6 +149,7 @@ impl ChainStore {
         ensures none_before { HasNoneBetween self.now.queue owner 0 result.low }
         ensures none_behind { HasNoneBetween self.now.queue owner result.high (length self.now.queue.records) }
         ensures within { result.high ≤ length self.now.queue.records }
+        ensures known { result.high + self.now.lacking ≤ length self.now.queue.records }
     {
         self.spans.span(owner, self.owners.len() as u32)
     }
@@ -189,6 +196,7 @@ impl RecordStore for ChainStore {
     fn make_room(&mut self, count: u32) -> Result<(), AllocError> {
         let wanted = (self.reached + count.saturating_sub(self.free_count)) as usize;
         more_records(&mut self.records, wanted)?;
+        more_spots(&mut self.spots, wanted)?;
         more_owners(&mut self.owners, wanted)
     }
 
@@ -242,6 +250,10 @@ impl RecordStore for ChainStore {
         let chain = self.chains[place];
         self.occupied[place / PRIORITIES] = true;
         if chain.count == 0 {
+            self.spots[queued.jct as usize - 1] = Some(Spot {
+                place: place as u8,
+                before: 0,
+            });
             self.chains[place] = Chain {
                 first: queued.jct,
                 last: queued.jct,
@@ -251,6 +263,10 @@ impl RecordStore for ChainStore {
             return Ok(());
         }
         relink(&mut self.records, &self.layout, chain.last, queued.jct);
+        self.spots[queued.jct as usize - 1] = Some(Spot {
+            place: place as u8,
+            before: chain.last,
+        });
         self.chains[place] = Chain {
             first: chain.first,
             last: queued.jct,
@@ -281,34 +297,30 @@ impl RecordStore for ChainStore {
         let _layout = self.layout();
         let place = place_of(queued.class, queued.priority);
         let chain = self.chains[place];
-        let found = Found {
-            place: 0,
-            before: 0,
-            n: chain.first,
-        };
         let next = self.records[chain.first as usize - 1].number(self.layout.link);
-        self.chains[place] = without(chain, found, next);
+        self.chains[place] = without(chain, chain.first, 0, next);
+        leave(&mut self.spots, chain.first, chain.last, next);
         self.occupied[place / PRIORITIES] = is_occupied(&self.chains, place);
         self.waiting -= 1;
     }
 
     fn remove(&mut self, job: u16) -> Option<Queued> {
-        match find_any(&self.records, &self.owners, &self.layout, &self.chains, job) {
-            Some(spot) => {
-                let found = spot.found;
-                let chain = self.chains[spot.place];
+        let _layout = self.layout();
+        if job == 0 {
+            return None;
+        }
+        let span = self.span(job);
+        match find(&self.owners, &self.spots, job, span.low, span.high) {
+            Some(found) => {
+                let place = usize::from(found.spot.place);
+                let chain = self.chains[place];
                 let next = self.records[found.n as usize - 1].number(self.layout.link);
-                if found.place != 0 {
-                    relink(&mut self.records, &self.layout, found.before, next);
-                    self.chains[spot.place] = without(chain, found, next);
-                    self.occupied[spot.place / PRIORITIES] = is_occupied(&self.chains, spot.place);
-                    self.waiting -= 1;
-                    return Some(queued_at(job, found.n, spot.place));
-                }
-                self.chains[spot.place] = without(chain, found, next);
-                self.occupied[spot.place / PRIORITIES] = is_occupied(&self.chains, spot.place);
+                relink_before(&mut self.records, &self.layout, found.spot.before, next);
+                self.chains[place] = without(chain, found.n, found.spot.before, next);
+                leave(&mut self.spots, found.n, chain.last, next);
+                self.occupied[place / PRIORITIES] = is_occupied(&self.chains, place);
                 self.waiting -= 1;
-                Some(queued_at(job, found.n, spot.place))
+                Some(queued_at(job, found.n, place))
             }
             None => None,
         }

@@ -1,4 +1,4 @@
-use Rattle.std.proofs.Common.{◌≡◌, ◌≢◌, ℕ, List, ◌-◌, ◌≤◌, ◌∙◌, ap, arith, get_or, length, subst, suc, sym}
+use Rattle.std.proofs.Common.{◌≡◌, ◌≢◌, ℕ, List, ◌+◌, ◌-◌, ◌≤◌, ◌∙◌, ap, arith, get_or, length, subst, suc, sym}
 use Rattle.cb_queue.specs.RecordQueues.{owner_at}
 use Rattle.record_spans.specs.Spans.{MayOwn}
 use Rattle.chain_store.specs.Chained.{AreChained, AreSpanned, Tables, queue_in, tables_of}
@@ -37,6 +37,16 @@ returns-clause-none_behind c = λ n from within same.
     let inside = c.span.ensures.has (n - 1) (omega (arith, at.0, at.1, whole, size)) at.2 in
     let high = inside.to in
     absurd (omega (arith, high, from, at.0))
+
+pub returns-clause-known : goal.returns-clause-known
+returns-clause-known c =
+    let h = c.self.invariant.tables in
+    let records = h.sound.size in
+    let most = h.most in
+    let whole = c.self.inside.owners.ok.0 in
+    let size = c.len.ensures in
+    let within = c.span.ensures.within in
+    subst (λ (v : Linked). c.span.result.high + v.lacking ≤ length v.queue.records) c.self.view_is (omega (arith, records, most, whole, size, within))
 
 pub overflow_cast-len : goal.overflow_cast-len
 overflow_cast-len c =

@@ -1,10 +1,11 @@
-use Rattle.std.proofs.Common.{◌≡◌, ◌≢◌, ◌+◌, ◌-◌, ◌^◌, ◌<◌, ◌∙◌, All, ap, arith, subst, suc, sym, true}
+use Rattle.std.proofs.Common.{◌≡◌, ◌≢◌, ◌+◌, ◌-◌, ◌^◌, ◌<◌, ◌∙◌, All, ap, arith, length-set, subst, suc, sym, true}
 use Rattle.std.specs.Prelude.{is_some, slice_set}
 use Rattle.cb_queue.specs.RecordQueues.{given_back, record_at}
 use Rattle.chain_store.specs.Chained.{AreChained, queue_in, tables_of}
-use Rattle.chain_store.specs.Links.{link_at}
+use Rattle.chain_store.specs.Links.{link_at, record_of}
 use Rattle.chain_store.specs.Values.{Linked}
 use Rattle.chain_store.proofs.Ops.{chained_given, few_given, few_records, queue_given}
+use Rattle.chain_store.proofs.Placed.{all_records, noted_relinked}
 use Rattle.chain_store.proofs.Spanned.{spanned_given}
 use Rattle.chain_store.proofs.Uses.{number, owner_place, record_place, used_at}
 use Rattle.chain_store.proofs.store.ChainStoreRecordStore.give_back.Goals as goal
@@ -52,6 +53,9 @@ invariant_of-self c =
           (chained_given t h (c.args.n - 1) c.relink.new.records.items (used_at t h c.args.n used) unqueued c.relink.ensures.change
           (subst (λ m. link_at t.layout c.relink.new.records.items m ≡ t.first_free) (sym is) c.relink.ensures.link) fits);
       marked = c.self.invariant.marked;
+      noted = noted_relinked t h c.self.inside.spots.items c.self.invariant.noted c.relink.new.records.items (c.args.n - 1) (record_of t.layout t.records (c.args.n - 1)) c.relink.ensures.change
+          (all_records t h (λ m. m ≢ suc (c.args.n - 1)) unqueued);
+      spots = (let has = c.self.invariant.spots in let size = length-set t.owners (c.args.n - 1) 0 in omega (arith, has, size));
       spanned = spanned_given c.self.inside.spans c.self.inside.owners.items (c.args.n - 1) c.self.invariant.spanned;
     }
 

@@ -3,9 +3,11 @@ use Rattle.std.specs.Prelude.{OnOk}
 use Rattle.std.proofs.lemmas.List.{append-nil, length-take}
 use Rattle.std.specs.declared.alloc.AllocError.{AllocError}
 use Rattle.cb_queue.specs.RecordQueues.{RecordQueue}
-use Rattle.chain_store.specs.Chained.{AreChained, Tables, free_in, tables_of}
+use Rattle.chain_store.specs.Chained.{AreChained, Tables, chained_in, free_in, tables_of}
 use Rattle.chain_store.specs.Values.{Linked}
 use Rattle.chain_store.proofs.Ops.{chained_room, few_records, free_size, given_reached, queue_room}
+use Rattle.chain_store.proofs.Noted.{noted_more, spots_more}
+use Rattle.chain_store.proofs.Placed.{noted_room}
 use Rattle.chain_store.proofs.Spanned.{spanned_more}
 use Rattle.chain_store.proofs.store.ChainStoreRecordStore.make_room.Goals as goal
 
@@ -30,11 +32,40 @@ invariant_of-self c =
       tables = chained_room t h c.more_records.new.records.items t.owners 0 kept (c.more_records.ensures.whole h.whole) (sym (append-nil t.owners))
           (let room = h.room in let longer = ap length kept in omega (arith, room, longer, length-take (length t.records) c.more_records.new.records.items)) h.most;
       marked = c.self.invariant.marked;
+      noted = noted_room t h c.self.inside.spots.items c.self.invariant.noted c.more_records.new.records.items kept;
+      spots = c.self.invariant.spots;
       spanned = c.self.invariant.spanned;
     }
 
 pub returns-in_err-more_records-clause-same : goal.returns-in_err-more_records-clause-same
 returns-in_err-more_records-clause-same c =
+    let t = tables_of c.self.inside in
+    let h = c.self.invariant.tables in
+    let kept = c.more_records.ensures.kept in
+    queue_room t h c.more_records.new.records.items t.owners 0 kept (c.more_records.ensures.whole h.whole) (sym (append-nil t.owners))
+    (let room = h.room in let longer = ap length kept in omega (arith, room, longer, length-take (length t.records) c.more_records.new.records.items)) h.most
+    ∙ ap (λ (v : Linked). v.queue) c.self.view_is
+
+pub invariant_of-self-in_err-more_spots : goal.invariant_of-self-in_err-more_spots
+invariant_of-self-in_err-more_spots c =
+    let t = tables_of c.self.inside in
+    let h = c.self.invariant.tables in
+    let kept = c.more_records.ensures.kept in
+    let new = c.more_records.new.records.items in
+    let spots = c.more_spots.new.spots.items in
+    let more = length spots - length c.self.inside.spots.items in
+    record {
+      tables = chained_room t h new t.owners 0 kept (c.more_records.ensures.whole h.whole) (sym (append-nil t.owners))
+          (let room = h.room in let longer = ap length kept in omega (arith, room, longer, length-take (length t.records) new)) h.most;
+      marked = c.self.invariant.marked;
+      noted = noted_more c.self.inside.spots.items (chained_in (record t { records = new })) (noted_room t h c.self.inside.spots.items c.self.invariant.noted new kept) spots more
+          c.more_spots.ensures.none;
+      spots = (let has = c.self.invariant.spots in let size = spots_more c.self.inside.spots.items spots more c.more_spots.ensures.none in omega (arith, has, size));
+      spanned = c.self.invariant.spanned;
+    }
+
+pub returns-in_err-more_spots-clause-same : goal.returns-in_err-more_spots-clause-same
+returns-in_err-more_spots-clause-same c =
     let t = tables_of c.self.inside in
     let h = c.self.invariant.tables in
     let kept = c.more_records.ensures.kept in
@@ -49,6 +80,8 @@ invariant_of-self-2 c =
     let kept = c.more_records.ensures.kept in
     let new = c.more_records.new.records.items in
     let owners = c.more_owners.new.owners.items in
+    let spots = c.more_spots.new.spots.items in
+    let more = length spots - length c.self.inside.spots.items in
     let asked = subst (λ (v : Linked). c.args.count ≤ length v.queue.free) (sym c.self.view_is) c.requires in
     let size = free_size t h in
     let reached = h.reached in
@@ -63,6 +96,11 @@ invariant_of-self-2 c =
           (c.more_owners.ensures.most (length new) (omega (arith, room, longer, cut)) enough)
           (c.more_owners.ensures.most t.layout.most_records most (omega (arith, asked, size, reached, most, sub)));
       marked = c.self.invariant.marked;
+      noted = noted_more c.self.inside.spots.items (chained_in (record t { records = new })) (noted_room t h c.self.inside.spots.items c.self.invariant.noted new kept) spots more
+          c.more_spots.ensures.none;
+      spots = c.more_owners.ensures.most (length spots)
+          (let has = c.self.invariant.spots in let longer = spots_more c.self.inside.spots.items spots more c.more_spots.ensures.none in omega (arith, has, longer))
+          c.in_ok-more_spots.ensures.ok;
       spanned = spanned_more c.self.inside.spans t.owners owners (length owners - length t.owners) c.more_owners.ensures.zeros c.self.invariant.spanned;
     }
 

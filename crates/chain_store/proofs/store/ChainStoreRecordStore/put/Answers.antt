@@ -8,6 +8,7 @@ use Rattle.chain_store.specs.Links.{link_at}
 use Rattle.chain_store.specs.Values.{Linked}
 use Rattle.chain_store.proofs.Bytes.{bytes_unlinked}
 use Rattle.chain_store.proofs.Ops.{chained_written, queue_written}
+use Rattle.chain_store.proofs.Placed.{noted_rewritten}
 use Rattle.chain_store.proofs.Uses.{is_owned, number, record_place, used_at}
 use Rattle.chain_store.proofs.store.ChainStoreRecordStore.put.Goals as goal
 
@@ -32,6 +33,9 @@ invariant_of-self c =
           (in_use_put l h.sound.own_link c.args.rec.now c.rewrite.ensures.whole rec_owner (bytes_unlinked l h.sound.own_link c.args.rec.now c.rewrite.ensures.bytes))
           (owner_put l h.sound.own_link c.args.rec.now c.rewrite.ensures.whole ∙ owner ∙ ap (owner_at (queue_in t)) (sym is));
       marked = c.self.invariant.marked;
+      noted = noted_rewritten t h c.self.inside.spots.items c.self.invariant.noted c.rewrite.new.records.items (c.args.n - 1) (unlinked l c.args.rec.now) c.rewrite.ensures.change
+          (subst (λ m. link_at l c.rewrite.new.records.items m ≡ link_at l t.records m) (sym is) c.rewrite.ensures.link);
+      spots = c.self.invariant.spots;
       spanned = c.self.invariant.spanned;
     }
 

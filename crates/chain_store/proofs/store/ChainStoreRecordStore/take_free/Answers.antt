@@ -1,4 +1,4 @@
-use Rattle.std.proofs.Common.{◌≡◌, ◌+◌, ◌-◌, ◌<◌, ◌≤◌, ◌∙◌, [], ap, arith, length, subst, suc, sym}
+use Rattle.std.proofs.Common.{◌≡◌, ◌+◌, ◌-◌, ◌<◌, ◌≤◌, ◌∙◌, [], ap, arith, length, length-set, subst, suc, sym}
 use Rattle.std.specs.Prelude.{slice_set}
 use Rattle.std.proofs.lemmas.List.{get_or_read}
 use Rattle.cb_meaning.specs.Fields.{number_at}
@@ -6,8 +6,9 @@ use Rattle.cb_queue.specs.RecordQueues.{next_free, taken, zero_record}
 use Rattle.chain_store.specs.Chained.{AreChained, link_in, queue_in, tables_of}
 use Rattle.chain_store.specs.Links.{Changes}
 use Rattle.chain_store.specs.Values.{Linked}
+use Rattle.chain_store.proofs.Placed.{noted_relinked}
 use Rattle.chain_store.proofs.Spanned.{spanned_taken}
-use Rattle.chain_store.proofs.Taking.{answer_fresh, answer_given, chained_from_fresh, chained_from_given, first_there, fresh_there, queue_from_fresh, queue_from_given}
+use Rattle.chain_store.proofs.Taking.{answer_fresh, answer_given, chained_from_fresh, chained_from_given, first_there, fresh_there, out_fresh, out_given, queue_from_fresh, queue_from_given}
 use Rattle.chain_store.proofs.store.ChainStoreRecordStore.take_free.Goals as goal
 
 pub overflow_sub-n : goal.overflow_sub-n
@@ -59,6 +60,9 @@ invariant_of-self c =
       tables = chained_from_given t h c.args.owner c.requires.owner c.ranges.owner.fits c.if-self-ne0.true c.renew.new.records.items c.number-self-inside.result led
           c.number-self-inside.ensures.small c.renew.ensures.change c.renew.ensures.bytes;
       marked = c.self.invariant.marked;
+      noted = noted_relinked t h c.self.inside.spots.items c.self.invariant.noted c.renew.new.records.items (t.first_free - 1) (zero_record c.args.owner) c.renew.ensures.change
+          (out_given t h c.args.owner c.requires.owner c.ranges.owner.fits c.if-self-ne0.true);
+      spots = (let has = c.self.invariant.spots in let size = length-set t.owners (t.first_free - 1) c.args.owner in omega (arith, has, size));
       spanned = spanned_taken c.self.inside.spans c.widen.new.self c.self.inside.owners.items (t.first_free - 1) c.args.owner c.widen.ensures.still c.widen.ensures.further
           c.self.invariant.spanned;
     }
@@ -114,6 +118,9 @@ invariant_of-self-2 c =
           (chained_from_fresh t h c.args.owner c.requires.owner c.ranges.owner.fits c.if-self-ne0.false c.if-self.false enough c.renew-2.new.records.items change
           c.renew-2.ensures.bytes);
       marked = c.self.invariant.marked;
+      noted = noted_relinked t h c.self.inside.spots.items c.self.invariant.noted c.renew-2.new.records.items t.reached (zero_record c.args.owner) change
+          (out_fresh t h c.args.owner c.requires.owner c.ranges.owner.fits c.if-self-ne0.false c.if-self.false);
+      spots = (let has = c.self.invariant.spots in let size = length-set t.owners (t.reached + 1 - 1) c.args.owner in omega (arith, has, size));
       spanned = spanned_taken c.self.inside.spans c.widen-2.new.self c.self.inside.owners.items (t.reached + 1 - 1) c.args.owner c.widen-2.ensures.still
           c.widen-2.ensures.further c.self.invariant.spanned;
     }

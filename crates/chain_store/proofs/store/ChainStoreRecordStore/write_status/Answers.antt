@@ -8,6 +8,7 @@ use Rattle.chain_store.specs.Chained.{queue_in, tables_of}
 use Rattle.chain_store.specs.Links.{link_at, record_of}
 use Rattle.chain_store.specs.Values.{Linked}
 use Rattle.chain_store.proofs.Ops.{chained_written, queue_written, record_there, used_record}
+use Rattle.chain_store.proofs.Placed.{noted_rewritten}
 use Rattle.chain_store.proofs.Uses.{number, record_place, used_at}
 use Rattle.chain_store.proofs.store.ChainStoreRecordStore.write_status.Goals as goal
 
@@ -32,6 +33,9 @@ invariant_of-self c =
           (in_use_status l h.sound.own_link old c.args.status.now (used_record t h (c.args.n - 1) at) c.told-status c.rewrite_status.ensures.bytes)
           (owner_status l h.sound.own_link old c.args.status.now (used_record t h (c.args.n - 1) at) c.told-status ∙ sym (ap owner_in (record_there t h (c.args.n - 1) at)));
       marked = c.self.invariant.marked;
+      noted = noted_rewritten t h c.self.inside.spots.items c.self.invariant.noted c.rewrite_status.new.records.items (c.args.n - 1) (with_part old 168 c.args.status.now) c.rewrite_status.ensures.change
+          (subst (λ m. link_at l c.rewrite_status.new.records.items m ≡ link_at l t.records m) (sym is) c.rewrite_status.ensures.link);
+      spots = c.self.invariant.spots;
       spanned = c.self.invariant.spanned;
     }
 
