@@ -1,3 +1,2 @@
 pub mod RecordQueues
 pub mod Stored
-pub mod Spans

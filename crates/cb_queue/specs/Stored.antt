@@ -5,7 +5,7 @@ use Rattle.cb_meaning.specs.declared.layout.Layout.{Layout}
 use Rattle.queue_core.specs.declared.queue.Queued.{Queued}
 use Rattle.cb_queue.specs.declared.list_store.ListStore.TheInside.{Inside}
 use Rattle.cb_queue.specs.RecordQueues.{IsSoundQueue, RecordQueue, owner_in}
-use Rattle.cb_queue.specs.Spans.{AreSpanned}
+use Rattle.record_spans.specs.Spans.{AreSpanned}
 
 -- a record, or none where it has no owner
 abbrev pub seen_record : ℕ → List ℕ → Option (List ℕ)
@@ -44,4 +44,4 @@ IsStored a = AreStored a.layout a.owners.items a.records.items a.free.items a.fr
 
 -- and each record is in the span of its owner
 abbrev pub IsSpanned : Inside → Type 0
-IsSpanned a = IsStored a × AreSpanned a.spans.items a.owners.items
+IsSpanned a = IsStored a × AreSpanned a.spans a.owners.items

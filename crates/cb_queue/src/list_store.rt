@@ -2,7 +2,6 @@
 ghost use Rattle.std.specs.Prelude.{◌≡◌, ◌≢◌, ◌<◌, ◌≤◌, ◌^◌, IfOk, None, length, replicate, reverse, true};
 ghost use Rattle.cb_meaning.specs.declared.layout.TheConstants.{RECORD_BYTES};
 ghost use Rattle.cb_queue.specs.RecordQueues.{HasNoneBetween, HasOwnLink, empty_queue, owner_at, record_at, zero_record};
-ghost use Rattle.cb_queue.specs.Spans.{AreWidened, Widens};
 ghost use Rattle.cb_records.specs.Laws.{AreBytes};
 ghost use Rattle.cb_records.specs.Writes.{HoldsNumber};
 ghost use Rattle.plain.specs.Lists.{numbers_from};
@@ -13,23 +12,12 @@ use cb_meaning::layout::{Field, Layout};
 use cb_records::laws::are_bytes;
 use cb_records::rec::{OWNER, Rec, STATUS};
 use queue_core::queue::{JobQueue, Queued};
+use record_spans::spans::{Span, Spans};
 use std::alloc::{AllocError, Global};
 use std::marker::Model;
 
 /// How many owners are looked at together.
 const BLOCK: u32 = 64;
-
-/// Of so many jobs, by their numbers from 0, it is known where their records are; of more than a session may have.
-const SPAN_PIECE: usize = 64;
-
-const SPAN_PIECES: usize = 157;
-
-/// All records of a job are behind one number, up to another.
-#[derive(Clone, Copy)]
-struct Span {
-    low: u32,
-    high: u32,
-}
 
 /// A store of records in one table, got when it is made.
 #[derive(Drop)]
@@ -41,8 +29,7 @@ pub struct ListStore {
     /// Of these the first `free_count` are the numbers of the free records, the one that is taken next last.
     free: Vec<u32>,
     free_count: u32,
-    /// Where the records of a job are, by its number; a job behind the last has its records anywhere.
-    spans: Vec<Span>,
+    spans: Spans,
     waiting: JobQueue,
 }
 
@@ -88,44 +75,6 @@ fn blank_records(alloc: Global, count: usize) -> Result<Vec<Rec>, AllocError>
     Ok(records)
 }
 
-/// Spans of jobs that have no record yet, filled by pieces.
-fn no_spans(alloc: Global) -> Result<Vec<Span>, AllocError> {
-    let piece = [Span { low: 0, high: 0 }; SPAN_PIECE];
-    let mut spans = Vec::with_capacity(alloc, SPAN_PIECE * SPAN_PIECES)?;
-    for _ in 0..SPAN_PIECES {
-        spans.extend_from_slice(piece.as_slice())?;
-    }
-    Ok(spans)
-}
-
-/// A span with a further record.
-fn widened(span: Span, n: u32) -> Span
-    requires { 0 < n }
-    ensures { Widens span n result }
-{
-    if span.high == 0 {
-        return Span {
-            low: n - 1,
-            high: n,
-        };
-    }
-    Span {
-        low: span.low.min(n - 1),
-        high: span.high.max(n),
-    }
-}
-
-/// A job has a further record.
-fn widen(spans: &mut Vec<Span>, owner: u16, n: u32)
-    requires { 0 < n }
-    ensures { AreWidened spans.old.items owner n spans.new.items }
-{
-    let place = usize::from(owner);
-    if place < spans.len() {
-        spans[place] = widened(spans[place], n);
-    }
-}
-
 /// Writes zeros in the place of a record, and its owner.
 fn write_zero_record(own: &mut Rec, owner: u16)
     ensures value { own.new ≡ zero_record owner }
@@ -162,7 +111,7 @@ impl ListStore {
             owners: vec![in alloc; 0; count]?,
             free: all_numbers(alloc, layout.most_records)?,
             free_count: layout.most_records,
-            spans: no_spans(alloc)?,
+            spans: Spans::new(alloc)?,
             waiting: JobQueue::new(alloc),
         })
     }
@@ -181,21 +130,14 @@ impl ListStore {
         }
     }
 
-    /// Where the records of a job are.
+    /// The records among which a job's are, and that the others are not.
     fn span(&self, owner: u16) -> Span
         requires { owner ≢ 0 }
         ensures none_before { HasNoneBetween self.now owner 0 result.low }
         ensures none_behind { HasNoneBetween self.now owner result.high (length self.now.records) }
         ensures within { result.high ≤ length self.now.records }
     {
-        let most = self.layout.most_records;
-        match self.spans.get(usize::from(owner)) {
-            Some(span) => Span {
-                low: span.low.min(most),
-                high: span.high.min(most),
-            },
-            None => Span { low: 0, high: most },
-        }
+        self.spans.span(owner, self.layout.most_records)
     }
 
     /// Whether none of the records behind one number, up to another, is a job's.
@@ -258,7 +200,7 @@ impl RecordStore for ListStore {
         let n = self.free[self.free_count as usize];
         write_zero_record(&mut self.records[n as usize - 1], owner);
         self.owners[n as usize - 1] = owner;
-        widen(&mut self.spans, owner, n);
+        self.spans.widen(owner, n);
         Some(n)
     }
 

@@ -7,7 +7,6 @@ pub mod Walks
 pub mod Rechained
 pub mod Uses
 pub mod Entering
-pub mod Spanned
 pub mod Marked
 pub mod Noted
 pub mod Placed

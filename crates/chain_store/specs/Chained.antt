@@ -1,13 +1,12 @@
 -- How a table of records, their owners and chains through their links are a queue. (This profile)
-use Rattle.std.specs.Prelude.{◌≡◌, ◌≢◌, ℕ, ◌+◌, ◌-◌, ◌^◌, ◌<◌, ◌≤◌, ◌==◌, All, List, ◌++◌, Option, None, get_or, length, map, replicate}
+use Rattle.std.specs.Prelude.{◌≡◌, ◌≢◌, ℕ, ◌+◌, ◌-◌, ◌^◌, ◌<◌, ◌≤◌, ◌==◌, All, List, ◌++◌, Option, None, length, map, replicate}
 use Rattle.std.specs.List.{count_by}
 use Rattle.cb_meaning.specs.declared.layout.Layout.{Layout}
 use Rattle.queue_core.specs.declared.queue.Queued.{Queued}
 use Rattle.cb_queue.specs.RecordQueues.{AreInOrder, IsSoundQueue, RecordQueue, owner_in}
 use Rattle.cb_queue.specs.Stored.{seen_records}
 use Rattle.plain.specs.Lists.{numbers_from}
-use Rattle.record_spans.specs.declared.spans.Span.{Span}
-use Rattle.record_spans.specs.Spans.{MayOwn}
+use Rattle.record_spans.specs.Spans.{AreSpanned}
 use Rattle.chain_store.specs.declared.chains.Chain.{Chain}
 use Rattle.chain_store.specs.declared.store.ChainStore.TheInside.{Inside}
 use Rattle.chain_store.specs.Chains.{AreDifferentJobs, AreMarked, AreThere, all_jobs, chain, chain_of, jobs_of, last_of, ordered}
@@ -91,10 +90,6 @@ pub record AreChained (t : Tables) : Type 0 where
   pub in_order : (place : ℕ) → AreInOrder (jobs_of (owned_by t.owners) (link_in t) place (chain_in t place))
   pub last : (place : ℕ) → (chain_in t place).count ≢ 0 → last_of (chain (link_in t) (chain_in t place).first (chain_in t place).count) ≡ (chain_in t place).last
   pub waiting : t.waiting ≡ length (jobs_in t)
-
--- each record that is owned is in the span of its owner
-abbrev pub AreSpanned : List Span → List ℕ → Type 0
-AreSpanned spans owners = (k : ℕ) → get_or owners k 0 ≢ 0 → MayOwn spans (get_or owners k 0) k
 
 abbrev pub view_of : Inside → Linked
 view_of a = linked (tables_of a)

@@ -1,5 +1,5 @@
 //! Where the first records of the jobs that wait stand, by their numbers.
-ghost use Rattle.std.specs.Prelude.{◌≡◌, ◌≢◌, ℕ, ◌-◌, ◌<◌, ◌≤◌, ◌++◌, IfNone, IfSome, None, OnOk, length, replicate, slice_set};
+ghost use Rattle.std.specs.Prelude.{◌≡◌, ◌≢◌, ◌-◌, ◌<◌, ◌≤◌, ◌++◌, IfNone, IfSome, None, OnOk, length, replicate, slice_set};
 ghost use Rattle.chain_store.specs.Spots.{HasNoSpot, IsFound, spot_of};
 
 use std::alloc::AllocError;

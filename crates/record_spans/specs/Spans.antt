@@ -1,5 +1,5 @@
 -- Where the records of a job are, by its number. A record has its place, from 0.
-use Rattle.std.specs.Prelude.{◌≡◌, ℕ, ◌+◌, ◌<◌, ◌≤◌, List, get_or, length}
+use Rattle.std.specs.Prelude.{◌≡◌, ◌≢◌, ℕ, ◌+◌, ◌<◌, ◌≤◌, List, get_or, length}
 use Rattle.record_spans.specs.declared.spans.Span.{Span}
 
 -- the record at a place is in a span
@@ -18,3 +18,7 @@ pub record Widens (span : Span) (n : ℕ) (wide : Span) : Type 0 where
 -- the record at a place may be an owner's: it is in the owner's span, if the owner has one
 abbrev pub MayOwn : List Span → ℕ → ℕ → Type 0
 MayOwn spans owner k = owner < length spans → IsIn (get_or spans owner no_span) k
+
+-- each record that has an owner is in the owner's span, by the owners of the records
+abbrev pub AreSpanned : List Span → List ℕ → Type 0
+AreSpanned spans owners = (k : ℕ) → get_or owners k 0 ≢ 0 → MayOwn spans (get_or owners k 0) k

@@ -2,7 +2,7 @@ use Rattle.std.proofs.Common.{◌≡◌, ◌≢◌, ◌-◌, ◌∙◌, All, ap,
 use Rattle.std.specs.Prelude.{is_some}
 use Rattle.cb_queue.specs.RecordQueues.{RecordQueue, given_back, record_at}
 use Rattle.cb_queue.specs.Stored.{seen}
-use Rattle.cb_queue.proofs.Spanned.{spanned_given}
+use Rattle.record_spans.proofs.Spanned.{spanned_given}
 use Rattle.cb_queue.proofs.Uses.{given_seen, given_stored, reach, room_there}
 use Rattle.cb_queue.proofs.list_store.ListStoreRecordStore.give_back.Goals as goal
 
@@ -34,7 +34,7 @@ invariant_of-self c =
     let used : is_some (record_at (seen c.self.inside) c.args.n) ≡ true = rw c.self.view_is c.requires.used in (
       given_stored c.self.inside c.self.invariant.0 c.args.n used
           (subst (λ (q : RecordQueue). All (λ x. x.jct ≢ c.args.n) q.waiting) (sym c.self.view_is) c.requires.unqueued),
-      spanned_given c.self.inside.spans.items c.self.inside.owners.items (c.args.n - 1) c.self.invariant.1,
+      spanned_given c.self.inside.spans c.self.inside.owners.items (c.args.n - 1) c.self.invariant.1,
     )
 
 pub returns-clause-value : goal.returns-clause-value

@@ -3,8 +3,7 @@ use Rattle.std.specs.Prelude.{slice_set}
 use Rattle.std.proofs.lemmas.List.Elements.{All-same}
 use Rattle.cb_queue.specs.RecordQueues.{next_free, taken, zero_record}
 use Rattle.cb_queue.specs.Stored.{AreStored, seen_in}
-use Rattle.cb_queue.specs.Spans.{AreWidened}
-use Rattle.cb_queue.proofs.Spanned.{spanned_taken}
+use Rattle.record_spans.proofs.Spanned.{spanned_taken}
 use Rattle.cb_queue.proofs.Uses.{answer_there, number, taken_seen, taken_stored}
 use Rattle.cb_queue.proofs.list_store.ListStoreRecordStore.take_free.Goals as goal
 
@@ -48,8 +47,7 @@ invariant_of-self c =
       subst (λ r. AreStored a.layout (slice_set a.owners.items (n - 1) c.args.owner) (slice_set a.records.items (n - 1) r) a.free.items (a.free_count - 1) a.waiting)
           (sym c.write_zero_record.ensures.value) (taken_stored a c.self.invariant.0 n (a.free_count - 1) c.args.owner more c.index-n.ensures c.requires.owner
           (All-same (λ b. b < 256) (zero_record c.args.owner) c.write_zero_record.new.own (sym c.write_zero_record.ensures.value) c.write_zero_record.ensures.bytes)),
-      spanned_taken a.spans.items c.widen.new.spans.items a.owners.items (n - 1) c.args.owner
-          (subst (λ m. AreWidened a.spans.items c.args.owner m c.widen.new.spans.items) (omega (arith, at.0)) c.widen.ensures) c.self.invariant.1,
+      spanned_taken a.spans c.widen.new.self a.owners.items (n - 1) c.args.owner c.widen.ensures.still c.widen.ensures.further c.self.invariant.1,
     )
 
 pub returns-clause-answer : goal.returns-clause-answer

@@ -1,11 +1,11 @@
 use Rattle.std.proofs.Common.{◌∙◌, ap, arith, false, length, replicate, subst, sym}
 use Rattle.chain_store.specs.declared.chains.Chain.{Chain}
-use Rattle.chain_store.specs.Chained.{AreSpanned}
+use Rattle.record_spans.specs.Spans.{AreSpanned}
 use Rattle.chain_store.specs.Chains.{chain, chain_of}
 use Rattle.chain_store.specs.Links.{link_at}
 use Rattle.chain_store.proofs.Marked.{marked_first}
 use Rattle.chain_store.proofs.Noted.{noted_first}
-use Rattle.chain_store.proofs.Spanned.{spanned_first}
+use Rattle.record_spans.proofs.Spanned.{spanned_first}
 use Rattle.chain_store.proofs.Starting.{chained_new, linked_new, no_chain_at}
 use Rattle.chain_store.proofs.store.ChainStore.new.Goals as goal
 

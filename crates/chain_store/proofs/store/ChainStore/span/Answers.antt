@@ -1,7 +1,7 @@
 use Rattle.std.proofs.Common.{◌≡◌, ◌≢◌, ℕ, List, ◌+◌, ◌-◌, ◌≤◌, ◌∙◌, ap, arith, get_or, length, subst, suc, sym}
 use Rattle.cb_queue.specs.RecordQueues.{owner_at}
-use Rattle.record_spans.specs.Spans.{MayOwn}
-use Rattle.chain_store.specs.Chained.{AreChained, AreSpanned, Tables, queue_in, tables_of}
+use Rattle.record_spans.specs.Spans.{AreSpanned, MayOwn}
+use Rattle.chain_store.specs.Chained.{AreChained, Tables, queue_in, tables_of}
 use Rattle.chain_store.specs.Values.{Linked}
 use Rattle.record_spans.specs.declared.spans.Span.{Span}
 use Rattle.chain_store.proofs.Ops.{few_records, owned_place, owner_there}

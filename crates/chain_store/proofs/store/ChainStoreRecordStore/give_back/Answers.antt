@@ -6,7 +6,7 @@ use Rattle.chain_store.specs.Links.{link_at, record_of}
 use Rattle.chain_store.specs.Values.{Linked}
 use Rattle.chain_store.proofs.Ops.{chained_given, few_given, few_records, queue_given}
 use Rattle.chain_store.proofs.Placed.{all_records, noted_relinked}
-use Rattle.chain_store.proofs.Spanned.{spanned_given}
+use Rattle.record_spans.proofs.Spanned.{spanned_given}
 use Rattle.chain_store.proofs.Uses.{number, owner_place, record_place, used_at}
 use Rattle.chain_store.proofs.store.ChainStoreRecordStore.give_back.Goals as goal
 

@@ -8,7 +8,7 @@ use Rattle.chain_store.specs.Values.{Linked}
 use Rattle.chain_store.proofs.Ops.{chained_room, few_records, free_size, given_reached, queue_room}
 use Rattle.chain_store.proofs.Noted.{noted_more, spots_more}
 use Rattle.chain_store.proofs.Placed.{noted_room}
-use Rattle.chain_store.proofs.Spanned.{spanned_more}
+use Rattle.record_spans.proofs.Spanned.{spanned_more}
 use Rattle.chain_store.proofs.store.ChainStoreRecordStore.make_room.Goals as goal
 
 pub overflow_add-wanted : goal.overflow_add-wanted

@@ -7,7 +7,7 @@ use Rattle.chain_store.specs.Chained.{AreChained, link_in, queue_in, tables_of}
 use Rattle.chain_store.specs.Links.{Changes}
 use Rattle.chain_store.specs.Values.{Linked}
 use Rattle.chain_store.proofs.Placed.{noted_relinked}
-use Rattle.chain_store.proofs.Spanned.{spanned_taken}
+use Rattle.record_spans.proofs.Spanned.{spanned_taken}
 use Rattle.chain_store.proofs.Taking.{answer_fresh, answer_given, chained_from_fresh, chained_from_given, first_there, fresh_there, out_fresh, out_given, queue_from_fresh, queue_from_given}
 use Rattle.chain_store.proofs.store.ChainStoreRecordStore.take_free.Goals as goal
 

@@ -1,9 +1,8 @@
--- The records of a job are in its span.
+-- Records that are taken, given back and added stay in the spans of their owners.
 use Rattle.std.proofs.Common.{◌≡◌, ℕ, zero, suc, ◌⊎◌, inl, inr, List, [], ◌∷◌, ap, get_or, refl, replicate, subst, sym, ◌++◌, ◌∙◌}
 use Rattle.std.specs.Prelude.{slice_set}
 use Rattle.record_spans.specs.declared.spans.Span.{Span}
-use Rattle.record_spans.specs.Spans.{MayOwn}
-use Rattle.chain_store.specs.Chained.{AreSpanned}
+use Rattle.record_spans.specs.Spans.{AreSpanned, MayOwn}
 
 -- a record that has another owner, or none
 set_read : (owners : List ℕ) (i o k : ℕ) → (get_or (slice_set owners i o) k 0 ≡ get_or owners k 0) ⊎ ((k ≡ i) × (get_or (slice_set owners i o) k 0 ≡ o))
@@ -50,3 +49,6 @@ spanned_more spans owners new more is all k some =
 
 pub spanned_first : (spans : List Span) → AreSpanned spans []
 spanned_first spans k some = absurd (some refl)
+
+pub spanned_free : (spans : List Span) (owners : List ℕ) (count : ℕ) → owners ≡ replicate count 0 → AreSpanned spans owners
+spanned_free spans owners count is = spanned_more spans [] owners count is (spanned_first spans)
