@@ -50,7 +50,7 @@ module _ (q : RecordQueue) (job : ℕ) where
       subst (AreCards q (suc fuel)) (sym h.2)
       (more_along next (IsOfKind q card_record) fuel n h.4.of_kind (cards_of_kind fuel (next n) numbers h.1 h.6))
 
-  below_of_kind : (s numbers : List ℕ) (kind : DdKind) → byte_at s 12 ≡ kind_code kind →
+  pub below_of_kind : (s numbers : List ℕ) (kind : DdKind) → byte_at s 12 ≡ kind_code kind →
       Below q.layout (shown q) job (number_at s q.layout.below) numbers kind → IsBelowOfKind q s
   below_of_kind s numbers Dummy is h = record { set = λ e. absurd cc; cards = λ e. absurd cc }
   below_of_kind s numbers (Sysout class) is h = record { set = λ e. absurd cc; cards = λ e. absurd cc }

@@ -13,7 +13,7 @@ use plain::listed::Listed;
 use std::alloc::{AllocError, Global};
 
 /// A card of its own.
-fn card(text: &[u8]) -> Record
+pub fn card(text: &[u8]) -> Record
     requires { length text.now ≡ 80 }
     ensures { result ≡ text.now }
 {

@@ -23,7 +23,8 @@ pub(crate) fn operator_read(n: u8) -> Operator
     }
 }
 
-pub(crate) fn after_abend_read(n: u8) -> AfterAbend
+/// When a step runs after an ABEND, by its number.
+pub fn after_abend_read(n: u8) -> AfterAbend
     ensures { result ≡ after_abend_read n }
 {
     if n == 0 {
@@ -35,7 +36,8 @@ pub(crate) fn after_abend_read(n: u8) -> AfterAbend
     }
 }
 
-pub(crate) fn status_read(n: u8) -> Status
+/// The status of a set, by its number.
+pub fn status_read(n: u8) -> Status
     ensures { result ≡ status_read n }
 {
     if n == 1 {
@@ -49,7 +51,8 @@ pub(crate) fn status_read(n: u8) -> Status
     }
 }
 
-pub(crate) fn normal_read(n: u8) -> Option<Word>
+/// What becomes of a set where its step ends normally, by its number; none where it is omitted.
+pub fn normal_read(n: u8) -> Option<Word>
     ensures { result ≡ normal_read n }
 {
     if n == 0 {
@@ -67,7 +70,8 @@ pub(crate) fn normal_read(n: u8) -> Option<Word>
     }
 }
 
-pub(crate) fn conditional_read(n: u8) -> Option<ConditionalWord>
+/// What becomes of a set where its step ends by an ABEND, by its number; none where it is omitted.
+pub fn conditional_read(n: u8) -> Option<ConditionalWord>
     ensures { result ≡ conditional_read n }
 {
     if n == 0 {

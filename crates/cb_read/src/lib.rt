@@ -1,14 +1,14 @@
 //! A job's plan, read from its records. (This profile)
 #![tactic(auto)]
 
-mod cards;
-mod codes;
+pub mod cards;
+pub mod codes;
 mod dds;
 mod head;
 pub mod laws;
-mod names;
+pub mod names;
 pub mod read;
 pub mod records;
-mod set;
+pub mod set;
 mod steps;
-mod tests_read;
+pub mod tests_read;

@@ -11,7 +11,7 @@ use jname_core::name8::Name8;
 use jname_core::serial::Serial;
 
 /// The name of a field that holds one.
-pub(crate) fn name8(text: &[u8]) -> Name8
+pub fn name8(text: &[u8]) -> Name8
     requires { IsName8 (trimmed text.now) }
     ensures { result ≡ trimmed text.now }
 {
@@ -19,7 +19,7 @@ pub(crate) fn name8(text: &[u8]) -> Name8
 }
 
 /// A name, or none of a blank field.
-pub(crate) fn name_read(text: &[u8]) -> Option<Name8>
+pub fn name_read(text: &[u8]) -> Option<Name8>
     requires { IsName (name_read text.now) }
     ensures { result ≡ name_read text.now }
 {

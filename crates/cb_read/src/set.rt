@@ -33,7 +33,8 @@ fn key_read(r: &JfcbView<'_>) -> Key
     }
 }
 
-fn volume_read(s: &SiotView<'_>, r: &JfcbView<'_>) -> VolumePlan
+/// Where a set is looked for, of its SIOT and its JFCB.
+pub fn volume_read(s: &SiotView<'_>, r: &JfcbView<'_>) -> VolumePlan
     requires { IsVolumeInRange (volume_read s.now.bytes.now r.now.bytes.now) }
     ensures { result ≡ volume_read s.now.bytes.now r.now.bytes.now }
 {

@@ -13,7 +13,7 @@ use jcl_plan::plan::{Test, Tests, no_tests};
 
 /// Whose tests they are.
 #[derive(Clone, Copy)]
-pub(crate) enum TestsOf {
+pub enum TestsOf {
     Job,
     Step,
 }
@@ -45,7 +45,8 @@ fn job_test_read(test: &[u8]) -> Test
     }
 }
 
-fn step_test_read(test: &[u8]) -> Test
+/// A test of a step, of its five bytes.
+pub fn step_test_read(test: &[u8]) -> Test
     requires size { 5 ≤ length test.now }
     requires range { IsTestInRange (step_test_read test.now) }
     ensures { result ≡ step_test_read test.now }
@@ -79,7 +80,7 @@ fn test_read(kind: TestsOf, test: &[u8]) -> Test
 }
 
 /// The first so many of the eight tests.
-pub(crate) fn tests_read(kind: TestsOf, bytes: &[u8], count: u8) -> Tests
+pub fn tests_read(kind: TestsOf, bytes: &[u8], count: u8) -> Tests
     requires size { width_of kind * 8 ≤ length bytes.now }
     requires range { All IsTestInRange (map (test_read kind) (take count (in_parts 8 (width_of kind) bytes.now))) }
     ensures { result.items ≡ map (test_read kind) (take count (in_parts 8 (width_of kind) bytes.now)) }

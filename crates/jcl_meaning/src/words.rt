@@ -65,7 +65,8 @@ pub fn word_done(normal: Option<Word>, conditional: Option<Word>, abended: bool,
     }
 }
 
-fn is_pass(word: Option<Word>) -> bool
+/// Whether a word passes a set to later steps.
+pub fn is_pass(word: Option<Word>) -> bool
     ensures { result ≡ is_pass word }
 {
     match word {
