@@ -1,0 +1,21 @@
+use Rattle.std.proofs.Common.{◌∙◌, ap, sym}
+use Rattle.job_text.specs.Texts.{source_text}
+use Rattle.job_records.specs.Fields.{fields_of_siot}
+use Rattle.job_records.specs.Said.{source_said}
+use Rattle.job_records.proofs.Meant.{source_is}
+use Rattle.job_records.proofs.There.{counted, dd_there}
+use Rattle.jcl_plan.specs.declared.plan.DdPlan.{DdPlan}
+use Rattle.cb_queue.specs.RecordQueues.{shown}
+use Rattle.cb_read.specs.Chains.{plan_of}
+use Rattle.job_text.specs.Places.{dd_at, step_at}
+use Rattle.job_records.specs.Recorded.{siot_at}
+use Rattle.job_records.proofs.records.JobRecordsJobText.source.Goals as goal
+
+pub returns : goal.returns
+returns g c =
+    let q = g.S.RecordStore.queue c.args.self.now.store.now in
+    let there = dd_there q c.args.self.now.jct c.requires.reads.recorded c.args.step c.requires.step c.args.dd c.requires.dd in
+    let same = (λ i. fields_of_siot (c.siot.ensures.layout i) c.siot.result.bytes.now) ∙ c.siot.ensures.fields in
+    let n = siot_at q c.args.self.now.jct c.args.step c.args.dd in
+    let dd = dd_at (step_at (plan_of q c.args.self.now.jct).steps c.args.step).dds c.args.dd in
+    c.source_said.ensures ∙ ap source_said same ∙ sym (source_is q.layout (shown q) ((shown q).at n) (counted q n dd there)) ∙ sym (ap (λ (d : DdPlan). source_text d.kind) there.is)

@@ -1,0 +1,9 @@
+//! A job that is read where it stands: each field from its record, and no name read anew. (This profile)
+#![tactic(auto)]
+
+mod cards;
+pub mod laws;
+mod lent;
+mod places;
+pub mod records;
+mod said;
