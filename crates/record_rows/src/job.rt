@@ -1,5 +1,8 @@
 //! Jobs in the records of a store: how they are written, and what is read of them.
-ghost use Rattle.std.specs.Prelude.{◌≡◌, ◌≢◌, ◌+◌, ◌≤◌, ℕ, length, true};
+ghost use Rattle.std.specs.Prelude.{◌≡◌, ◌≢◌, ◌+◌, ◌≤◌, ◌∷◌, IfOk, List, ℕ, length, true};
+ghost use Rattle.cb_meaning.specs.Spelled.{Denotes};
+ghost use Rattle.cb_queue.specs.RecordQueues.{shown};
+ghost use Rattle.queued_job.specs.Reads.{IsRead};
 ghost use Rattle.cb_meaning.specs.Needs.{records_needed};
 ghost use Rattle.cb_meaning.specs.Writable.{IsWritable};
 ghost use Rattle.cb_meaning.specs.declared.layout.TheConstants.{LAYOUT_1};
@@ -13,9 +16,12 @@ use cb_chain::write::write_job;
 use cb_meaning::layout::LAYOUT_1;
 use cb_queue::store::RecordStore;
 use cb_read::laws::the_first_layout_has_own_fields;
+use cb_read::records::are_records;
 use cb_walk::first_fault::first_fault;
 use jcl_plan::fault::QueueFault;
 use jcl_plan::plan::JobPlan;
+use job_records::laws::denoted_is_recorded;
+use job_records::records::{JobRecords, none_at_hand};
 use queued_job::read::{Read, read_job};
 use queued_job::reading::{EnterFault, enter_job};
 use queued_job::records::release_records;
@@ -122,9 +128,33 @@ fn read_first<S: RecordStore>(
     first: u32,
 ) -> Result<Read, AllocError>
     requires { (S.queue store.now).layout ≡ LAYOUT_1 }
+    ensures { IfOk result (IsRead (S.queue store.now) units job first) }
 {
     the_first_layout_has_own_fields();
     read_job(alloc, store, units, job, first)
+}
+
+/// A job as its records answer what turns ask of it.
+fn tell_recorded<S: RecordStore>(
+    store: &S,
+    units: u16,
+    job: u16,
+    first: u32,
+    plan: &JobPlan,
+    told: &mut Told,
+)
+    requires layout { (S.queue store.now).layout ≡ LAYOUT_1 }
+    requires denoted { (behind : List ℕ) × Denotes (S.queue store.now).layout units (shown (S.queue store.now)) job (first ∷ behind) plan.now }
+{
+    the_first_layout_has_own_fields();
+    are_records(store);
+    denoted_is_recorded();
+    let records = JobRecords {
+        store,
+        jct: first,
+        at_hand: none_at_hand(),
+    };
+    tell_job(told, plan, &records)
 }
 
 /// The plan that a job's records denote, or the fault that is told.
@@ -140,7 +170,7 @@ pub(crate) fn tell_read<S: RecordStore>(
         return told.not_allowed();
     }
     match told.got(read_first(alloc, store, units, job, first)) {
-        Some(Read::Plan(plan)) => tell_job(told, &plan),
+        Some(Read::Plan(plan)) => tell_recorded(store, units, job, first, &plan, told),
         Some(Read::Broken(fault)) => told.numbered_line(b"B", u64::from(fault)),
         None => {}
     }
@@ -183,7 +213,7 @@ pub(crate) fn on_deck<S: RecordStore>(
         return;
     };
     match verb {
-        DeckVerb::Plan => tell_job(&mut line.told, &plan),
+        DeckVerb::Plan => tell_job(&mut line.told, &plan, &plan),
         DeckVerb::Room => tell_room(&mut line.told, &plan, line.words.number()),
         DeckVerb::Write => write(store, line.words.short(), &plan, &mut line.told),
         DeckVerb::Enter => enter(store, line.words.short(), &plan, &mut line.told),

@@ -1,9 +1,13 @@
 //! The lines of a job.
 mod dds;
 
+ghost use Rattle.std.specs.Prelude.{◌≡◌, ◌<◌, length};
+ghost use Rattle.job_text.specs.Places.{step_at};
+
 use crate::plan::dds::tell_dd;
 use jcl_plan::plan::{AfterAbend, DdPlan, JobPlan, Operator, StepPlan, Test};
 use jname_core::name8::Name8;
+use job_text::text::JobText;
 use row_table::told::Told;
 
 /// A name, if there is one.
@@ -63,34 +67,49 @@ fn tell_job_tests(told: &mut Told, tests: &[Test]) {
     told.line(b")")
 }
 
-fn tell_step_tests(told: &mut Told, tests: &[Test]) {
+/// What stands before the test of a place, from 0.
+fn opening(place: usize) -> &'static [u8] {
+    if place == 0 { b"(" } else { b" (" }
+}
+
+/// The tests of a step, which counts from 0.
+fn tell_step_tests<T: JobText>(told: &mut Told, step: usize, text: &T)
+    requires reads { T.reads text.now }
+    requires step { step < length (T.plan text.now).steps }
+{
     told.word(b" tests (");
-    if let Some((first, others)) = tests.split_first() {
-        tell_step_test(told, b"(", first);
-        for test in others {
-            tell_step_test(told, b" (", test);
-        }
+    for place in 0..text.test_count(step) {
+        tell_step_test(told, opening(place), &text.test(step, place));
     }
     told.line(b")")
 }
 
-fn tell_dds(told: &mut Told, dds: &[DdPlan]) {
-    for (place, dd) in dds.iter().enumerate() {
-        tell_dd(told, place + 1, dd);
+fn tell_dds<T: JobText>(told: &mut Told, step: usize, dds: &[DdPlan], text: &T)
+    requires reads { T.reads text.now }
+    requires step { step < length (T.plan text.now).steps }
+    requires same { (step_at (T.plan text.now).steps step).dds ≡ dds.now }
+{
+    for place in 0..dds.len() {
+        tell_dd(told, step, place, &dds[place].kind, text);
     }
 }
 
-/// The lines of the step of a number.
-fn tell_step(told: &mut Told, number: usize, step: &StepPlan) {
-    told.numbered(b"step ", number as u64);
+/// The lines of a step, which counts from 0.
+fn tell_step<T: JobText>(told: &mut Told, place: usize, step: &StepPlan, text: &T)
+    requires reads { T.reads text.now }
+    requires step { place < length (T.plan text.now).steps }
+    requires same { step_at (T.plan text.now).steps place ≡ step.now }
+{
+    let own = text.step(place);
+    told.numbered(b"step ", (place as u64).saturating_add(1));
     told.word(b" ");
-    tell_name(told, &step.name);
+    tell_name(told, &own.name);
     told.word(b" ");
-    tell_name(told, &step.procedure_step);
-    told.two(b" program ", step.program.as_slice());
-    told.numbered(b" even/only ", after_abend_number(&step.after_abend));
-    tell_step_tests(told, step.tests.as_slice());
-    tell_dds(told, step.dds.as_slice())
+    tell_name(told, &own.procedure_step);
+    told.two(b" program ", own.program.as_slice());
+    told.numbered(b" even/only ", after_abend_number(&own.after_abend));
+    tell_step_tests(told, place, text);
+    tell_dds(told, place, step.dds.as_slice(), text)
 }
 
 /// The line of a job, without its steps.
@@ -102,10 +121,13 @@ fn tell_head(told: &mut Told, job: &JobPlan) {
     tell_job_tests(told, job.tests.as_slice())
 }
 
-/// The lines of a job.
-pub(crate) fn tell_job(told: &mut Told, job: &JobPlan) {
+/// The lines of a job, as it answers what turns ask of it; what none asks, as its plan says.
+pub(crate) fn tell_job<T: JobText>(told: &mut Told, job: &JobPlan, text: &T)
+    requires reads { T.reads text.now }
+    requires same { T.plan text.now ≡ job.now }
+{
     tell_head(told, job);
-    for (place, step) in job.steps.as_slice().iter().enumerate() {
-        tell_step(told, place + 1, step);
+    for place in 0..job.steps.len() {
+        tell_step(told, place, &job.steps.as_slice()[place], text);
     }
 }

@@ -1,10 +1,14 @@
 //! The line of a DD.
+ghost use Rattle.std.specs.Prelude.{◌≡◌, ◌<◌, length};
+ghost use Rattle.job_text.specs.Places.{dd_at, step_at};
+ghost use Rattle.job_text.specs.Texts.{cards_in};
+
 use crate::plan::tell_name;
-use jcl_plan::plan::{
-    ConditionalWord, DdKind, DdPlan, Expiry, Record, SetPlan, Space, Status, VolumePlan, Word,
-};
+use jcl_plan::plan::{ConditionalWord, DdKind, Expiry, SetPlan, Status, VolumePlan, Word};
 use jname_core::ds_name::DsName;
 use jname_core::key::{Key, Sign};
+use job_text::text::JobText;
+use job_text::texts::{DispSet, DispText, PutSet, PutText, TakeSet, TakeText};
 use row_table::told::Told;
 
 fn status_number(status: &Status) -> u64 {
@@ -45,31 +49,39 @@ fn trimmed(text: &[u8]) -> &[u8] {
     }
 }
 
-/// Cards, with a blank between two of them.
-fn tell_cards(told: &mut Told, cards: &[Record]) {
-    let Some((first, others)) = cards.split_first() else {
-        return;
-    };
-    told.word(trimmed(first));
-    for card in others {
-        told.two(b" ", trimmed(card));
+/// So many cards of a DD, with a blank between two of them. Steps and DDs count from 0.
+fn tell_cards<T: JobText>(told: &mut Told, step: usize, dd: usize, count: usize, text: &T)
+    requires reads { T.reads text.now }
+    requires step { step < length (T.plan text.now).steps }
+    requires dd { dd < length (step_at (T.plan text.now).steps step).dds }
+    requires cards { count ≡ length (cards_in (dd_at (step_at (T.plan text.now).steps step).dds dd).kind) }
+{
+    for place in 0..count {
+        if place != 0 {
+            told.word(b" ");
+        }
+        told.word(trimmed(text.card(step, dd, place).as_slice()));
     }
 }
 
 /// What a DD is, the class of its output and its cards.
-fn tell_kind(told: &mut Told, kind: &DdKind) {
-    match kind {
-        DdKind::Sysout(class) => {
-            told.two(b" kind sysout sysclass ", &[*class]);
+fn tell_kind<T: JobText>(told: &mut Told, step: usize, dd: usize, text: &T)
+    requires reads { T.reads text.now }
+    requires step { step < length (T.plan text.now).steps }
+    requires dd { dd < length (step_at (T.plan text.now).steps step).dds }
+{
+    match text.take_text(step, dd) {
+        TakeText::Sysout(class) => {
+            told.two(b" kind sysout sysclass ", &[class]);
             told.word(b" cards ()")
         }
-        DdKind::Dummy => told.word(b" kind dummy sysclass  cards ()"),
-        DdKind::Cards(cards) => {
+        TakeText::Dummy => told.word(b" kind dummy sysclass  cards ()"),
+        TakeText::Cards(count) => {
             told.word(b" kind cards sysclass  cards (");
-            tell_cards(told, cards.as_slice());
+            tell_cards(told, step, dd, count, text);
             told.word(b")")
         }
-        DdKind::Set(_) => told.word(b" kind set sysclass  cards ()"),
+        TakeText::Set(_) => told.word(b" kind set sysclass  cards ()"),
     }
 }
 
@@ -127,17 +139,14 @@ fn tell_volume(told: &mut Told, volume: &VolumePlan) {
     }
 }
 
-fn tell_space(told: &mut Told, space: &Option<Space>) {
-    let Some(space) = space else {
+/// The space of a set, where it is coded.
+fn tell_space(told: &mut Told, primary: Option<u16>, secondary: u16, release: bool) {
+    let Some(primary) = primary else {
         return told.word(b" space no primary 0 secondary 0 rlse no");
     };
-    told.numbered(b" space yes primary ", u64::from(space.primary));
-    told.numbered(b" secondary ", u64::from(space.secondary));
-    told.word(if space.release {
-        b" rlse yes"
-    } else {
-        b" rlse no"
-    })
+    told.numbered(b" space yes primary ", u64::from(primary));
+    told.numbered(b" secondary ", u64::from(secondary));
+    told.word(if release { b" rlse yes" } else { b" rlse no" })
 }
 
 fn tell_expiry(told: &mut Told, expiry: &Expiry) {
@@ -155,44 +164,62 @@ fn tell_expiry(told: &mut Told, expiry: &Expiry) {
 }
 
 /// The status and the words of a set, and its name.
-fn tell_disposition(told: &mut Told, set: &SetPlan) {
-    told.numbered(b" status ", status_number(&set.status));
-    told.numbered(b" normal ", word_number(&set.normal));
-    told.numbered(b" cond ", conditional_number(&set.conditional));
+fn tell_disposition(told: &mut Told, take: &TakeSet, disp: &DispSet, set: &SetPlan) {
+    told.numbered(b" status ", status_number(&take.status));
+    told.numbered(b" normal ", word_number(&disp.normal));
+    told.numbered(b" cond ", conditional_number(&disp.conditional));
     told.word(b" setkey ");
     tell_key(told, &set.key)
 }
 
 /// Where a set lies or is to be made.
-fn tell_room(told: &mut Told, set: &SetPlan) {
+fn tell_room(told: &mut Told, take: &TakeSet, put: &PutSet, disp: &DispSet, set: &SetPlan) {
     told.word(b" volume ");
-    tell_volume(told, &set.volume);
-    tell_space(told, &set.space);
+    tell_volume(told, &take.volume);
+    tell_space(told, take.primary, put.secondary, disp.release);
     told.numbered(b" unit ", u64::from(set.units.unwrap_or(0)));
     told.word(b" expiry ");
-    tell_expiry(told, &set.expiry)
+    tell_expiry(told, &take.expiry)
 }
 
 /// What is said of a set, or that nothing is said.
-fn tell_set(told: &mut Told, kind: &DdKind) {
+fn tell_set<T: JobText>(told: &mut Told, step: usize, dd: usize, kind: &DdKind, text: &T)
+    requires reads { T.reads text.now }
+    requires step { step < length (T.plan text.now).steps }
+    requires dd { dd < length (step_at (T.plan text.now).steps step).dds }
+{
     let DdKind::Set(set) = kind else {
         told.word(b" status 0 normal 0 cond 0 setkey - volume -");
         return told.word(b" space no primary 0 secondary 0 rlse no unit 0 expiry -");
     };
-    tell_disposition(told, set);
-    tell_room(told, set)
+    match (
+        text.take_text(step, dd),
+        text.put_text(step, dd),
+        text.disp_text(step, dd),
+    ) {
+        (TakeText::Set(take), PutText::Set(put), DispText::Set(disp)) => {
+            tell_disposition(told, &take, &disp, set);
+            tell_room(told, &take, &put, &disp, set)
+        }
+        _ => told.word(b" OTHERWISE"),
+    }
 }
 
-/// The line of the DD of a number.
-pub(crate) fn tell_dd(told: &mut Told, number: usize, dd: &DdPlan) {
+/// The line of a DD. Steps and DDs count from 0.
+pub(crate) fn tell_dd<T: JobText>(told: &mut Told, step: usize, dd: usize, kind: &DdKind, text: &T)
+    requires reads { T.reads text.now }
+    requires step { step < length (T.plan text.now).steps }
+    requires dd { dd < length (step_at (T.plan text.now).steps step).dds }
+{
     told.word(b" dd ");
-    told.numbered(b"", number as u64);
+    told.numbered(b"", (dd as u64).saturating_add(1));
     told.word(b" name ");
-    match &dd.name {
-        None => told.word(b"-"),
-        Some(_) => tell_name(told, &dd.name),
+    if text.continues(step, dd) {
+        told.word(b"-");
+    } else {
+        tell_name(told, &text.dd_name(step, dd));
     }
-    tell_kind(told, &dd.kind);
-    tell_set(told, &dd.kind);
+    tell_kind(told, step, dd, text);
+    tell_set(told, step, dd, kind, text);
     told.end_line()
 }
