@@ -96,6 +96,7 @@ pictures: mvt-picture
 # Compares what ./mvt-check says of the decks of tests/check/, and its first numbers with those of ./mvt.
 test-check: mvt tools
 	tests/check.sh ./mvt-check ./mvt
+	tests/misuse.sh ./mvt ./mvt-check ./mvt-play ./mvt-picture
 	python3 tests/faults.py ./mvt-check
 	python3 tests/independent.py ./mvt-check
 

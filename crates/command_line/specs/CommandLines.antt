@@ -1,5 +1,5 @@
 -- What the words of a command line ask for.
-use Rattle.std.specs.Prelude.{◌≡◌, ℕ, Bool, true, false, ◌++◌, List, [], ◌∷◌, codes, filter, is_some, if◌then◌else◌, map, Option, Some, None, IfOk, Result}
+use Rattle.std.specs.Prelude.{◌≡◌, ℕ, Bool, true, false, ◌++◌, List, [], ◌∷◌, codes, filter, is_some, if◌then◌else◌, map, Option, Some, None, IfOk, Result, pos}
 use Rattle.std.specs.Prelude.{option_map}
 use Rattle.std.specs.Borrow.{Bor}
 use Rattle.std.specs.List.{list_any}
@@ -45,6 +45,7 @@ abbrev pub views_option : Rule
 views_option = record (new_rule (codes "views")) {
   long = Some (codes "views");
   value_names = 1;
+  parser = Some (parser.Signed (pos 1) (pos 1024));
   defaults = codes "1024" ∷ [];
 }
 
@@ -85,7 +86,7 @@ abbrev pub risk_in : Option Text → RiskChoice
 risk_in None = risk.Run
 risk_in (Some text) = if bytes_eq text (codes "refuse") then risk.Refuse else risk.Run
 
--- how many views are asked for: a number of 1 to 1024 without sign, or the most where none is asked for
+-- how many views are asked for: of the numbers that the option takes one without a sign, or the most where none is asked for
 abbrev pub views_in : Option Text → Option ℕ
 views_in None = Some 1024
 views_in (Some text) = number_within 1 1024 text

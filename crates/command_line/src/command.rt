@@ -4,6 +4,7 @@ ghost use Rattle.clap.specs.Words.{app_of, rule_of};
 ghost use Rattle.command_line.specs.CommandLines.{IsProgram, explain_option, flag_option, names_of, views_option, with_flags};
 
 use crate::program::{Flag, Program, VERSION};
+use clap::builder::ValueParser;
 use clap::{Arg, ArgAction, Command};
 use std::alloc::{AllocError, Global};
 
@@ -56,6 +57,7 @@ pub(crate) fn command<'a>(alloc: Global, program: &Program<'a>) -> Result<Comman
     let views = Arg::new(alloc, "views")
         .long("views")
         .value_name("N")
+        .value_parser(ValueParser::signed(1, 1024))
         .default_value("1024")
         .help("Answer TOOMANY for a job that has more than N views behind a step, 1 to 1024");
     let explain = Arg::new(alloc, "explain")

@@ -6,8 +6,10 @@ ghost use Rattle.std.specs.IoError.{error_kind};
 ghost use Rattle.clap.specs.Words.{kind_of};
 ghost use Rattle.command_line.specs.Endings.{EndsAsked, EndsUnread, EndsUnrun, is_asked, misuse_status, prompt_of, said_of_memory};
 
+use crate::misuse::one_line;
 use clap::Error;
 use clap::error::ErrorKind;
+use std::alloc::Global;
 use std::io::{self, Write};
 
 /// The status of a session of which all was read.
@@ -51,19 +53,37 @@ pub fn end_out_of_memory<E: Write>(errors: &mut E) -> Ended
     }
 }
 
-/// Says why the command line is not taken, or what it may hold.
-pub fn end_unrun<E: Write>(errors: &mut E, error: &Error) -> Ended
+/// Says in a line what is wrong, and behind it how the program is called. `true` where all of it was written.
+fn say_wrong<E: Write>(errors: &mut E, usage: &str, wrong: &str) -> bool {
+    write!(
+        errors,
+        "{wrong}\nUsage: {usage}\nFor more information, try '--help'.\n"
+    )
+    .is_ok()
+}
+
+/// Says in a line why the command line is not taken, and behind it the usage. Where memory is wanting for that line, the error's own text is told.
+fn say_misuse<E: Write>(alloc: Global, errors: &mut E, usage: &str, error: &Error) -> bool {
+    match one_line(alloc, error) {
+        Ok(wrong) => say_wrong(errors, usage, wrong.as_str()),
+        Err(_) => write!(errors, "{error}").is_ok(),
+    }
+}
+
+/// Says why the command line is not taken, with the program's usage, or what the command line may hold, where it asks for that.
+pub fn end_unrun<E: Write>(alloc: Global, errors: &mut E, usage: &str, error: &Error) -> Ended
     ensures { EndsUnrun (kind_of error.now) (E.contents errors.old) (E.contents errors.new) result }
 {
     let status = misuse_status(error.kind());
     if status == WANT_OF_MEMORY {
-        end_out_of_memory(errors)
-    } else {
-        Ended {
-            status,
-            said: write!(errors, "{error}").is_ok(),
-        }
+        return end_out_of_memory(errors);
     }
+    let said = if is_asked(error.kind()) {
+        write!(errors, "{error}").is_ok()
+    } else {
+        say_misuse(alloc, errors, usage, error)
+    };
+    Ended { status, said }
 }
 
 /// Whether the command line asks for help or for the version, and nothing is wrong with it.
@@ -78,7 +98,13 @@ fn is_asked(kind: ErrorKind) -> bool
 }
 
 /// Writes the help or the version where the command line asks for it, with status 0; else says why the command line is not taken.
-pub fn end_asked<W: Write, E: Write>(output: &mut W, errors: &mut E, error: &Error) -> Ended
+pub fn end_asked<W: Write, E: Write>(
+    alloc: Global,
+    output: &mut W,
+    errors: &mut E,
+    usage: &str,
+    error: &Error,
+) -> Ended
     ensures { EndsAsked (kind_of error.now) (W.contents output.old) (W.contents output.new) (E.contents errors.old) (E.contents errors.new) result }
 {
     if is_asked(error.kind()) {
@@ -87,12 +113,20 @@ pub fn end_asked<W: Write, E: Write>(output: &mut W, errors: &mut E, error: &Err
             said: write!(output, "{error}").is_ok(),
         }
     } else {
-        end_unrun(errors, error)
+        end_unrun(alloc, errors, usage, error)
     }
 }
 
-/// Says why the words of the command line could not be had.
-pub fn end_unread<E: Write>(errors: &mut E, error: &io::Error) -> Ended
+/// What is wrong where the words of the command line could not be had.
+fn unread_text(error: &io::Error) -> &'static str {
+    match error.kind() {
+        io::ErrorKind::InvalidData => "error: an argument is no UTF-8",
+        _ => "error: the command line cannot be read",
+    }
+}
+
+/// Says why the words of the command line could not be had, with the program's usage.
+pub fn end_unread<E: Write>(errors: &mut E, usage: &str, error: &io::Error) -> Ended
     ensures { EndsUnread (error_kind error.now) (E.contents errors.old) (E.contents errors.new) result }
 {
     if error.kind() == io::ErrorKind::OutOfMemory {
@@ -100,7 +134,7 @@ pub fn end_unread<E: Write>(errors: &mut E, error: &io::Error) -> Ended
     } else {
         Ended {
             status: MISUSE,
-            said: write!(errors, "error: {error}\n").is_ok(),
+            said: say_wrong(errors, usage, unread_text(error)),
         }
     }
 }

@@ -4,5 +4,6 @@
 mod command;
 pub mod ended;
 pub mod laws;
+mod misuse;
 pub mod options;
 pub mod program;

@@ -40,9 +40,9 @@ fn main(rt: HostRuntime) -> ExitCode {
                     &mut errors,
                 )
             }
-            Err(error) => end_asked(&mut output, &mut errors, &error),
+            Err(error) => end_asked(rt.alloc(), &mut output, &mut errors, program.usage, &error),
         },
-        Err(error) => end_unread(&mut errors, &error),
+        Err(error) => end_unread(&mut errors, program.usage, &error),
     };
     ExitCode::from(ended.status)
 }

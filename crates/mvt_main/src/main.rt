@@ -6,7 +6,7 @@ mod report;
 #[cfg(test)]
 mod tests;
 
-use crate::program::run_program;
+use crate::program::{USAGE, run_program};
 use command_line::ended::end_unread;
 use session_core::stream::{Sink, Source};
 use std::io::{self, IsTerminal};
@@ -34,7 +34,7 @@ fn main(rt: HostRuntime) -> ExitCode {
             &mut sink,
             &mut errors,
         ),
-        Err(error) => end_unread(&mut errors, &error),
+        Err(error) => end_unread(&mut errors, USAGE, &error),
     };
     ExitCode::from(ended.status)
 }

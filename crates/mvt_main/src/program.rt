@@ -15,6 +15,9 @@ use std::alloc::Global;
 use std::convert::AsStr;
 use std::io::{Read, Write};
 
+/// How the program is called.
+pub(crate) const USAGE: &str = "mvt [OPTIONS] < SESSION";
+
 /// The program, as its command line and its help speak of it. It has no option of its own.
 fn mvt<'a>() -> Program<'a>
     ensures name { result.name.now ≡ codes "mvt" }
@@ -23,7 +26,7 @@ fn mvt<'a>() -> Program<'a>
     Program {
         name: "mvt",
         about: "Reads a session on standard input and writes its listing on standard output",
-        usage: "mvt [OPTIONS] < SESSION",
+        usage: USAGE,
         flags: &[],
         end: "",
     }
@@ -79,6 +82,6 @@ pub fn run_program<S: AsStr, R: Read, W: Write, E: Write>(
 {
     match read_words(alloc, &mvt(), words) {
         Ok(asked) => end_session(alloc, at_terminal, asked.options, source, sink, errors),
-        Err(error) => end_unrun(errors, &error),
+        Err(error) => end_unrun(alloc, errors, USAGE, &error),
     }
 }

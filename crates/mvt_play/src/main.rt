@@ -30,9 +30,9 @@ fn main(rt: HostRuntime) -> ExitCode {
                 prompt(&mut errors, program.name, at_terminal);
                 run_program(rt.alloc(), &asked, &mut source, &mut sink, &mut errors)
             }
-            Err(error) => end_asked(&mut output, &mut errors, &error),
+            Err(error) => end_asked(rt.alloc(), &mut output, &mut errors, program.usage, &error),
         },
-        Err(error) => end_unread(&mut errors, &error),
+        Err(error) => end_unread(&mut errors, program.usage, &error),
     };
     ExitCode::from(ended.status)
 }

@@ -63,11 +63,12 @@ pub(crate) fn tell_command_line(alloc: Global, text: &[u8], told: &mut Told) {
     let Some(words) = told.got(words_of(alloc, text)) else {
         return;
     };
-    match read_words(alloc, &program(), words.as_slice()) {
+    let program = program();
+    match read_words(alloc, &program, words.as_slice()) {
         Ok(asked) => tell_asked(told, &asked),
         Err(error) => {
             let mut errors = Vec::new(alloc);
-            let ended = end_unrun(&mut errors, &error);
+            let ended = end_unrun(alloc, &mut errors, program.usage, &error);
             if ended.status == WANT_OF_MEMORY || !ended.said {
                 told.want();
             }

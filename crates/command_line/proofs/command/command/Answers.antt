@@ -1,8 +1,8 @@
-use Rattle.std.proofs.Common.{rules, false, ap, ap₂, codes, map, Some, [], ◌∷◌, ◌≡◌, ◌∙◌}
+use Rattle.std.proofs.Common.{rules, false, pos, ap, ap₂, codes, map, Some, [], ◌∷◌, ◌≡◌, ◌∙◌}
 use Rattle.clap.specs.Words.{Rule, app_of, rule_of, new_app, with_rule}
 use Rattle.clap.specs.declared.builder.action.ArgAction.TheVariants.{SetTrue}
 use Rattle.clap.specs.declared.builder.arg.Arg.{Arg}
-use Rattle.clap.specs.declared.builder.value_parser.ValueParser.TheVariants.{Names}
+use Rattle.clap.specs.declared.builder.value_parser.ValueParser.TheVariants.{Names, Signed}
 use Rattle.command_line.specs.CommandLines.{AreChoices, explain_option, risk_option, views_option, with_version}
 use Rattle.command_line.proofs.Flags.{is_program}
 use Rattle.command_line.proofs.command.command.Goals as goal
@@ -25,12 +25,17 @@ returns c =
     let own : c.help-risk.result.global ≡ false = ap (λ (a : Arg). a.global) c.help-risk.ensures ∙ ap (λ (a : Arg). a.global) c.default_value.ensures
     ∙ ap (λ (a : Arg). a.global) c.value_parser.ensures.others ∙ ap (λ (a : Arg). a.global) c.value_name.ensures ∙ ap (λ (a : Arg). a.global) c.long.ensures
     ∙ c.new.ensures.optional.1 in
+    let count_is : rule_of c.value_parser-2.result ≡ record (rule_of c.value_name-2.result) { parser = Some (Signed (pos 1) (pos 1024)) } =
+    ap rule_of c.value_parser-2.ensures.others
+    ∙ ap (λ p. record (rule_of c.value_name-2.result) { parser = p })
+    (c.value_parser-2.ensures.given.1 ∙ ap Some (c.value_parser-2.ensures.given.2 ∙ c.signed.ensures)) in
     let views_is : rule_of c.help-views.result ≡ views_option = ap rule_of c.help-views.ensures ∙ ap rule_of c.default_value-2.ensures
-    ∙ ap (λ (r : Rule). record r { defaults = codes "1024" ∷ [] }) (ap rule_of c.value_name-2.ensures
+    ∙ ap (λ (r : Rule). record r { defaults = codes "1024" ∷ [] }) (count_is
+    ∙ ap (λ (r : Rule). record r { parser = Some (Signed (pos 1) (pos 1024)) }) (ap rule_of c.value_name-2.ensures
     ∙ ap (λ (r : Rule). record r { value_names = 1 }) (ap rule_of c.long-2.ensures
-    ∙ ap (λ (r : Rule). record r { long = Some (codes "views") }) c.new-2.ensures.rule)) in
+    ∙ ap (λ (r : Rule). record r { long = Some (codes "views") }) c.new-2.ensures.rule))) in
     let views_own : c.help-views.result.global ≡ false = ap (λ (a : Arg). a.global) c.help-views.ensures ∙ ap (λ (a : Arg). a.global) c.default_value-2.ensures
-    ∙ ap (λ (a : Arg). a.global) c.value_name-2.ensures ∙ ap (λ (a : Arg). a.global) c.long-2.ensures ∙ c.new-2.ensures.optional.1 in
+    ∙ ap (λ (a : Arg). a.global) c.value_parser-2.ensures.others ∙ ap (λ (a : Arg). a.global) c.value_name-2.ensures ∙ ap (λ (a : Arg). a.global) c.long-2.ensures ∙ c.new-2.ensures.optional.1 in
     let explain_is : rule_of c.help-explain.result ≡ explain_option = ap rule_of c.help-explain.ensures ∙ ap rule_of c.action.ensures
     ∙ ap (λ (r : Rule). record r { action = Some SetTrue }) (ap rule_of c.long-3.ensures
     ∙ ap (λ (r : Rule). record r { long = Some (codes "explain") }) c.new-3.ensures.rule) in
