@@ -99,6 +99,7 @@ test-check: mvt tools
 	tests/misuse.sh ./mvt ./mvt-check ./mvt-play ./mvt-picture
 	python3 tests/faults.py ./mvt-check
 	python3 tests/independent.py ./mvt-check
+	python3 tests/mistakes.py ./mvt-check
 
 # Compares what ./mvt-play writes with the sessions that were played on.
 test-play: mvt tools

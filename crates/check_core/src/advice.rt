@@ -2,7 +2,7 @@
 use crate::guess::{
     is_keyword, is_keyword_of, nearest_keyword, nearest_value, procedure_at, word_at,
 };
-use crate::hint::{push_hint, push_sentence, value_of, wrong_word};
+use crate::hint::{push_hint, push_sentence, seems_to_continue, value_of, wrong_word};
 use crate::mended::{Mended, card_at};
 use crate::report::{Inside, Spot};
 use card_core::card::{Kind, card_of, kind_of};
@@ -27,15 +27,40 @@ fn has_open_procedure(mended: &Mended) -> bool {
     is_open
 }
 
+/// What is said of an operand that nothing continues, by the card behind it.
+fn push_of_next(sentences: &mut Vec<u8>, mended: &Mended, next: usize) -> Result<(), AllocError> {
+    let Some(card) = card_at(mended.lines.as_slice(), next) else {
+        return Ok(());
+    };
+    match kind_of(&card) {
+        Kind::Comment => push_sentence(
+            sentences,
+            "a comment card does not stand within a statement",
+        ),
+        Kind::Jcl if seems_to_continue(&card) => {
+            push_sentence(
+                sentences,
+                "the next card seems to continue it: put a blank in column 3",
+            )
+        }
+        _ => Ok(()),
+    }
+}
+
 /// What is said of the whole deck.
 fn push_of_deck(
     sentences: &mut Vec<u8>,
     mended: &Mended,
     cause: Cause,
+    spot: Spot,
     card: &DataCard,
-    column: usize,
 ) -> Result<(), AllocError> {
+    let column = spot.column.unwrap_or(80);
     match cause {
+        Cause::C(3) => {
+            let own = spot.card.unwrap_or(mended.lines.len());
+            push_of_next(sentences, mended, own.saturating_add(1))
+        }
         Cause::P(StatementFault::NoStep) if has_open_procedure(mended) => push_sentence(
             sentences,
             "a procedure has no // PEND: the steps behind its PROC statement are its own",
@@ -136,7 +161,7 @@ pub(crate) fn hint_at(
     match (inside, card) {
         (Some(inside), _) => push_inside(&mut sentences, cause, inside)?,
         (None, Some(card)) => {
-            push_of_deck(&mut sentences, mended, cause, &card, column)?;
+            push_of_deck(&mut sentences, mended, cause, spot, &card)?;
             push_hint(&mut sentences, cause, &card, column)?;
         }
         (None, None) => {}

@@ -130,6 +130,11 @@ fn nearest_of(alloc: Global, word: &[u8], others: &[&[u8]]) -> Result<Option<Tex
     Ok(nearest.word)
 }
 
+/// The operation that is nearest to a word.
+pub(crate) fn nearest_operation(alloc: Global, word: &[u8]) -> Result<Option<Text>, AllocError> {
+    nearest_of(alloc, word, OPERATIONS.as_slice())
+}
+
 /// The nearest procedure of the deck, or of the session.
 fn nearest_procedure(
     alloc: Global,
@@ -384,7 +389,7 @@ pub(crate) fn guess_of(
     };
     match cause {
         Cause::P(StatementFault::UnknownOperation) => {
-            nearest_of(alloc, fields_of(&card).operation, OPERATIONS.as_slice())
+            nearest_operation(alloc, fields_of(&card).operation)
         }
         Cause::P(StatementFault::UnknownKeyword) => {
             let operation = operation_at(alloc, mended, n)?;

@@ -1,4 +1,5 @@
 //! What is said beside a refusal: the form of a value, and a mistake that looks like another one.
+use crate::guess::is_keyword_of;
 use crate::warnings::is_cut;
 use card_core::card::{Kind, kind_of};
 use card_core::field::fields_of;
@@ -54,7 +55,7 @@ static VALUES: [Value; 14] = [
     Value {
         keyword: "DISP",
         words: "NEW OLD SHR MOD DELETE KEEP PASS CATLG UNCATLG",
-        form: "DISP is (status,normal,conditional): NEW, OLD, SHR, MOD; then DELETE, KEEP, PASS, CATLG, UNCATLG",
+        form: "DISP is (status,normal,conditional): NEW, OLD, SHR, MOD; then DELETE, KEEP, CATLG, UNCATLG; the normal word also PASS",
     },
     Value {
         keyword: "UNIT",
@@ -167,15 +168,58 @@ fn push_form(sentences: &mut Vec<u8>, text: &[u8]) -> Result<(), AllocError> {
     sentences.extend_from_slice(value.form.as_bytes())
 }
 
+/// Whether a word is an operand, or the beginning of one.
+fn is_operand(word: &[u8]) -> bool {
+    word.iter().any(|c| *c == b'=' || *c == b'(' || *c == b',')
+        || word == b"DUMMY".as_slice()
+        || word == b"*".as_slice()
+}
+
 /// Whether a card begins a statement without a name whose operation is an operand, as one that should continue another does.
 fn continues_nothing(card: &DataCard) -> bool {
     let fields = fields_of(card);
-    let word = fields.operation;
-    kind_of(card) == Kind::Jcl
-        && fields.name.is_empty()
-        && (word.iter().any(|c| *c == b'=' || *c == b'(' || *c == b',')
-            || word == b"DUMMY".as_slice()
-            || word == b"*".as_slice())
+    kind_of(card) == Kind::Jcl && fields.name.is_empty() && is_operand(fields.operation)
+}
+
+/// Whether an operand stands in a card's columns of a name.
+fn has_operand_for_name(card: &DataCard) -> bool {
+    kind_of(card) == Kind::Jcl && is_operand(fields_of(card).name)
+}
+
+/// Whether a card looks like one that continues the statement before it.
+pub(crate) fn seems_to_continue(card: &DataCard) -> bool {
+    continues_nothing(card) || has_operand_for_name(card)
+}
+
+/// What is said of a name's characters. It begins behind the column at which its part of the operand does.
+fn push_of_characters(sentences: &mut Vec<u8>, text: &[u8]) -> Result<(), AllocError> {
+    let value = match text.iter().position(|c| *c == b'=') {
+        Some(place) => text.split_at(place.saturating_add(1).min(text.len())).1,
+        None => text,
+    };
+    match value.first() {
+        Some(b'\'') => push_sentence(
+            sentences,
+            "a name in apostrophes is left out of this profile: drop them",
+        ),
+        Some(c) if c.is_ascii_lowercase() => push_sentence(sentences, "letters are capitals"),
+        _ => Ok(()),
+    }
+}
+
+/// What is said of a keyword that is one of another statement.
+fn push_other_statement(sentences: &mut Vec<u8>, text: &[u8]) -> Result<(), AllocError> {
+    let len = text.iter().take_while(|c| is_name_character(**c)).count();
+    let (word, _) = text.split_at(len.min(text.len()));
+    for operation in ["JOB", "EXEC", "DD"] {
+        if is_keyword_of(operation.as_bytes(), word) {
+            begin(sentences)?;
+            sentences.extend_from_slice(word)?;
+            sentences.extend_from_slice(b" is a keyword of ")?;
+            return sentences.extend_from_slice(operation.as_bytes());
+        }
+    }
+    Ok(())
 }
 
 /// Begins a sentence on a line of its own.
@@ -234,10 +278,26 @@ pub(crate) fn push_hint(
                 "if it continues the card before it, that one lacks a comma at its end",
             )?;
         }
-        Cause::N(_) => {
+        Cause::C(6) if has_operand_for_name(card) => {
+            push_sentence(
+                sentences,
+                "if it continues the card before it, a blank is missing in column 3",
+            )?;
+        }
+        Cause::N(number) => {
             if let Some(name) = symbol_in(text) {
                 push_symbol(sentences, name)?;
             }
+            if number == 3 {
+                push_of_characters(sentences, text)?;
+            }
+        }
+        Cause::P(StatementFault::UnknownKeyword) => push_other_statement(sentences, text)?,
+        Cause::P(StatementFault::TooManyPositional) => {
+            push_sentence(
+                sentences,
+                "positional operands come first; a value of several parts has parentheses: KEY=(first,second)",
+            )?;
         }
         Cause::P(StatementFault::BadValue) => push_form(sentences, text)?,
         _ => {}

@@ -1,4 +1,5 @@
 //! Refusals that follow from others, and are left out.
+use crate::hint::seems_to_continue;
 use crate::mended::{Mended, Replaced, Span, card_at};
 use card_core::card::{Kind, kind_of};
 use card_core::field::fields_of;
@@ -107,6 +108,14 @@ fn is_behind_replaced(mended: &Mended, card: usize) -> bool {
     found
 }
 
+/// Whether a card seems to continue a statement that was replaced since nothing continues it.
+fn continues_replaced(mended: &Mended, from: usize) -> bool {
+    match card_at(mended.lines.as_slice(), from) {
+        Some(card) => seems_to_continue(&card) && mended.is_behind_open(from),
+        None => false,
+    }
+}
+
 /// Whether a statement begins with EXEC.
 fn is_exec(lines: &[Text], from: usize) -> bool {
     match card_at(lines, from) {
@@ -130,6 +139,9 @@ pub(crate) fn is_known(
             refers_to_replaced(alloc, mended, span)
         }
         Cause::P(StatementFault::TestOfNoEarlierStep) => Ok(tests_replaced(mended, span)),
+        Cause::P(StatementFault::UnknownOperation) | Cause::C(6) => {
+            Ok(continues_replaced(mended, span.from))
+        }
         Cause::P(StatementFault::NoSuchProcedureStep | StatementFault::OverrideOutOfOrder) => Ok(
             !is_exec(mended.lines.as_slice(), span.from) && is_behind_replaced(mended, span.from),
         ),

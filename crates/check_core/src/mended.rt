@@ -3,6 +3,7 @@ ghost use Rattle.std.specs.Prelude.{◌≡◌, ◌≤◌, IfOk, false};
 ghost use Rattle.deck_places.specs.Cards.{walk_of};
 ghost use Rattle.check_core.specs.Spots.{IsSpanAt, IsSpanOf};
 
+use crate::guess::nearest_operation;
 use card_core::card::{Kind, card_of, kind_of};
 use card_core::field::fields_of;
 use card_core::statement::{Card, DataCard};
@@ -24,6 +25,8 @@ pub(crate) enum Touched {
     Once,
     /// By a comment.
     Twice,
+    /// By a good statement, for its operand goes on and nothing continues it.
+    Open,
 }
 
 /// The cards that a statement takes: from the first, to before the last.
@@ -120,6 +123,31 @@ fn is_good(name: &[u8]) -> bool {
         && name
             .iter()
             .all(|c| jname_core::name8::is_name_character(*c))
+}
+
+/// The card of a line as a statement: where it has one slash and a name, as if it had two.
+fn statement_at(alloc: Global, lines: &[Text], n: usize) -> Result<Option<DataCard>, AllocError> {
+    let Some(card) = card_at(lines, n) else {
+        return Ok(None);
+    };
+    if kind_of(&card) == Kind::Jcl || card[0] != b'/' || !jname_core::name8::is_first(card[1]) {
+        return Ok(Some(card));
+    }
+    let mut text = Vec::from_slice(alloc, b"/")?;
+    text.extend_from_slice(card.as_slice())?;
+    text.truncate(COLUMNS);
+    Ok(match card_of(text.as_slice()) {
+        Ok(card) => Some(card),
+        Err(_) => None,
+    })
+}
+
+/// The operation that a word of a statement may have been meant as.
+fn meant_operation(alloc: Global, word: &[u8]) -> Result<Text, AllocError> {
+    match nearest_operation(alloc, word)? {
+        Some(operation) => Ok(operation),
+        None => Text::copy_of(alloc, word),
+    }
 }
 
 /// Whether a name is that of a DD for a step of a call, and can stay.
@@ -262,7 +290,7 @@ impl Mended {
     pub(crate) fn is_touched(&self, span: Span) -> bool {
         for n in span.from..span.to {
             match self.touched.get(n) {
-                Some(Touched::Once) | Some(Touched::Twice) => return true,
+                Some(Touched::Once | Touched::Twice | Touched::Open) => return true,
                 _ => {}
             }
         }
@@ -370,7 +398,7 @@ impl Mended {
         if self.is_procedure(span) {
             return self.replace_procedure(alloc, span);
         }
-        let card = card_at(self.lines.as_slice(), span.from);
+        let card = statement_at(alloc, self.lines.as_slice(), span.from)?;
         self.comment(alloc, span, Touched::Once)?;
         let Some(card) = card else { return Ok(()) };
         if kind_of(&card) != Kind::Jcl {
@@ -379,10 +407,35 @@ impl Mended {
         let fields = fields_of(&card);
         self.note(alloc, span.from, &card, of_step)?;
         let name = if of_step { b"".as_slice() } else { fields.name };
-        if let Some(text) = good_statement(alloc, name, fields.operation)? {
+        let operation = meant_operation(alloc, fields.operation)?;
+        if let Some(text) = good_statement(alloc, name, operation.as_slice())? {
             self.put(span.from, Text::new(text), Touched::Once);
         }
         Ok(())
+    }
+
+    /// Notes that nothing continues the operand of a statement that was replaced.
+    fn leave_open(&mut self, span: Span) {
+        for n in span.from..span.to {
+            if n < self.touched.len() {
+                self.touched[n] = Touched::Open;
+            }
+        }
+    }
+
+    /// Whether the statement before a card was replaced since its operand goes on; comments may stand between them.
+    pub(crate) fn is_behind_open(&self, card: usize) -> bool {
+        for n in (0..card.min(self.touched.len())).rev() {
+            match self.touched.get(n) {
+                Some(Touched::Open) => return true,
+                _ => {}
+            }
+            match card_at(self.lines.as_slice(), n) {
+                Some(before) if kind_of(&before) == Kind::Comment => {}
+                _ => return false,
+            }
+        }
+        false
     }
 
     /// Whether a card begins or ends a procedure of the deck: `None` where it does neither.
@@ -459,6 +512,9 @@ impl Mended {
             }
             Some(span) => {
                 self.replace(alloc, self.whole_span(span), is_of_step(cause))?;
+                if cause == Cause::C(3) {
+                    self.leave_open(span);
+                }
                 Ok(true)
             }
             None => Ok(false),

@@ -28,7 +28,7 @@ static ROWS: [Row; 64] = [
         letter: b'C',
         number: 3,
         wrong: "an operand ends with a comma, and no continuation follows",
-        to_do: "drop the comma; no comment card between them",
+        to_do: "drop it, or go on with a card of // and a blank",
     },
     Row {
         letter: b'C',
@@ -40,7 +40,7 @@ static ROWS: [Row; 64] = [
         letter: b'C',
         number: 5,
         wrong: "an apostrophe is open at the end of a card",
-        to_do: "close it on its card; two apostrophes within a text are one",
+        to_do: "close it on its card; write one within a text twice",
     },
     Row {
         letter: b'C',
@@ -82,7 +82,7 @@ static ROWS: [Row; 64] = [
         letter: b'P',
         number: 1,
         wrong: "the first statement is no JOB statement, or a second one follows",
-        to_do: "one job to a ./ READ block",
+        to_do: "begin with JOB; one job to a ./ READ block",
     },
     Row {
         letter: b'P',
@@ -184,7 +184,7 @@ static ROWS: [Row; 64] = [
         letter: b'P',
         number: 18,
         wrong: "a data set's name has a member in parentheses",
-        to_do: "there are no partitioned sets",
+        to_do: "leave the member out: there are no partitioned sets",
     },
     Row {
         letter: b'P',
@@ -244,13 +244,13 @@ static ROWS: [Row; 64] = [
         letter: b'P',
         number: 40,
         wrong: "a reference is to no DD of the job, or to SYSOUT or cards",
-        to_do: "compare the names",
+        to_do: "compare the names; refer to a DD of a data set",
     },
     Row {
         letter: b'P',
         number: 41,
         wrong: "a reference is to its own DD or a later one",
-        to_do: "move it behind",
+        to_do: "name a DD before it",
     },
     Row {
         letter: b'P',
@@ -274,7 +274,7 @@ static ROWS: [Row; 64] = [
         letter: b'P',
         number: 45,
         wrong: "a step has over five DDNAMEs",
-        to_do: "name the later DDs themselves",
+        to_do: "write a later DD's definition in place of DDNAME",
     },
     Row {
         letter: b'P',
