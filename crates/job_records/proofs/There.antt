@@ -8,17 +8,18 @@ use Rattle.cb_meaning.specs.Fields.{byte_at, number_at}
 use Rattle.cb_meaning.specs.Readings.{dds_read, step_test_read, steps_read}
 use Rattle.cb_meaning.specs.Spelled.{StepChain, cards_of, jct, sct, siot}
 use Rattle.cb_queue.specs.RecordQueues.{RecordQueue, shown}
-use Rattle.cb_read.specs.Chains.{dd_of, plan_of, step_of}
+use Rattle.cb_read.specs.Chains.{cards_from, dd_of, plan_of, step_of}
 use Rattle.cb_read.specs.Kinds.{IsBelowOfKind, IsOfKind}
 use Rattle.cb_read.specs.Ranges.{IsDdInRange, IsJobInRange, IsStepInRange, IsTestInRange}
 use Rattle.cb_read.proofs.Chained.{dds_chain, steps_chain}
 use Rattle.cb_read.proofs.InRange.{job_in_range}
 use Rattle.cb_read.proofs.OfKind.{below_of_kind}
-use Rattle.job_text.specs.Places.{dd_at, no_dd, no_step, no_test, step_at, test_at}
+use Rattle.job_text.specs.Places.{card_at, dd_at, no_dd, no_step, no_test, step_at, test_at}
+use Rattle.job_text.specs.Texts.{cards_in}
 use Rattle.job_records.specs.Fields.{SctFields, fields_of_sct}
-use Rattle.job_records.specs.Recorded.{IsRecorded, along, first_sct, first_siot, next_dd, next_step, sct_at, siot_at}
+use Rattle.job_records.specs.Recorded.{HasCard, IsRecorded, along, first_sct, first_siot, next_dd, next_step, sct_at, siot_at}
 use Rattle.job_records.specs.Said.{AreStepNames, test_bytes}
-use Rattle.job_records.proofs.Meant.{few_tests, test_at_is}
+use Rattle.job_records.proofs.Meant.{cards_here, cards_there, few_tests, test_at_is}
 use Rattle.job_records.proofs.Placed.{IsSct, IsSiot, along_on, nth_read, sct_of_chain, siot_of_chain}
 
 pub record IsHead (q : RecordQueue) (job : ℕ) (plan : JobPlan) (numbers : List ℕ) (n : ℕ) : Type 0 where
@@ -144,6 +145,25 @@ module _ (q : RecordQueue) (n : ℕ) (step : StepPlan) (t : IsStepThere q n step
 module _ (q : RecordQueue) (n : ℕ) (d : DdPlan) (t : IsDdThere q n d) where
   pub dd_in_range : IsDdInRange (dd_of q ((shown q).at n))
   dd_in_range = subst IsDdInRange t.is t.range
+
+  -- a card of it is in the records below it
+  module _ (i : ℕ) (h : i < length (cards_in d.kind)) where
+    its_cards : byte_at ((shown q).at n) 12 ≡ 4
+    its_cards = cards_here q.layout (shown q) ((shown q).at n) i (subst (λ (x : DdPlan). i < length (cards_in x.kind)) t.is h)
+
+    cards_are : cards_in d.kind ≡ cards_from q (number_at ((shown q).at n) q.layout.below)
+    cards_are = ap (λ (x : DdPlan). cards_in x.kind) t.is ∙ ap cards_in (cards_there q.layout (shown q) ((shown q).at n) its_cards)
+
+    pub has_card : HasCard q (number_at ((shown q).at n) q.layout.below) i
+    has_card = record {
+      records = q.layout.most_records + 1;
+      few = omega arith;
+      kinds = t.below.cards its_cards;
+      there = subst (λ cards. i < length cards) cards_are h;
+    }
+
+    pub card_is : card_at (cards_in d.kind) i ≡ card_at (cards_from q (number_at ((shown q).at n) q.layout.below)) i
+    card_is = ap (λ cards. card_at cards i) cards_are
 
   pub counted : number_at ((shown q).at n) q.layout.cards ≡ length (cards_of (dd_of q ((shown q).at n)).kind)
   counted = t.cards ∙ ap (λ (x : DdPlan). length (cards_of x.kind)) t.is

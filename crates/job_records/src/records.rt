@@ -1,14 +1,15 @@
 //! A job that a store of records holds.
-ghost use Rattle.std.specs.Prelude.{◌≡◌, ◌<◌, ℕ, length};
+ghost use Rattle.std.specs.Prelude.{◌≡◌, ◌+◌, ◌<◌, ◌≤◌, ℕ, length};
 ghost use Rattle.cb_meaning.specs.Spelled.{jfcb};
 ghost use Rattle.cb_queue.specs.RecordQueues.{RecordQueue};
 ghost use Rattle.cb_read.specs.Chains.{plan_of};
 ghost use Rattle.cb_read.specs.Kinds.{IsOfKind};
 ghost use Rattle.job_records.specs.Fields.{fields_of_siot};
-ghost use Rattle.job_records.specs.Recorded.{CanBeRead, IsAtHand, ShowsJct, ShowsJfcb, ShowsSct, ShowsSiot, sct_at, siot_at};
-ghost use Rattle.job_text.specs.Places.{step_at};
+ghost use Rattle.job_records.specs.Recorded.{CanBeRead, IsAtHand, IsCardPlace, ShowsJct, ShowsJfcb, ShowsSct, ShowsSiot, first_below, sct_at, siot_at};
+ghost use Rattle.job_text.specs.Places.{dd_at, step_at};
+ghost use Rattle.job_text.specs.Texts.{cards_in};
 
-use crate::cards::card_behind;
+use crate::cards::{CardPlace, card_there, find_card};
 use crate::lent::{jct_of, jfcb_of, sct_of, siot_of};
 use crate::places::{dd_behind, step_behind};
 use crate::said::{
@@ -27,13 +28,17 @@ use jname_core::name8::Name8;
 use job_text::text::JobText;
 use job_text::texts::{DispText, PutText, SourceText, StepText, TakeText};
 
-/// Numbers of records that need not be looked for: the SCT of a step, and the SIOT of one of its DDs; 0 is none. Steps and DDs count from 0.
+/// Numbers of records that need not be looked for: the SCT of a step, the SIOT of one of its DDs, and a record of that DD's cards; 0 is none. Steps, DDs
+/// and cards count from 0.
 #[derive(Clone, Copy)]
 pub struct AtHand {
     pub step: usize,
     pub sct: u32,
     pub dd: usize,
     pub siot: u32,
+    /// The first card of the record of cards.
+    pub card: usize,
+    pub cards: u32,
 }
 
 /// No record is at hand, whatever the job.
@@ -41,12 +46,15 @@ pub fn none_at_hand() -> AtHand
     ensures at_hand { (q : RecordQueue) (n : ℕ) → IsAtHand q n result }
     ensures sct { result.sct ≡ 0 }
     ensures siot { result.siot ≡ 0 }
+    ensures cards { result.cards ≡ 0 }
 {
     AtHand {
         step: 0,
         sct: 0,
         dd: 0,
         siot: 0,
+        card: 0,
+        cards: 0,
     }
 }
 
@@ -128,10 +136,9 @@ impl<'a, S: RecordStore> JobRecords<'a, S> {
         ensures step { result.step ≡ step }
         ensures found { result.sct ≡ sct_at (S.queue self.now.store.now) self.now.jct step }
     {
-        let sct = self.sct_number(step);
         AtHand {
             step,
-            sct,
+            sct: self.sct_number(step),
             ..none_at_hand()
         }
     }
@@ -153,6 +160,41 @@ impl<'a, S: RecordStore> JobRecords<'a, S> {
             sct,
             dd,
             siot,
+            ..none_at_hand()
+        }
+    }
+
+    fn card_place(&self, step: usize, dd: usize, card: usize) -> CardPlace
+        requires reads { CanBeRead (S.queue self.now.store.now) self.now.jct self.now.at_hand }
+        requires step { step < length (plan_of (S.queue self.now.store.now) self.now.jct).steps }
+        requires dd { dd < length (step_at (plan_of (S.queue self.now.store.now) self.now.jct).steps step).dds }
+        requires card { card < length (cards_in (dd_at (step_at (plan_of (S.queue self.now.store.now) self.now.jct).steps step).dds dd).kind) }
+        ensures { IsCardPlace (S.queue self.now.store.now) (first_below (S.queue self.now.store.now) self.now.jct step dd) card result }
+    {
+        let hand = self.at_hand;
+        if hand.cards != 0 && hand.step == step && hand.dd == dd && hand.card <= card {
+            return find_card(self.store, hand.cards, card - hand.card);
+        }
+        find_card(self.store, self.siot(step, dd).below(), card)
+    }
+
+    /// The SCT of a step, the SIOT of one of its DDs, and the record of one of its cards are at hand.
+    pub fn card_at_hand(&self, step: usize, dd: usize, card: usize) -> AtHand
+        requires reads { CanBeRead (S.queue self.now.store.now) self.now.jct self.now.at_hand }
+        requires step { step < length (plan_of (S.queue self.now.store.now) self.now.jct).steps }
+        requires dd { dd < length (step_at (plan_of (S.queue self.now.store.now) self.now.jct).steps step).dds }
+        requires card { card < length (cards_in (dd_at (step_at (plan_of (S.queue self.now.store.now) self.now.jct).steps step).dds dd).kind) }
+        ensures is { IsAtHand (S.queue self.now.store.now) self.now.jct result }
+        ensures step { result.step ≡ step }
+        ensures dd { result.dd ≡ dd }
+        ensures found { (result.card ≤ card) × (card ≤ result.card + 1) }
+    {
+        let hand = self.dd_at_hand(step, dd);
+        let at = self.card_place(step, dd, card);
+        AtHand {
+            card: card - at.place,
+            cards: at.n,
+            ..hand
         }
     }
 
@@ -271,6 +313,6 @@ impl<'a, S: RecordStore> JobText for JobRecords<'a, S> {
     }
 
     fn card(&self, step: usize, dd: usize, card: usize) -> Record {
-        card_behind(self.store, self.siot(step, dd).below(), card)
+        card_there(self.store, self.card_place(step, dd, card))
     }
 }
