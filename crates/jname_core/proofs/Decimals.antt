@@ -1,11 +1,11 @@
--- Numbers, read up to 65,536 and no further.
-use Rattle.std.proofs.Common.{◌≡◌, ℕ, ◌<◌, ◌≤◌, true, min, nat_le, List, Some, arith, le-leb}
+-- Numbers, read up to a cap and no further.
+use Rattle.std.proofs.Common.{◌≡◌, ℕ, ◌+◌, ◌≤◌, true, min, nat_le, List, Some, arith, le-leb}
 use Rattle.jname_core.specs.Decimals.{decimal_value, is_decimal, number_within}
 
 -- below it they are what the digits say
-pub within_capped : (low high value : ℕ) (text : List ℕ) → is_decimal text ≡ true → high < 65536
-    → value ≡ min 65536 (decimal_value text) → low ≤ value → value ≤ high → Some value ≡ number_within low high text
-within_capped low high value text digits top is above below =
+pub within_capped : (low high value : ℕ) (text : List ℕ) → is_decimal text ≡ true
+    → value ≡ min (high + 1) (decimal_value text) → low ≤ value → value ≤ high → Some value ≡ number_within low high text
+within_capped low high value text digits is above below =
     let same : decimal_value text ≡ value = omega arith in
     let first : nat_le low value ≡ true = le-leb low value above in
     let last : nat_le value high ≡ true = le-leb value high below in
