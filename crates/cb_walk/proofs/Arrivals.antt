@@ -1,7 +1,7 @@
 -- What is lent of a record, and arriving at it.
 use Rattle.std.proofs.Common.{◌≡◌, ℕ, ◌+◌, ◌-◌, ◌<◌, ◌≤◌, ◌≢◌, ◌==◌, ◌||◌, not, Bool, true, false, cond, List, ◌∷◌, length}
-use Rattle.std.proofs.Common.{drop, get_or, set, length-set, replicate, Option, Some, None, refl}
-use Rattle.std.proofs.Common.{sym, ap, subst, ◌∙◌, arith, inl, inr, get_or-set_same, get_or-set_other}
+use Rattle.std.proofs.Common.{drop, get_or, replicate, Option, Some, None, refl}
+use Rattle.std.proofs.Common.{sym, ap, subst, ◌∙◌, arith, inl, inr}
 use Rattle.std.specs.Prelude.{nat_lt, if◌then◌else◌, is_none, IfSome}
 use Rattle.std.proofs.lemmas.Bool.{cases_Bool, and_parts, leb-true, ltb-true, ltb-false, or_parts}
 use Rattle.std.proofs.lemmas.Grind.{same_number_lists}
@@ -12,7 +12,7 @@ use Rattle.cb_meaning.specs.Fields.{byte_at, field, is_in, number_at, part}
 use Rattle.cb_meaning.specs.Walks.{arrival_fault, is_free, kind_of, owner_of}
 use Rattle.cb_records.specs.Writes.{ChangesOnly}
 use Rattle.cb_queue.specs.RecordQueues.{IsInUse, IsLent, IsSoundQueue, RecordQueue, bytes_or_zeros, record_at, shown}
-use Rattle.cb_walk.specs.Marks.{AreMarked, arrival_told, is_met}
+use Rattle.cb_walk.specs.Marks.{AreMarked, arrival_told, is_marked, is_met}
 
 -- zeros in a link that was changed alone give the record back
 pub given_again : (l : Layout) (r s t : List ℕ) → IsInUse l r → ChangesOnly l.link r s → ChangesOnly l.link s t →
@@ -48,16 +48,12 @@ none_brought l None lent = refl
 none_brought l (Some r) lent = absurd lent
 
 -- one record more is marked
-pub marked_more : (marks : List Bool) (seen : List ℕ) (n : ℕ) → n < length marks → AreMarked marks seen → AreMarked (set marks n true) (n ∷ seen)
-marked_more marks seen n h marked m k =
+pub marked_more : (old new seen : List ℕ) (n : ℕ) → is_marked new n ≡ true → ((k : ℕ) → k ≢ n → is_marked new k ≡ is_marked old k) → AreMarked old seen →
+    AreMarked new (n ∷ seen)
+marked_more old new seen n here others marked m =
     elim (eqb_tells n m) [
-      | inl same ↦
-          (let P : ℕ → Type 0 = λ x. get_or (set marks n true) x false ≡ true in
-          subst P same.1 (get_or-set_same marks n true false h) ∙ sym (ap (λ b. b || is_met seen m) same.0))
-      | inr other ↦
-          (let apart : m ≢ n = λ e. other.1 (sym e) in
-          get_or-set_other marks n m true false apart ∙ marked m (let size = length-set marks n true in omega (arith, size, k))
-          ∙ sym (ap (λ b. b || is_met seen m) other.0))
+      | inl same ↦ subst (λ x. is_marked new x ≡ true) same.1 here ∙ sym (ap (λ b. b || is_met seen m) same.0)
+      | inr other ↦ others m (λ e. other.1 (sym e)) ∙ marked m ∙ sym (ap (λ b. b || is_met seen m) other.0)
     ]
 
 -- what is 0 of zeros is seen as 0 of a free record

@@ -52,17 +52,17 @@ cards_pass l q job fuel stated read n seen some e f few =
 told_here : (l m : Layout) (r s : List ℕ) (o : Option ℕ) → l ≡ m → r ≡ s → o ≡ lowest (card_faults l r) → lowest (card_faults m s) ≡ o
 told_here l m r s o e f told = sym (told ∙ ap (λ x. lowest (card_faults x r)) e ∙ ap (λ x. lowest (card_faults m x)) f)
 
-abbrev pub Arrived : RecordQueue → ℕ → ℕ → List Bool → List Bool → List ℕ → Type 0
+abbrev pub Arrived : RecordQueue → ℕ → ℕ → List ℕ → List ℕ → List ℕ → Type 0
 Arrived q job n marks later r = (seen : List ℕ) → AreMarked marks seen → IsAt q job card_record seen n later r
 
-pub bad_cards : (q : RecordQueue) (l : Layout) → l ≡ q.layout → (job stated read n : ℕ) (marks later : List Bool) (r : List ℕ) (fault : ℕ) → n ≢ 0 →
+pub bad_cards : (q : RecordQueue) (l : Layout) → l ≡ q.layout → (job stated read n : ℕ) (marks later : List ℕ) (r : List ℕ) (fault : ℕ) → n ≢ 0 →
     Arrived q job n marks later r → Some fault ≡ lowest (card_faults l r) → (fuel : ℕ) → Refuses marks (cards_from q job (suc fuel) stated read n) fault
 bad_cards q l same job stated read n marks later r fault some arrived told fuel seen marked =
     let here = arrived seen marked in
     cards_bad q.layout (shown q) job fuel stated read n seen fault some here.fine
     (told_here l q.layout r (bytes_or_zeros (record_at q n)) (Some fault) same here.bytes told)
 
-pub many_cards : (q : RecordQueue) (l : Layout) → l ≡ q.layout → (job stated read n : ℕ) (marks later : List Bool) (r : List ℕ) (byte : ℕ) → n ≢ 0 →
+pub many_cards : (q : RecordQueue) (l : Layout) → l ≡ q.layout → (job stated read n : ℕ) (marks later : List ℕ) (r : List ℕ) (byte : ℕ) → n ≢ 0 →
     Arrived q job n marks later r → None ≡ lowest (card_faults l r) → byte ≡ byte_at r 10 → stated < read + byte →
     (fuel : ℕ) → Refuses marks (cards_from q job (suc fuel) stated read n) 10
 many_cards q l same job stated read n marks later r byte some arrived told is many fuel seen marked =
@@ -71,7 +71,7 @@ many_cards q l same job stated read n marks later r byte some arrived told is ma
     cards_many q.layout (shown q) job fuel stated read n seen some here.fine
     (told_here l q.layout r (bytes_or_zeros (record_at q n)) None same here.bytes told) (subst P (is ∙ ap (λ x. byte_at x 10) here.bytes) many)
 
-pub passed_cards : (q : RecordQueue) (l : Layout) → l ≡ q.layout → (job stated read n : ℕ) (marks later : List Bool) (r : List ℕ) (byte next : ℕ) → n ≢ 0 →
+pub passed_cards : (q : RecordQueue) (l : Layout) → l ≡ q.layout → (job stated read n : ℕ) (marks later : List ℕ) (r : List ℕ) (byte next : ℕ) → n ≢ 0 →
     Arrived q job n marks later r → None ≡ lowest (card_faults l r) → byte ≡ byte_at r 10 → read + byte ≤ stated → next ≡ number_at r l.next_cards →
     PassesCards q job stated read n marks later (read + byte) next
 passed_cards q l same job stated read n marks later r byte next some arrived told is few link = record {
@@ -93,13 +93,13 @@ passed_cards q l same job stated read n marks later r byte next some arrived tol
 }
 
 -- at the end of the cards
-pub cards_end : (q : RecordQueue) (job stated read n : ℕ) (marks : List Bool) → n ≡ 0 → read ≡ stated →
+pub cards_end : (q : RecordQueue) (job stated read n : ℕ) (marks : List ℕ) → n ≡ 0 → read ≡ stated →
     (fuel : ℕ) → Follows marks marks (cards_from q job (suc fuel) stated read n) (λ met. Ok met)
 cards_end q job stated read n marks end same fuel seen marked = (seen, marked, cards_whole q.layout (shown q) job fuel stated read n seen end same)
 
-pub cards_other : (q : RecordQueue) (job stated read n : ℕ) (marks : List Bool) → n ≡ 0 → read ≢ stated →
+pub cards_other : (q : RecordQueue) (job stated read n : ℕ) (marks : List ℕ) → n ≡ 0 → read ≢ stated →
     (fuel : ℕ) → Refuses marks (cards_from q job (suc fuel) stated read n) 5
 cards_other q job stated read n marks end other fuel seen marked = cards_miscounted q.layout (shown q) job fuel stated read n seen end other
 
-pub cards_none : (q : RecordQueue) (job stated read n : ℕ) (marks : List Bool) → Refuses marks (cards_from q job 0 stated read n) 4
+pub cards_none : (q : RecordQueue) (job stated read n : ℕ) (marks : List ℕ) → Refuses marks (cards_from q job 0 stated read n) 4
 cards_none q job stated read n marks seen marked = cards_spent q.layout (shown q) job stated read n seen

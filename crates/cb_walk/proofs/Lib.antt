@@ -1,3 +1,4 @@
+mod Marking
 mod Cleared
 mod Several
 mod Earlier
@@ -10,4 +11,3 @@ mod UnderDds
 mod PassingDds
 mod PassingSteps
 mod WholeJob
-pub mod Unset

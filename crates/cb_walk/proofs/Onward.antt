@@ -2,17 +2,17 @@
 use Rattle.std.proofs.Common.{◌≡◌, ℕ, suc, ◌-◌, ◌<◌, ◌≤◌, Bool, List, subst, ◌∙◌, arith}
 use Rattle.cb_walk.specs.Follows.{Follows, From, Refuses}
 
-pub follows_on : {A : Type 0} (first second third : List Bool) (f g h : From A) → Follows first second f g → Follows second third g h → Follows first third f h
+pub follows_on : {A : Type 0} (first second third : List ℕ) (f g h : From A) → Follows first second f g → Follows second third g h → Follows first third f h
 follows_on first second third f g h one two seen marked =
     let a = one seen marked in
     let b = two a.0 a.1 in
     (b.0, b.1, a.2 ∙ b.2)
 
-pub refuses_on : {A : Type 0} (first second : List Bool) (f g : From A) (fault : ℕ) → Follows first second f g → Refuses second g fault → Refuses first f fault
+pub refuses_on : {A : Type 0} (first second : List ℕ) (f g : From A) (fault : ℕ) → Follows first second f g → Refuses second g fault → Refuses first f fault
 refuses_on first second f g fault one two seen marked = let a = one seen marked in a.2 ∙ two a.0 a.1
 
 -- The walk came here, where so many records are left.
-module _ {A : Type 0} (here : ℕ → From A) (left : ℕ) (first marks : List Bool) (walk : From A) (goes : Follows first marks walk (here left)) where
+module _ {A : Type 0} (here : ℕ → From A) (left : ℕ) (first marks : List ℕ) (walk : From A) (goes : Follows first marks walk (here left)) where
   module _ (some : 0 < left) where
     with_left : Follows first marks walk (here (suc (left - 1)))
     with_left =
@@ -20,7 +20,7 @@ module _ {A : Type 0} (here : ℕ → From A) (left : ℕ) (first marks : List B
         let P : ℕ → Type 0 = λ x. Follows first marks walk (here x) in
         subst P whole goes
 
-    pub one_passed : (there : ℕ → From A) (later : List Bool) → ((fuel : ℕ) → Follows marks later (here (suc fuel)) (there fuel)) →
+    pub one_passed : (there : ℕ → From A) (later : List ℕ) → ((fuel : ℕ) → Follows marks later (here (suc fuel)) (there fuel)) →
         Follows first later walk (there (left - 1))
     one_passed there later passes = follows_on first marks later walk (here (suc (left - 1))) (there (left - 1)) with_left (passes (left - 1))
 

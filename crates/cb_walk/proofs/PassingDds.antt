@@ -59,24 +59,24 @@ told_here : (l m : Layout) (units : ℕ) (steps : List (List Bool)) (k d : ℕ) 
 told_here l m units steps k d r s o e f told =
     sym (told ∙ ap (λ x. lowest (siot_faults x units steps k d r)) e ∙ ap (λ x. lowest (siot_faults m units steps k d x)) f)
 
-abbrev pub Arrived : RecordQueue → ℕ → ℕ → List Bool → List Bool → List ℕ → Type 0
+abbrev pub Arrived : RecordQueue → ℕ → ℕ → List ℕ → List ℕ → List ℕ → Type 0
 Arrived q job n marks later r = (seen : List ℕ) → AreMarked marks seen → IsAt q job siot seen n later r
 
-pub unmet_dd : (q : RecordQueue) (units job left : ℕ) (steps : List (List Bool)) (dds : List Bool) (n fault : ℕ) (marks : List Bool) → 0 < left → n ≢ 0 →
+pub unmet_dd : (q : RecordQueue) (units job left : ℕ) (steps : List (List Bool)) (dds : List Bool) (n fault : ℕ) (marks : List ℕ) → 0 < left → n ≢ 0 →
     ((seen : List ℕ) → AreMarked marks seen → arrival_fault q.layout (shown q) job siot seen n ≡ Some fault) →
     (stated : ℕ) → Refuses marks (dds_from q units job left stated steps dds n) fault
 unmet_dd q units job left steps dds n fault marks more some arrives stated seen marked =
     let P : ℕ → Type 0 = λ x. dds_from q units job x stated steps dds n seen ≡ Err fault in
     subst P (one_more left more) (unmet q.layout units (shown q) job (left - 1) stated steps dds seen n fault some (arrives seen marked))
 
-pub many_dds : (q : RecordQueue) (units job left : ℕ) (steps : List (List Bool)) (dds : List Bool) (n : ℕ) (marks later : List Bool) (r : List ℕ) →
+pub many_dds : (q : RecordQueue) (units job left : ℕ) (steps : List (List Bool)) (dds : List Bool) (n : ℕ) (marks later : List ℕ) (r : List ℕ) →
     0 < left → n ≢ 0 → Arrived q job n marks later r → length dds ≡ most_dds → (stated : ℕ) → Refuses marks (dds_from q units job left stated steps dds n) 10
 many_dds q units job left steps dds n marks later r more some arrived m stated seen marked =
     let P : ℕ → Type 0 = λ x. dds_from q units job x stated steps dds n seen ≡ Err 10 in
     subst P (one_more left more) (many q.layout units (shown q) job (left - 1) stated steps dds seen n some (arrived seen marked).fine m)
 
 pub bad_dd : (q : RecordQueue) (l : Layout) → l ≡ q.layout → (units job left : ℕ) (steps : List (List Bool)) (dds : List Bool) (n fault : ℕ)
-    (marks later : List Bool) (r : List ℕ) → 0 < left → n ≢ 0 → Arrived q job n marks later r → length dds ≢ most_dds →
+    (marks later : List ℕ) (r : List ℕ) → 0 < left → n ≢ 0 → Arrived q job n marks later r → length dds ≢ most_dds →
     Some fault ≡ lowest (siot_faults l units (with_dds steps dds) (length steps + 1) (length dds + 1) r) →
     (stated : ℕ) → Refuses marks (dds_from q units job left stated steps dds n) fault
 bad_dd q l same units job left steps dds n fault marks later r more some arrived m told stated seen marked =
@@ -86,7 +86,7 @@ bad_dd q l same units job left steps dds n fault marks later r more some arrived
     (told_here l q.layout units (with_dds steps dds) (length steps + 1) (length dds + 1) r (bytes_or_zeros (record_at q n)) (Some fault) same here.bytes told))
 
 pub under_dd : (q : RecordQueue) (l : Layout) → l ≡ q.layout → (units job left : ℕ) (steps : List (List Bool)) (dds : List Bool) (n fault : ℕ)
-    (marks later : List Bool) (r : List ℕ) → 0 < left → n ≢ 0 → Arrived q job n marks later r → length dds ≢ most_dds →
+    (marks later : List ℕ) (r : List ℕ) → 0 < left → n ≢ 0 → Arrived q job n marks later r → length dds ≢ most_dds →
     None ≡ lowest (siot_faults l units (with_dds steps dds) (length steps + 1) (length dds + 1) r) → Refuses later (below_from q job left steps dds r) fault →
     (stated : ℕ) → Refuses marks (dds_from q units job left stated steps dds n) fault
 under_dd q l same units job left steps dds n fault marks later r more some arrived m told refuses stated seen marked =
@@ -100,7 +100,7 @@ under_dd q l same units job left steps dds n fault marks later r more some arriv
     (subst Below (sym (one_more left more)) (subst Bytes here.bytes (refuses (n ∷ seen) here.marked))))
 
 pub passed_dd : (q : RecordQueue) (l : Layout) → l ≡ q.layout → (units job left : ℕ) (steps : List (List Bool)) (dds : List Bool) (n : ℕ)
-    (marks later last : List Bool) (r : List ℕ) (set : Bool) (next : ℕ) → 0 < left → n ≢ 0 → Arrived q job n marks later r → length dds ≢ most_dds →
+    (marks later last : List ℕ) (r : List ℕ) (set : Bool) (next : ℕ) → 0 < left → n ≢ 0 → Arrived q job n marks later r → length dds ≢ most_dds →
     None ≡ lowest (siot_faults l units (with_dds steps dds) (length steps + 1) (length dds + 1) r) →
     Follows later last (below_from q job left steps dds r) (λ met. Ok met) → set ≡ is_set r → next ≡ number_at r l.next_dd →
     (stated : ℕ) → Follows marks last (dds_from q units job left stated steps dds n) (dds_from q units job (left - 1) stated steps (dds ++ set ∷ []) next)
@@ -140,19 +140,19 @@ miscounted : (l : Layout) (units : ℕ) (q : Records) (job fuel stated : ℕ) (s
 unfolding walk_dds
 miscounted l units q job fuel stated steps dds seen n e s = rw (eq-eqb n 0 e) (rw (ne_eqb (length dds) stated s) refl)
 
-pub all_dds : (q : RecordQueue) (units job left stated : ℕ) (steps : List (List Bool)) (dds : List Bool) (n : ℕ) (marks : List Bool) → 0 < left → n ≡ 0 →
+pub all_dds : (q : RecordQueue) (units job left stated : ℕ) (steps : List (List Bool)) (dds : List Bool) (n : ℕ) (marks : List ℕ) → 0 < left → n ≡ 0 →
     length dds ≡ stated → Follows marks marks (dds_from q units job left stated steps dds n) (λ met. Ok (dds, met))
 all_dds q units job left stated steps dds n marks more end same seen marked =
     let P : ℕ → Type 0 = λ x. dds_from q units job x stated steps dds n seen ≡ Ok (dds, seen) in
     (seen, marked, subst P (one_more left more) (whole q.layout units (shown q) job (left - 1) stated steps dds seen n end same))
 
-pub other_dds : (q : RecordQueue) (units job left stated : ℕ) (steps : List (List Bool)) (dds : List Bool) (n : ℕ) (marks : List Bool) → 0 < left → n ≡ 0 →
+pub other_dds : (q : RecordQueue) (units job left stated : ℕ) (steps : List (List Bool)) (dds : List Bool) (n : ℕ) (marks : List ℕ) → 0 < left → n ≡ 0 →
     length dds ≢ stated → Refuses marks (dds_from q units job left stated steps dds n) 5
 other_dds q units job left stated steps dds n marks more end other seen marked =
     let P : ℕ → Type 0 = λ x. dds_from q units job x stated steps dds n seen ≡ Err 5 in
     subst P (one_more left more) (miscounted q.layout units (shown q) job (left - 1) stated steps dds seen n end other)
 
-pub none_left : (q : RecordQueue) (units job left stated : ℕ) (steps : List (List Bool)) (dds : List Bool) (n : ℕ) (marks : List Bool) → left ≤ 0 →
+pub none_left : (q : RecordQueue) (units job left stated : ℕ) (steps : List (List Bool)) (dds : List Bool) (n : ℕ) (marks : List ℕ) → left ≤ 0 →
     Refuses marks (dds_from q units job left stated steps dds n) 4
 none_left q units job left stated steps dds n marks end seen marked =
     let none : 0 ≡ left = omega (arith, end) in
@@ -160,7 +160,7 @@ none_left q units job left stated steps dds n marks end seen marked =
     subst P none (spent q.layout units (shown q) job stated steps dds seen n)
 
 pub dd_passed : (q : RecordQueue) (units job left stated : ℕ) (steps : List (List Bool)) (dds lent more : List Bool) (n next : ℕ) (set : Bool)
-    (first marks later : List Bool) (walk : From (List Bool × List ℕ)) → lent ≡ dds → more ≡ dds ++ set ∷ [] →
+    (first marks later : List ℕ) (walk : From (List Bool × List ℕ)) → lent ≡ dds → more ≡ dds ++ set ∷ [] →
     Follows first marks walk (dds_from q units job left stated steps dds n) →
     ((all : ℕ) → Follows marks later (dds_from q units job left all steps lent n) (dds_from q units job (left - 1) all steps (lent ++ set ∷ []) next)) →
     Follows first later walk (dds_from q units job (left - 1) stated steps more next)

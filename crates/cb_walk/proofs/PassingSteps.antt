@@ -57,7 +57,7 @@ module _ (l : Layout) (units : ℕ) (q : Records) (job fuel stated : ℕ) (steps
   unfolding walk_steps
   miscounted s = rw (eq-eqb n 0 end) (rw (ne_eqb (length steps) stated s) refl)
 
-pub unmet_step : (q : RecordQueue) (units job : ℕ) (steps : List (List Bool)) (n fault : ℕ) (marks : List Bool) → n ≢ 0 →
+pub unmet_step : (q : RecordQueue) (units job : ℕ) (steps : List (List Bool)) (n fault : ℕ) (marks : List ℕ) → n ≢ 0 →
     ((seen : List ℕ) → AreMarked marks seen → arrival_fault q.layout (shown q) job sct seen n ≡ Some fault) →
     (fuel stated : ℕ) → Refuses marks (steps_from q units job (suc fuel) stated steps n) fault
 unmet_step q units job steps n fault marks some arrives fuel stated seen marked =
@@ -66,11 +66,11 @@ unmet_step q units job steps n fault marks some arrives fuel stated seen marked 
 told_here : (l m : Layout) (k : ℕ) (r s : List ℕ) (o : Option ℕ) → l ≡ m → r ≡ s → o ≡ lowest (sct_faults l k r) → lowest (sct_faults m k s) ≡ o
 told_here l m k r s o e f told = sym (told ∙ ap (λ x. lowest (sct_faults x k r)) e ∙ ap (λ x. lowest (sct_faults m k x)) f)
 
-abbrev pub Arrived : RecordQueue → ℕ → ℕ → List Bool → List Bool → List ℕ → Type 0
+abbrev pub Arrived : RecordQueue → ℕ → ℕ → List ℕ → List ℕ → List ℕ → Type 0
 Arrived q job n marks later r = (seen : List ℕ) → AreMarked marks seen → IsAt q job sct seen n later r
 
 -- Of an SCT that was arrived at, as the code reads it.
-module _ (q : RecordQueue) (l : Layout) (same : l ≡ q.layout) (units job : ℕ) (steps : List (List Bool)) (n : ℕ) (some : n ≢ 0) (marks later : List Bool)
+module _ (q : RecordQueue) (l : Layout) (same : l ≡ q.layout) (units job : ℕ) (steps : List (List Bool)) (n : ℕ) (some : n ≢ 0) (marks later : List ℕ)
     (r : List ℕ) (arrived : Arrived q job n marks later r) where
   pub many_steps : length steps ≡ l.most_steps → (fuel stated : ℕ) → Refuses marks (steps_from q units job (suc fuel) stated steps n) 10
   many_steps m fuel stated seen marked =
@@ -113,7 +113,7 @@ module _ (q : RecordQueue) (l : Layout) (same : l ≡ q.layout) (units job : ℕ
             under q.layout units (shown q) job fuel stated steps seen n some here.fine fewer (good s here.bytes) fault
             (dds_alike s (n ∷ seen) here.bytes ∙ refuses (n ∷ seen) here.marked)
 
-        pub passed_step : (last dds : List Bool) (next : ℕ) → Follows later last (dds_from q units job most count steps [] first) (λ met. Ok (dds, met)) →
+        pub passed_step : (last : List ℕ) (dds : List Bool) (next : ℕ) → Follows later last (dds_from q units job most count steps [] first) (λ met. Ok (dds, met)) →
             next ≡ number_at r l.next_step → length steps ≤ q.layout.most_steps → PassesOne q units job steps n marks last dds next
         passed_step last dds next goes link within = record {
           within = (let other = fewer in omega (arith, within, other));
@@ -132,7 +132,7 @@ module _ (q : RecordQueue) (l : Layout) (same : l ≡ q.layout) (units job : ℕ
         }
 
 -- at the end of the steps
-module _ (q : RecordQueue) (units job stated : ℕ) (steps : List (List Bool)) (n : ℕ) (marks : List Bool) where
+module _ (q : RecordQueue) (units job stated : ℕ) (steps : List (List Bool)) (n : ℕ) (marks : List ℕ) where
   pub steps_end : n ≡ 0 → length steps ≡ stated → (fuel : ℕ) → Follows marks marks (steps_from q units job (suc fuel) stated steps n) (λ met. Ok met)
   steps_end end same fuel seen marked = (seen, marked, whole q.layout units (shown q) job fuel stated steps seen n end same)
 
@@ -143,7 +143,7 @@ module _ (q : RecordQueue) (units job stated : ℕ) (steps : List (List Bool)) (
   steps_none seen marked = spent q.layout units (shown q) job stated steps seen n
 
 -- one step was passed, with what was lent of those before it
-pub step_passed : (q : RecordQueue) (units job left stated : ℕ) (steps lent more : List (List Bool)) (n next : ℕ) (dds first marks later : List Bool)
+pub step_passed : (q : RecordQueue) (units job left stated : ℕ) (steps lent more : List (List Bool)) (n next : ℕ) (dds : List Bool) (first marks later : List ℕ)
     (walk : From (List ℕ)) → lent ≡ steps → more ≡ with_dds steps dds → Follows first marks walk (steps_from q units job left stated steps n) → 0 < left →
     PassesOne q units job lent n marks later dds next →
     (length more ≤ q.layout.most_steps) × Follows first later walk (steps_from q units job (left - 1) stated more next)

@@ -27,14 +27,14 @@ told_here : (l m : Layout) (steps : List (List Bool)) (k d : ℕ) (s r t : List 
 told_here l m steps k d s r t o e f told =
     sym (told ∙ ap (λ x. lowest (jfcb_faults x steps k d s r)) e ∙ ap (λ x. lowest (jfcb_faults m steps k d s x)) f)
 
-pub unmet_set : (q : RecordQueue) (job : ℕ) (steps : List (List Bool)) (dds : List Bool) (s : List ℕ) (n fault : ℕ) (marks : List Bool) →
+pub unmet_set : (q : RecordQueue) (job : ℕ) (steps : List (List Bool)) (dds : List Bool) (s : List ℕ) (n fault : ℕ) (marks : List ℕ) →
     ((seen : List ℕ) → AreMarked marks seen → arrival_fault q.layout (shown q) job jfcb seen n ≡ Some fault) →
     Refuses marks (jfcb_from q job steps dds s n) fault
 unmet_set q job steps dds s n fault marks unmet seen marked =
     jfcb_unmet q.layout (shown q) job (with_dds steps dds) (length steps + 1) (length dds + 1) s seen n fault (unmet seen marked)
 
 pub bad_set : (q : RecordQueue) (l : Layout) → l ≡ q.layout → (job : ℕ) (steps : List (List Bool)) (dds : List Bool) (s : List ℕ) (n fault : ℕ)
-    (marks later : List Bool) (r : List ℕ) → ((seen : List ℕ) → AreMarked marks seen → IsAt q job jfcb seen n later r) →
+    (marks later : List ℕ) (r : List ℕ) → ((seen : List ℕ) → AreMarked marks seen → IsAt q job jfcb seen n later r) →
     Some fault ≡ lowest (jfcb_faults l (with_dds steps dds) (length steps + 1) (length dds + 1) s r) → Refuses marks (jfcb_from q job steps dds s n) fault
 bad_set q l same job steps dds s n fault marks later r arrived told seen marked =
     let here = arrived seen marked in
@@ -42,7 +42,7 @@ bad_set q l same job steps dds s n fault marks later r arrived told seen marked 
     (told_here l q.layout (with_dds steps dds) (length steps + 1) (length dds + 1) s r (bytes_or_zeros (record_at q n)) (Some fault) same here.bytes told)
 
 pub good_set : (q : RecordQueue) (l : Layout) → l ≡ q.layout → (job : ℕ) (steps : List (List Bool)) (dds : List Bool) (s : List ℕ) (n : ℕ)
-    (marks later : List Bool) (r : List ℕ) → ((seen : List ℕ) → AreMarked marks seen → IsAt q job jfcb seen n later r) →
+    (marks later : List ℕ) (r : List ℕ) → ((seen : List ℕ) → AreMarked marks seen → IsAt q job jfcb seen n later r) →
     None ≡ lowest (jfcb_faults l (with_dds steps dds) (length steps + 1) (length dds + 1) s r) →
     Follows marks later (jfcb_from q job steps dds s n) (λ met. Ok met)
 good_set q l same job steps dds s n marks later r arrived told seen marked =
@@ -54,7 +54,7 @@ good_set q l same job steps dds s n marks later r arrived told seen marked =
     )
 
 -- the same walk ends the same way
-pub ends_alike : (marks later : List Bool) (f g : From (List ℕ)) (result : Result (Unit {0}) ℕ) → ((seen : List ℕ) → f seen ≡ g seen) →
+pub ends_alike : (marks later : List ℕ) (f g : From (List ℕ)) (result : Result (Unit {0}) ℕ) → ((seen : List ℕ) → f seen ≡ g seen) →
     Ends marks later g result → Ends marks later f result
 ends_alike marks later f g (Ok x) same ends = λ seen marked. let a = ends seen marked in (a.0, a.1, same seen ∙ a.2)
 ends_alike marks later f g (Err fault) same ends = λ seen marked. same seen ∙ ends seen marked

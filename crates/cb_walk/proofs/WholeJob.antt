@@ -34,7 +34,7 @@ pub unmet_job : (q : RecordQueue) (units job n fault : ℕ) → arrival_fault q.
 unmet_job q units job n fault e = sym (unmet q.layout units (shown q) job n fault e)
 
 -- Of a JCT that was arrived at, as the code reads it.
-module _ (q : RecordQueue) (l : Layout) (same : l ≡ q.layout) (units job n : ℕ) (later : List Bool) (r : List ℕ) (here : IsAt q job jct [] n later r) where
+module _ (q : RecordQueue) (l : Layout) (same : l ≡ q.layout) (units job n : ℕ) (later : List ℕ) (r : List ℕ) (here : IsAt q job jct [] n later r) where
   told_here : (o : Option ℕ) → o ≡ lowest (jct_faults l r) → lowest (jct_faults q.layout (bytes_or_zeros (record_at q n))) ≡ o
   told_here o told = sym (told ∙ ap (λ x. lowest (jct_faults x r)) same ∙ ap (λ x. lowest (jct_faults q.layout x)) here.bytes)
 
@@ -65,7 +65,7 @@ module _ (q : RecordQueue) (l : Layout) (same : l ≡ q.layout) (units job n : �
       told_of result e =
           sym (walked q.layout units (shown q) job n here.fine (told_here None told) result (λ is. some (first_here ∙ is)) (steps_alike ∙ e))
 
-      pub walked_job : (last : List Bool) (result : Result (Unit {0}) ℕ) → Ends later last (steps_from q units job most stated [] first) result →
+      pub walked_job : (last : List ℕ) (result : Result (Unit {0}) ℕ) → Ends later last (steps_from q units job most stated [] first) result →
           Tells q units job n (result_err result)
       walked_job last (Ok x) ends = let all = ends (n ∷ []) here.marked in told_of (Ok all.0) all.2
       walked_job last (Err fault) ends = told_of (Err fault) (ends (n ∷ []) here.marked)

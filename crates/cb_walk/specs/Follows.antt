@@ -9,15 +9,15 @@ abbrev pub From : Type 0 → Type 0
 From A = List ℕ → Result A ℕ
 
 -- the walk from here answers what the one from there does
-abbrev pub Follows : {A : Type 0} → List Bool → List Bool → From A → From A → Type 0
+abbrev pub Follows : {A : Type 0} → List ℕ → List ℕ → From A → From A → Type 0
 Follows marks later here there = (seen : List ℕ) → AreMarked marks seen → (met : List ℕ) × AreMarked later met × (here seen ≡ there met)
 
 -- the walk from here ends with a fault
-abbrev pub Refuses : {A : Type 0} → List Bool → From A → ℕ → Type 0
+abbrev pub Refuses : {A : Type 0} → List ℕ → From A → ℕ → Type 0
 Refuses marks here fault = (seen : List ℕ) → AreMarked marks seen → here seen ≡ Err fault
 
 -- the walk ends, with all marked that was met, or with a fault
-abbrev pub Ends : List Bool → List Bool → From (List ℕ) → Result (Unit {0}) ℕ → Type 0
+abbrev pub Ends : List ℕ → List ℕ → From (List ℕ) → Result (Unit {0}) ℕ → Type 0
 Ends marks later here (Ok x) = Follows marks later here (λ met. Ok met)
 Ends marks later here (Err fault) = Refuses marks here fault
 
@@ -25,10 +25,10 @@ Ends marks later here (Err fault) = Refuses marks here fault
 abbrev pub cards_from : RecordQueue → ℕ → ℕ → ℕ → ℕ → ℕ → From (List ℕ)
 cards_from q job fuel stated read n = λ seen. walk_cards q.layout (shown q) job fuel stated read seen n
 
-pub record PassesCards (q : RecordQueue) (job stated read n : ℕ) (marks later : List Bool) (more next : ℕ) : Type 0 where
+pub record PassesCards (q : RecordQueue) (job stated read n : ℕ) (marks later : List ℕ) (more next : ℕ) : Type 0 where
   pub within : more ≤ stated
   pub follows : (fuel : ℕ) → Follows marks later (cards_from q job (suc fuel) stated read n) (cards_from q job fuel stated more next)
 
-abbrev pub Passes : RecordQueue → ℕ → ℕ → ℕ → ℕ → List Bool → List Bool → Result (ℕ × ℕ) ℕ → Type 0
+abbrev pub Passes : RecordQueue → ℕ → ℕ → ℕ → ℕ → List ℕ → List ℕ → Result (ℕ × ℕ) ℕ → Type 0
 Passes q job stated read n marks later (Ok p) = PassesCards q job stated read n marks later p.0 p.1
 Passes q job stated read n marks later (Err fault) = (fuel : ℕ) → Refuses marks (cards_from q job (suc fuel) stated read n) fault

@@ -8,11 +8,11 @@ abbrev pub steps_from : RecordQueue → ℕ → ℕ → ℕ → ℕ → List (Li
 steps_from q units job fuel stated steps n = λ seen. walk_steps q.layout units (shown q) job fuel stated steps seen n
 
 -- one step: which of its DDs are sets, and the number of the next one's SCT
-pub record PassesOne (q : RecordQueue) (units job : ℕ) (steps : List (List Bool)) (n : ℕ) (marks later dds : List Bool) (next : ℕ) : Type 0 where
+pub record PassesOne (q : RecordQueue) (units job : ℕ) (steps : List (List Bool)) (n : ℕ) (marks later : List ℕ) (dds : List Bool) (next : ℕ) : Type 0 where
   pub within : length steps + 1 ≤ q.layout.most_steps
   pub follows : (fuel stated : ℕ) →
       Follows marks later (steps_from q units job (suc fuel) stated steps n) (steps_from q units job fuel stated (with_dds steps dds) next)
 
-abbrev pub PassesStep : RecordQueue → ℕ → ℕ → List (List Bool) → ℕ → List Bool → List Bool → Result (List Bool × ℕ) ℕ → Type 0
+abbrev pub PassesStep : RecordQueue → ℕ → ℕ → List (List Bool) → ℕ → List ℕ → List ℕ → Result (List Bool × ℕ) ℕ → Type 0
 PassesStep q units job steps n marks later (Ok p) = PassesOne q units job steps n marks later p.0 p.1
 PassesStep q units job steps n marks later (Err fault) = (fuel stated : ℕ) → Refuses marks (steps_from q units job (suc fuel) stated steps n) fault

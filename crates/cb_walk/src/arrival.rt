@@ -1,10 +1,11 @@
 //! Arriving at a record: its number, its kind, its owner, and whether it was met.
-ghost use Rattle.std.specs.Prelude.{◌≡◌, ◌+◌, ◌<◌, List, ℕ, false, length, replicate, slice_index_or, slice_set, true};
+ghost use Rattle.std.specs.Prelude.{◌≡◌, ◌*◌, ◌<◌, List, ℕ, length, replicate};
 ghost use Rattle.cb_meaning.specs.Fields.{part};
 ghost use Rattle.cb_queue.specs.RecordQueues.{bytes_or_zeros, record_at};
 ghost use Rattle.cb_records.specs.Writes.{ChangesOnly, HoldsNumber};
 ghost use Rattle.cb_walk.specs.Marks.{AreMarked, Arrives, arrival_told};
 
+use crate::marks::{is_marked, mark};
 use cb_meaning::layout::{Field, Layout};
 use cb_queue::store::RecordStore;
 use cb_records::rec::Rec;
@@ -32,20 +33,6 @@ pub fn bring<S: RecordStore>(store: &S, n: u32, own: &mut Rec)
     }
 }
 
-fn is_marked(marks: &[bool], n: u32) -> bool
-    ensures { result ≡ slice_index_or marks.now n false }
-{
-    let n = n as usize;
-    if n < marks.len() { marks[n] } else { false }
-}
-
-fn mark(marks: &mut [bool], n: u32)
-    requires { n < length marks.old }
-    ensures { marks.new ≡ slice_set marks.old n true }
-{
-    marks[n as usize] = true;
-}
-
 /// What arriving tells, of the record that is there.
 fn arrival_told(layout: &Layout, r: &Rec, job: u16, kind: u8, met: bool, n: u32) -> Option<u8>
     ensures { result ≡ arrival_told layout.now r.now job kind met n }
@@ -66,13 +53,13 @@ fn arrival_told(layout: &Layout, r: &Rec, job: u16, kind: u8, met: bool, n: u32)
 /// Arrives at a record of a kind that a job owns and that has no mark. Brings and marks it, or tells its fault.
 pub(crate) fn arrive<S: RecordStore>(
     store: &S,
-    marks: &mut [bool],
+    marks: &mut [u64],
     job: u16,
     kind: u8,
     n: u32,
     own: &mut Rec,
 ) -> Result<(), u8>
-    requires { length marks.old ≡ (S.queue store.now).layout.most_records + 1 }
+    requires { (S.queue store.now).layout.most_records < 64 * length marks.old }
     ensures { (seen : List ℕ) → AreMarked marks.old seen → Arrives (S.queue store.now) job kind seen n marks.new own.new result }
 {
     let layout = store.layout();

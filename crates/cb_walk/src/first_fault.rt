@@ -1,5 +1,5 @@
 //! The first fault of a job's records.
-ghost use Rattle.std.specs.Prelude.{◌≡◌, ◌+◌, [], IfOk, length, replicate, false};
+ghost use Rattle.std.specs.Prelude.{◌≡◌, ◌<◌, ◌*◌, [], IfOk, length};
 ghost use Rattle.cb_meaning.specs.Walks.{first_fault};
 ghost use Rattle.cb_queue.specs.RecordQueues.{shown};
 ghost use Rattle.cb_walk.specs.Jobs.{Tells};
@@ -7,37 +7,22 @@ ghost use Rattle.cb_walk.specs.Marks.{AreMarked};
 
 use crate::arrival::arrive;
 use crate::job::jct_fault;
+use crate::marks::no_marks;
 use crate::walk_steps::walk_steps;
 use cb_queue::store::RecordStore;
 use cb_records::rec::Rec;
 use std::alloc::{AllocError, Global};
 
-/// How many marks are made at once.
-const PIECE: usize = 2048;
-
-/// As many marks, none of which is set, made by pieces, as a byte alone costs an instruction.
-fn no_marks(alloc: Global, count: usize) -> Result<Vec<bool>, AllocError>
-    ensures { IfOk result (λ v. v.items ≡ replicate count false) }
-{
-    let piece = [false; PIECE];
-    let mut marks = Vec::with_capacity(alloc, count)?;
-    while marks.len() < count {
-        let some = (count - marks.len()).min(PIECE);
-        marks.extend_from_slice(&piece[..some])?;
-    }
-    Ok(marks)
-}
-
 /// Walks over the records of a job, of which none is marked.
 fn walk_job<S: RecordStore>(
     alloc: Global,
     store: &S,
-    marks: &mut [bool],
+    marks: &mut [u64],
     units: u16,
     job: u16,
     n: u32,
 ) -> Result<Option<u8>, AllocError>
-    requires marks { length marks.old ≡ (S.queue store.now).layout.most_records + 1 }
+    requires marks { (S.queue store.now).layout.most_records < 64 * length marks.old }
     requires none { AreMarked marks.old [] }
     ensures { IfOk result (Tells (S.queue store.now) units job n) }
 {
@@ -62,7 +47,7 @@ fn walk_job<S: RecordStore>(
 }
 
 /// The number of the fault that strict reading tells first of the records of a job, or none. The job's JCT is record `n`, and as many lists of
-/// volumes are configured as `units`. It reads each record once, and takes memory for a mark for each record of the store and each DD of the job.
+/// volumes are configured as `units`. It reads each record once, and takes memory for a bit for each record of the store and a mark for each DD of the job.
 pub fn first_fault<S: RecordStore>(
     alloc: Global,
     store: &S,
@@ -72,7 +57,6 @@ pub fn first_fault<S: RecordStore>(
 ) -> Result<Option<u8>, AllocError>
     ensures { IfOk result (λ fault. fault ≡ first_fault (S.queue store.now).layout units (shown (S.queue store.now)) job n) }
 {
-    let count = store.layout().most_records as usize + 1;
-    let mut marks = no_marks(alloc, count)?;
+    let mut marks = no_marks(alloc, store.layout().most_records)?;
     walk_job(alloc, store, marks.as_mut_slice(), units, job, n)
 }

@@ -7,6 +7,7 @@ mod dd;
 mod fields;
 pub mod first_fault;
 mod job;
+mod marks;
 mod parts;
 mod set;
 mod sets;

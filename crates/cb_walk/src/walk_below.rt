@@ -1,5 +1,5 @@
 //! What stands below an SIOT: the JFCB of a set, or cards.
-ghost use Rattle.std.specs.Prelude.{◌≡◌, ◌+◌, length};
+ghost use Rattle.std.specs.Prelude.{◌≡◌, ◌<◌, ◌*◌, length};
 ghost use Rattle.cb_walk.specs.Below.{below_from, jfcb_from};
 ghost use Rattle.cb_walk.specs.Follows.{Ends};
 
@@ -14,14 +14,14 @@ use plain::listed::Listed;
 /// Walks over the JFCB of a DD, which stands behind these DDs and steps.
 fn walk_jfcb<S: RecordStore>(
     store: &S,
-    marks: &mut [bool],
+    marks: &mut [u64],
     job: u16,
     steps: &[Listed<bool>],
     dds: &[bool],
     siot: &Rec,
     n: u32,
 ) -> Result<(), u8>
-    requires { length marks.old ≡ (S.queue store.now).layout.most_records + 1 }
+    requires { (S.queue store.now).layout.most_records < 64 * length marks.old }
     ensures { Ends marks.old marks.new (jfcb_from (S.queue store.now) job steps.now dds.now siot.now n) result }
 {
     let layout = store.layout();
@@ -39,14 +39,14 @@ fn walk_jfcb<S: RecordStore>(
 /// Walks over what stands below an SIOT.
 pub(crate) fn walk_below<S: RecordStore>(
     store: &S,
-    marks: &mut [bool],
+    marks: &mut [u64],
     job: u16,
     fuel: u64,
     steps: &[Listed<bool>],
     dds: &[bool],
     siot: &Rec,
 ) -> Result<(), u8>
-    requires { length marks.old ≡ (S.queue store.now).layout.most_records + 1 }
+    requires { (S.queue store.now).layout.most_records < 64 * length marks.old }
     ensures { Ends marks.old marks.new (below_from (S.queue store.now) job fuel steps.now dds.now siot.now) result }
 {
     let layout = store.layout();

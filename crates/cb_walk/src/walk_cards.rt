@@ -1,5 +1,5 @@
 //! The walk over the records of a DD's cards.
-ghost use Rattle.std.specs.Prelude.{◌≡◌, ◌≢◌, ◌+◌, ◌≤◌, length};
+ghost use Rattle.std.specs.Prelude.{◌≡◌, ◌<◌, ◌*◌, ◌≢◌, ◌≤◌, length};
 ghost use Rattle.cb_walk.specs.Follows.{Ends, Passes, cards_from};
 
 use crate::arrival::arrive;
@@ -11,13 +11,13 @@ use cb_records::rec::Rec;
 /// Passes one record of cards. Tells how many cards were read then, and the number of the next record, or a fault.
 fn pass_cards<S: RecordStore>(
     store: &S,
-    marks: &mut [bool],
+    marks: &mut [u64],
     job: u16,
     stated: u32,
     read: u64,
     n: u32,
 ) -> Result<(u64, u32), u8>
-    requires marks { length marks.old ≡ (S.queue store.now).layout.most_records + 1 }
+    requires marks { (S.queue store.now).layout.most_records < 64 * length marks.old }
     requires within { read ≤ stated }
     requires some { n ≢ 0 }
     ensures { Passes (S.queue store.now) job stated read n marks.old marks.new result }
@@ -42,13 +42,13 @@ fn pass_cards<S: RecordStore>(
 /// Walks over the cards of a DD, so many as it states, and over so many records less one at most.
 pub(crate) fn walk_cards<S: RecordStore>(
     store: &S,
-    marks: &mut [bool],
+    marks: &mut [u64],
     job: u16,
     fuel: u64,
     stated: u32,
     first: u32,
 ) -> Result<(), u8>
-    requires { length marks.old ≡ (S.queue store.now).layout.most_records + 1 }
+    requires { (S.queue store.now).layout.most_records < 64 * length marks.old }
     ensures { Ends marks.old marks.new (cards_from (S.queue store.now) job fuel stated 0 first) result }
 {
     let mut n = first;

@@ -1,5 +1,5 @@
 //! The walk over the DDs of a step.
-ghost use Rattle.std.specs.Prelude.{◌≡◌, ◌≢◌, ◌+◌, ◌<◌, [], IfOk, length};
+ghost use Rattle.std.specs.Prelude.{◌≡◌, ◌*◌, ◌≢◌, ◌<◌, [], IfOk, length};
 ghost use Rattle.cb_walk.specs.Dds.{EndsDds, PassesDd, dds_from};
 
 use crate::arrival::arrive;
@@ -15,7 +15,7 @@ use std::alloc::{AllocError, Global};
 /// Passes one DD, behind these of its step and behind these steps. Tells whether it is a set, and the number of the next SIOT, or a fault.
 fn pass_dd<S: RecordStore>(
     store: &S,
-    marks: &mut [bool],
+    marks: &mut [u64],
     units: u16,
     job: u16,
     left: u64,
@@ -23,7 +23,7 @@ fn pass_dd<S: RecordStore>(
     dds: &[bool],
     n: u32,
 ) -> Result<(bool, u32), u8>
-    requires marks { length marks.old ≡ (S.queue store.now).layout.most_records + 1 }
+    requires marks { (S.queue store.now).layout.most_records < 64 * length marks.old }
     requires some { n ≢ 0 }
     requires left { 0 < left }
     ensures { PassesDd (S.queue store.now) units job left steps.now dds.now n marks.old marks.new result }
@@ -51,7 +51,7 @@ fn pass_dd<S: RecordStore>(
 pub(crate) fn walk_dds<S: RecordStore>(
     alloc: Global,
     store: &S,
-    marks: &mut [bool],
+    marks: &mut [u64],
     units: u16,
     job: u16,
     fuel: u64,
@@ -59,7 +59,7 @@ pub(crate) fn walk_dds<S: RecordStore>(
     steps: &[Listed<bool>],
     first: u32,
 ) -> Result<Result<Listed<bool>, u8>, AllocError>
-    requires { length marks.old ≡ (S.queue store.now).layout.most_records + 1 }
+    requires { (S.queue store.now).layout.most_records < 64 * length marks.old }
     ensures { IfOk result (EndsDds marks.old marks.new (dds_from (S.queue store.now) units job fuel stated steps.now [] first)) }
 {
     let mut n = first;

@@ -1,5 +1,5 @@
 //! The walk over the steps of a job.
-ghost use Rattle.std.specs.Prelude.{◌≡◌, ◌≢◌, ◌+◌, ◌≤◌, [], IfOk, length};
+ghost use Rattle.std.specs.Prelude.{◌≡◌, ◌<◌, ◌*◌, ◌≢◌, ◌≤◌, [], IfOk, length};
 ghost use Rattle.cb_walk.specs.Follows.{Ends};
 ghost use Rattle.cb_walk.specs.Steps.{PassesStep, steps_from};
 
@@ -15,13 +15,13 @@ use std::alloc::{AllocError, Global};
 fn pass_step<S: RecordStore>(
     alloc: Global,
     store: &S,
-    marks: &mut [bool],
+    marks: &mut [u64],
     units: u16,
     job: u16,
     steps: &[Listed<bool>],
     n: u32,
 ) -> Result<Result<(Listed<bool>, u32), u8>, AllocError>
-    requires marks { length marks.old ≡ (S.queue store.now).layout.most_records + 1 }
+    requires marks { (S.queue store.now).layout.most_records < 64 * length marks.old }
     requires few { length steps.now ≤ (S.queue store.now).layout.most_steps }
     requires some { n ≢ 0 }
     ensures { IfOk result (PassesStep (S.queue store.now) units job steps.now n marks.old marks.new) }
@@ -52,14 +52,14 @@ fn pass_step<S: RecordStore>(
 pub(crate) fn walk_steps<S: RecordStore>(
     alloc: Global,
     store: &S,
-    marks: &mut [bool],
+    marks: &mut [u64],
     units: u16,
     job: u16,
     fuel: u64,
     stated: u32,
     first: u32,
 ) -> Result<Result<(), u8>, AllocError>
-    requires { length marks.old ≡ (S.queue store.now).layout.most_records + 1 }
+    requires { (S.queue store.now).layout.most_records < 64 * length marks.old }
     ensures { IfOk result (Ends marks.old marks.new (steps_from (S.queue store.now) units job fuel stated [] first)) }
 {
     let mut n = first;
