@@ -9,6 +9,7 @@ pub mod Uses
 pub mod Entering
 pub mod Marked
 pub mod Noted
+mod Owning
 pub mod Placed
 pub mod Leaving
 pub mod Starting

@@ -1,5 +1,5 @@
 -- Where the records of chains stand, by their numbers. The spot of record n is at n - 1. (This profile)
-use Rattle.std.specs.Prelude.{◌≡◌, ℕ, zero, suc, ◌<◌, ◌≤◌, ◌⊎◌, List, [], ◌∷◌, Option, None, Some, IfSome, slice_index_or}
+use Rattle.std.specs.Prelude.{◌≡◌, ◌≢◌, ℕ, zero, suc, ◌<◌, ◌≤◌, ◌⊎◌, List, [], ◌∷◌, Option, None, Some, IfSome, slice_index_or}
 use Rattle.chain_store.specs.declared.spots.Found.{Found}
 use Rattle.chain_store.specs.declared.spots.Spot.{Spot}
 use Rattle.chain_store.specs.Links.{owned_by}
@@ -31,3 +31,7 @@ pub record IsFound (owners : List ℕ) (spots : List (Option Spot)) (job : ℕ) 
 -- no record behind one number, up to another, is one that a job owns and that is in a chain
 abbrev pub HasNoSpot : List ℕ → List (Option Spot) → ℕ → ℕ → ℕ → Type 0
 HasNoSpot owners spots job low high = (n : ℕ) → low < n → n ≤ high → owned_by owners n ≡ job → spot_of spots n ≡ None
+
+-- a job owns none of the records behind one number, up to another
+abbrev pub OwnsNone : List ℕ → ℕ → ℕ → ℕ → Type 0
+OwnsNone owners job low high = (n : ℕ) → low < n → n ≤ high → owned_by owners n ≢ job

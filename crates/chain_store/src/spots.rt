@@ -1,6 +1,6 @@
 //! Where the first records of the jobs that wait stand, by their numbers.
-ghost use Rattle.std.specs.Prelude.{◌≡◌, ◌≢◌, ◌-◌, ◌<◌, ◌≤◌, ◌++◌, IfNone, IfSome, None, OnOk, length, replicate, slice_set};
-ghost use Rattle.chain_store.specs.Spots.{HasNoSpot, IsFound, spot_of};
+ghost use Rattle.std.specs.Prelude.{◌≡◌, ◌≢◌, ◌-◌, ◌<◌, ◌≤◌, ◌++◌, IfNone, IfSome, None, OnOk, length, replicate, slice_set, true};
+ghost use Rattle.chain_store.specs.Spots.{HasNoSpot, IsFound, OwnsNone, spot_of};
 
 use std::alloc::AllocError;
 
@@ -20,6 +20,18 @@ pub(crate) struct Found {
     pub(crate) spot: Spot,
 }
 
+/// How many records are passed at once where a job owns none of them.
+const BLOCK: u32 = 64;
+
+/// Whether a job owns none of the records behind one number, up to another.
+fn owns_none(owners: &[u16], job: u16, low: u32, high: u32) -> bool
+    requires order { low ≤ high }
+    requires there { high ≤ length owners.now }
+    ensures { result ≡ true → OwnsNone owners.now job low high }
+{
+    !owners[low as usize..high as usize].contains(&job)
+}
+
 /// Of the records behind one number, up to another, the first that a job owns and that is in a chain.
 pub(crate) fn find(
     owners: &[u16],
@@ -35,13 +47,18 @@ pub(crate) fn find(
 {
     let mut n = low;
     while n < high {
-        if owners[n as usize] == job {
-            match spots[n as usize] {
-                Some(spot) => return Some(Found { n: n + 1, spot }),
-                None => (),
+        let end = n.saturating_add(BLOCK).min(high);
+        if owns_none(owners, job, n, end) {
+            n = end;
+        } else {
+            if owners[n as usize] == job {
+                match spots[n as usize] {
+                    Some(spot) => return Some(Found { n: n + 1, spot }),
+                    None => (),
+                }
             }
+            n += 1;
         }
-        n += 1;
     }
     None
 }
