@@ -4,9 +4,8 @@ use Rattle.std.specs.List.{list_any}
 use Rattle.jcl_meaning.specs.WellFormed.{AreWellFormedPrograms}
 use Rattle.vtoc_core.specs.declared.entry.SetKey.TheVariants as world
 use Rattle.cb_meaning.specs.declared.layout.TheConstants.{RECORD_BYTES}
-use Rattle.cb_meaning.specs.Spelled.{Denotes, Records}
-use Rattle.cb_meaning.specs.Walks.{is_free, owner_of}
-use Rattle.jcl_plan.specs.declared.plan.JobPlan.{JobPlan}
+use Rattle.cb_meaning.specs.Spelled.{Records, jct}
+use Rattle.cb_meaning.specs.Walks.{is_free, kind_of, owner_of}
 use Rattle.world_meaning.specs.Lenses.{WorldStore}
 use Rattle.world_meaning.specs.Records.{IsQueueLayout}
 use Rattle.world_meaning.specs.Worlds.{Config, Shared, Waiting, World}
@@ -34,11 +33,12 @@ pub record AreOfWaiting (c : Config) (q : Records) (waiting : List Waiting) : Ty
   pub sizes : (n : ℕ) → is_free q n ≡ false → length (q.at n) ≡ RECORD_BYTES
   pub owned : (n : ℕ) → 1 ≤ n → n ≤ c.layout.most_records → is_free q n ≡ false → list_any (λ w. w.job == owner_of q n) waiting ≡ true
 
--- jobs that wait at the start have numbers that were given, each its own, in the order of reading, and records that denote a job
+-- A job that waits at the start has a JCT that is in use and its own. What its records denote is read at its selection.
 pub record IsQueued (c : Config) (q : Records) (w : Waiting) : Type 0 where
-  pub plan : JobPlan
-  pub behind : List ℕ
-  pub denoted : Denotes c.layout (length c.units) q w.job (w.first ∷ behind) plan
+  pub within : (1 ≤ w.first) × (w.first ≤ c.layout.most_records)
+  pub used : is_free q w.first ≡ false
+  pub kind : kind_of q w.first ≡ jct
+  pub owner : owner_of q w.first ≡ w.job
 
 abbrev pub AreInOrder : ℕ → List Waiting → Type 0
 AreInOrder last [] = Unit {0}
