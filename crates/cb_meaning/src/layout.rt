@@ -34,7 +34,7 @@ pub struct Layout {
     pub next_cards: Field,
 }
 
-/// Records of 4,096 and jobs of 32 steps.
+/// Records of 4,096 and jobs of 32 steps: that of images that are carried over.
 pub const LAYOUT_1: Layout = Layout {
     number: 1,
     most_records: 4096,
@@ -49,6 +49,23 @@ pub const LAYOUT_1: Layout = Layout {
     below: Field { at: 10, width: 2 },
     cards: Field { at: 26, width: 2 },
     next_cards: Field { at: 8, width: 2 },
+};
+
+/// Records of 65,536 and jobs of 255 steps.
+pub const LAYOUT_2: Layout = Layout {
+    number: 2,
+    most_records: 65_536,
+    most_steps: 255,
+    link: Field { at: 4, width: 4 },
+    first_step: Field { at: 12, width: 4 },
+    steps: Field { at: 50, width: 2 },
+    next_step: Field { at: 8, width: 4 },
+    first_dd: Field { at: 80, width: 4 },
+    dds: Field { at: 12, width: 2 },
+    next_dd: Field { at: 40, width: 4 },
+    below: Field { at: 44, width: 4 },
+    cards: Field { at: 48, width: 4 },
+    next_cards: Field { at: 12, width: 4 },
 };
 
 /// The layout of the queue of a session.

@@ -1,6 +1,7 @@
 //! The job of a deck.
 ghost use Rattle.std.specs.Prelude.{ℕ, IfOk, IfSome};
 ghost use Rattle.cb_meaning.specs.Writable.{IsWritable};
+ghost use Rattle.jcl_plan.specs.declared.plan.TheConstants.{MOST_STEPS};
 
 use jcl_job::job::job_of;
 use jcl_plan::fault::Cause;
@@ -60,14 +61,14 @@ fn tell_cause(told: &mut Told, cause: Cause) {
 
 /// The job of a deck, where no unit's name and no procedure is missing.
 fn denoted(alloc: Global, units: &UnitNames, deck: &[Lent<'_>]) -> Result<JobPlan, ReadError>
-    ensures { IfOk result (λ job. (units : ℕ) × IsWritable 32 units job) }
+    ensures { IfOk result (λ job. (units : ℕ) × IsWritable MOST_STEPS units job) }
 {
     job_of(alloc, units, &ProcLibrary::new(alloc), deck)
 }
 
 /// The job of the deck that comes next, or none, and its refusal is told.
 pub(crate) fn next_job(alloc: Global, line: &mut Line<'_>) -> Option<JobPlan>
-    ensures { IfSome result (λ job. (units : ℕ) × IsWritable 32 units job) }
+    ensures { IfSome result (λ job. (units : ℕ) × IsWritable MOST_STEPS units job) }
 {
     let units = unit_names(alloc, &mut line.told);
     let deck = cards(alloc, line);

@@ -1,4 +1,5 @@
 //! What the commands of a row are about, and which of them there are.
+use crate::image::{Image, ImageVerb, no_image, on_image};
 use crate::job::{DeckVerb, JobVerb, on_deck, on_job};
 use crate::names::{CancelVerb, on_cancels, tell_held, tell_listings};
 use crate::record::{RecordVerb, on_record};
@@ -26,9 +27,10 @@ enum Verb {
     Waiting(WaitingVerb),
     Cancels(CancelVerb),
     Listings,
+    Image(ImageVerb),
 }
 
-const VERBS: [(&str, Verb); 37] = [
+const VERBS: [(&str, Verb); 41] = [
     ("ZEROS", Verb::Record(RecordVerb::Zeros)),
     ("PLACES", Verb::Record(RecordVerb::Places)),
     ("ALL", Verb::Record(RecordVerb::All)),
@@ -66,14 +68,19 @@ const VERBS: [(&str, Verb); 37] = [
     ("ACTED", Verb::Cancels(CancelVerb::Acted)),
     ("CANCELLED", Verb::Cancels(CancelVerb::Cancelled)),
     ("LISTINGS", Verb::Listings),
+    ("IMAGE", Verb::Image(ImageVerb::Size)),
+    ("BYTES", Verb::Image(ImageVerb::Bytes)),
+    ("WAITS", Verb::Image(ImageVerb::Job)),
+    ("MIGRATE", Verb::Image(ImageVerb::Migrate)),
 ];
 
-/// A record in hand, records in a store with the jobs that wait, and the cancels that have not acted yet.
+/// A record in hand, records in a store with the jobs that wait, the cancels that have not acted yet, and an image.
 #[derive(Drop)]
 struct Desk<S: RowStore> {
     rec: Rec,
     store: S,
     cancels: Cancels,
+    image: Image,
 }
 
 /// A store of 9 records in place of the one so far.
@@ -97,6 +104,7 @@ fn act<S: RowStore>(alloc: Global, desk: &mut Desk<S>, line: &mut Line<'_>) {
         Some(Verb::Waiting(verb)) => on_waiting(alloc, store, verb, line),
         Some(Verb::Cancels(verb)) => on_cancels(&mut desk.cancels, verb, line),
         Some(Verb::Listings) => tell_listings(alloc, line),
+        Some(Verb::Image(verb)) => on_image(alloc, &mut desk.image, verb, line),
         None => {}
     }
 }
@@ -107,6 +115,7 @@ fn answer_over<S: RowStore>(alloc: Global, input: &[u8], store: S) -> Told {
         rec: Rec::zeroed(),
         store,
         cancels: Cancels::new(alloc),
+        image: no_image(alloc),
     };
     let mut line = Line::new(alloc, input);
     for _ in 0..input.len() {

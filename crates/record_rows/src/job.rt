@@ -2,20 +2,21 @@
 ghost use Rattle.std.specs.Prelude.{◌≡◌, ◌≢◌, ◌+◌, ◌≤◌, ◌∷◌, IfOk, List, ℕ, length, true};
 ghost use Rattle.cb_meaning.specs.Spelled.{Denotes};
 ghost use Rattle.cb_queue.specs.RecordQueues.{shown};
-ghost use Rattle.queued_job.specs.Reads.{IsRead};
-ghost use Rattle.cb_meaning.specs.Needs.{records_needed};
 ghost use Rattle.cb_meaning.specs.Writable.{IsWritable};
-ghost use Rattle.cb_meaning.specs.declared.layout.TheConstants.{LAYOUT_1};
+ghost use Rattle.cb_chain.specs.Written.{HoldsJobs};
+ghost use Rattle.cb_meaning.specs.Layouts.{HasOwnFields};
+ghost use Rattle.cb_meaning.specs.declared.layout.TheConstants.{LAYOUT_1, LAYOUT_2};
+ghost use Rattle.jcl_plan.specs.declared.plan.TheConstants.{MOST_STEPS};
 
 use crate::deck::next_job;
 use crate::plan::tell_job;
 use crate::store::{nobody_waits, put, set_bytes};
-use cb_chain::laws::the_first_layout_holds_jobs;
+use cb_chain::laws::the_layouts_hold_jobs;
 use cb_chain::room::{is_room, records_of};
 use cb_chain::write::write_job;
-use cb_meaning::layout::LAYOUT_1;
+use cb_meaning::layout::{LAYOUT_1, LAYOUT_2};
 use cb_queue::store::RecordStore;
-use cb_read::laws::the_first_layout_has_own_fields;
+use cb_read::laws::the_layouts_have_own_fields;
 use cb_read::records::are_records;
 use cb_walk::first_fault::first_fault;
 use jcl_plan::fault::QueueFault;
@@ -55,22 +56,38 @@ fn is_first<S: RecordStore>(store: &S) -> bool
     *store.layout() == LAYOUT_1
 }
 
-/// Writes a job's records in the first layout, for which there is memory. Tells the first, where there is room.
-fn write_first<S: RecordStore>(store: &mut S, job: u16, plan: &JobPlan) -> Result<u32, QueueFault>
-    requires layout { (S.queue store.old).layout ≡ LAYOUT_1 }
-    requires owner { job ≢ 0 }
-    requires writable { (units : ℕ) × IsWritable 32 units plan.now }
-    requires memory { S.lacking store.old + records_needed plan.now ≤ length (S.queue store.old).free }
+/// Whether it is that of the second.
+fn is_second<S: RecordStore>(store: &S) -> bool
+    ensures { result ≡ true → (S.queue store.now).layout ≡ LAYOUT_2 }
 {
-    the_first_layout_holds_jobs();
-    write_job(store, job, plan)
+    *store.layout() == LAYOUT_2
+}
+
+/// Whether the layout of a store is one of those that hold jobs.
+fn is_known<S: RecordStore>(store: &S) -> bool
+    ensures holds { result ≡ true → HoldsJobs (S.queue store.now).layout }
+    ensures own { result ≡ true → HasOwnFields (S.queue store.now).layout }
+{
+    the_layouts_hold_jobs();
+    the_layouts_have_own_fields();
+    if is_first(store) {
+        return true;
+    }
+    is_second(store)
+}
+
+/// Whether a job has no more steps than the layout of a store allows.
+fn are_few_steps<S: RecordStore>(store: &S, plan: &JobPlan) -> bool
+    ensures { result ≡ true → length plan.now.steps ≤ (S.queue store.now).layout.most_steps }
+{
+    plan.steps.len() <= usize::from(store.layout().most_steps)
 }
 
 /// Writes a job's records, and tells the first.
 fn write<S: RecordStore>(store: &mut S, job: u16, plan: &JobPlan, told: &mut Told)
-    requires { (units : ℕ) × IsWritable 32 units plan.now }
+    requires { (units : ℕ) × IsWritable MOST_STEPS units plan.now }
 {
-    if job == 0 || !is_first(store) {
+    if job == 0 || !is_known(store) || !are_few_steps(store, plan) {
         return told.not_allowed();
     }
     let Some(count) = records_of(plan, store.free_count()) else {
@@ -79,31 +96,20 @@ fn write<S: RecordStore>(store: &mut S, job: u16, plan: &JobPlan, told: &mut Tol
     let Ok(()) = store.make_room(count) else {
         return told.want();
     };
-    match write_first(store, job, plan) {
+    match write_job(store, job, plan) {
         Ok(first) => told.numbered_line(b"FIRST RECORD ", u64::from(first)),
         Err(_) => told.line(b"FULL"),
     }
 }
 
-/// Writes a job's records in the first layout and lets it wait, where nobody waits yet. Tells the first record.
-fn enter_first<S: RecordStore>(store: &mut S, job: u16, plan: &JobPlan) -> Result<u32, EnterFault>
-    requires layout { (S.queue store.old).layout ≡ LAYOUT_1 }
-    requires nobody { length (S.queue store.old).waiting ≡ 0 }
-    requires owner { job ≢ 0 }
-    requires writable { (units : ℕ) × IsWritable 32 units plan.now }
-{
-    the_first_layout_holds_jobs();
-    enter_job(store, job, plan)
-}
-
 /// Writes a job's records and lets it wait, where nobody waits yet. Tells the first record.
 fn enter<S: RecordStore>(store: &mut S, job: u16, plan: &JobPlan, told: &mut Told)
-    requires { (units : ℕ) × IsWritable 32 units plan.now }
+    requires { (units : ℕ) × IsWritable MOST_STEPS units plan.now }
 {
-    if job == 0 || store.waiting_count() != 0 || !is_first(store) {
+    if job == 0 || store.waiting_count() != 0 || !is_known(store) || !are_few_steps(store, plan) {
         return told.not_allowed();
     }
-    match enter_first(store, job, plan) {
+    match enter_job(store, job, plan) {
         Ok(first) => told.numbered_line(b"FIRST RECORD ", u64::from(first)),
         Err(EnterFault::Full) => told.line(b"FULL"),
         Err(EnterFault::Memory) => told.want(),
@@ -119,21 +125,6 @@ fn tell_room(told: &mut Told, plan: &JobPlan, free: u32) {
     });
 }
 
-/// What the records of a job denote in the first layout.
-fn read_first<S: RecordStore>(
-    alloc: Global,
-    store: &S,
-    units: u16,
-    job: u16,
-    first: u32,
-) -> Result<Read, AllocError>
-    requires { (S.queue store.now).layout ≡ LAYOUT_1 }
-    ensures { IfOk result (IsRead (S.queue store.now) units job first) }
-{
-    the_first_layout_has_own_fields();
-    read_job(alloc, store, units, job, first)
-}
-
 /// A job as its records answer what turns ask of it.
 fn tell_recorded<S: RecordStore>(
     store: &S,
@@ -143,10 +134,9 @@ fn tell_recorded<S: RecordStore>(
     plan: &JobPlan,
     told: &mut Told,
 )
-    requires layout { (S.queue store.now).layout ≡ LAYOUT_1 }
+    requires own { HasOwnFields (S.queue store.now).layout }
     requires denoted { (behind : List ℕ) × Denotes (S.queue store.now).layout units (shown (S.queue store.now)) job (first ∷ behind) plan.now }
 {
-    the_first_layout_has_own_fields();
     are_records(store);
     denoted_is_recorded();
     let records = JobRecords {
@@ -166,10 +156,10 @@ pub(crate) fn tell_read<S: RecordStore>(
     first: u32,
     told: &mut Told,
 ) {
-    if !is_first(store) {
+    if !is_known(store) {
         return told.not_allowed();
     }
-    match told.got(read_first(alloc, store, units, job, first)) {
+    match told.got(read_job(alloc, store, units, job, first)) {
         Some(Read::Plan(plan)) => tell_recorded(store, units, job, first, &plan, told),
         Some(Read::Broken(fault)) => told.numbered_line(b"B", u64::from(fault)),
         None => {}

@@ -5,6 +5,7 @@
 mod deck;
 mod desk;
 mod fields;
+mod image;
 mod job;
 mod names;
 mod plan;

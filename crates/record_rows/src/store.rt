@@ -150,11 +150,14 @@ fn give_all_back<S: RecordStore>(store: &mut S, owner: u16, told: &mut Told)
 }
 
 /// The bytes of a record in use. What stands in its link is the store's own, and not shown.
-fn tell_record_of<S: RecordStore>(store: &S, n: u32, told: &mut Told) {
+pub(crate) fn tell_record_of<S: RecordStore>(store: &S, n: u32, told: &mut Told) {
     match store.get(n) {
         None => told.line(b"NONE"),
         Some(rec) => {
-            if let Some(unlinked) = with_bytes(rec, 4, &[0, 0]) {
+            let link = store.layout().link;
+            let zeros = [0; 4];
+            let width = usize::from(link.width).min(4);
+            if let Some(unlinked) = with_bytes(rec, link.at, &zeros[..width]) {
                 tell_record(told, unlinked.bytes());
             }
         }

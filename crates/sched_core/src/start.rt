@@ -4,7 +4,7 @@ ghost use Rattle.cb_meaning.specs.declared.layout.TheConstants.{QUEUE_LAYOUT};
 ghost use Rattle.sched_core.specs.Starting.{IsForMachine};
 
 use crate::state::{Initiator, State};
-use cb_chain::laws::the_first_layout_holds_jobs;
+use cb_chain::laws::the_layouts_hold_jobs;
 use cb_queue::store::RecordStore;
 use enq_core::table::EnqTable;
 use jcl_plan::day::Day;
@@ -16,17 +16,17 @@ use queued_job::cancels::Cancels;
 use shared_core::store::SharedStore;
 use spool_core::spool::Spool;
 use std::alloc::{AllocError, Global};
-use world_laws::first_layout_has_own_link;
+use world_laws::layouts_have_own_links;
 
 /// The day 1970/001, which is the date before another is set.
 pub const FIRST_DAY: u32 = 25_567;
 
-/// The first layout is one for the machine's queue.
+/// The layout of a session is one for the machine's queue.
 pub fn queue_layout_is_for_machine()
     ensures { IsForMachine QUEUE_LAYOUT }
 {
-    the_first_layout_holds_jobs();
-    first_layout_has_own_link();
+    the_layouts_hold_jobs();
+    layouts_have_own_links();
 }
 
 /// Initiators without jobs.

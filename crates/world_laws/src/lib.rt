@@ -7,7 +7,7 @@ ghost use Rattle.world_laws.specs.KeptTracks.{KeptStay};
 ghost use Rattle.world_laws.specs.Looks.{ActLooks};
 ghost use Rattle.world_meaning.specs.Records.{IsQueueLayout};
 ghost use Rattle.world_laws.specs.RecordsKept.{DenotesStill, RecordsStay};
-ghost use Rattle.cb_meaning.specs.declared.layout.TheConstants.{LAYOUT_1};
+ghost use Rattle.cb_meaning.specs.declared.layout.TheConstants.{LAYOUT_1, LAYOUT_2};
 
 /// An admitted job's turn changes nothing that a job with compatible names sees of the store.
 pub fn turn_keeps_part()
@@ -39,9 +39,10 @@ pub fn kept_stay()
     ensures { KeptStay }
 {}
 
-/// The first layout keeps its link and the status bytes apart from its fields.
-pub fn first_layout_has_own_link()
-    ensures { IsQueueLayout LAYOUT_1 }
+/// Each layout keeps its link and the status bytes apart from its fields.
+pub fn layouts_have_own_links()
+    ensures first { IsQueueLayout LAYOUT_1 }
+    ensures second { IsQueueLayout LAYOUT_2 }
 {}
 
 /// Records that are in use still and differ in links and status bytes alone denote what they denoted.

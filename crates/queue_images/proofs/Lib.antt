@@ -1,0 +1,5 @@
+mod Carried
+mod Loaded
+mod Numbered
+mod Standing
+pub mod Stepped

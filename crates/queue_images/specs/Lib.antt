@@ -1,0 +1,3 @@
+pub mod Carrying
+pub mod Images
+pub mod Loading
