@@ -58,24 +58,25 @@ def damaged():
 LINKS = [
     ("the first step", 1, 12),
     ("the next step", 2, 8),
-    ("the first DD", 2, 10),
-    ("the next DD", 3, 8),
-    ("the data set", 3, 10),
+    ("the first DD", 2, 80),
+    ("the next DD", 3, 40),
+    ("the data set", 3, 44),
     ("the first step", 5, 12),
     ("the next step", 6, 8),
-    ("the first DD", 6, 10),
-    ("the next DD of the first", 7, 8),
-    ("the data set of the first", 7, 10),
-    ("the next DD of the second", 8, 8),
-    ("the data set of the second", 8, 10),
+    ("the first DD", 6, 80),
+    ("the next DD of the first", 7, 40),
+    ("the data set of the first", 7, 44),
+    ("the next DD of the second", 8, 40),
+    ("the data set of the second", 8, 44),
 ]
 
 
 def crossed():
-    """Each link of two jobs leads to each record of both, to none and to a free one."""
+    """Each link of two jobs leads to each record of both, to none and to a free one, and to those 65,536 further on."""
     for link, record, offset in LINKS:
-        session = f"{MACHINE}{SET_JOB}{DUMMY_JOB}./ ZAP {record},{offset},000\\#\n./ TURN 1*22\n./ DISPLAY\n"
-        yield f"record {record}: {link}", ["each 0 to 9"], session
+        for high, where in (("0000", ""), ("0001", ", and 65,536 further on")):
+            session = f"{MACHINE}{SET_JOB}{DUMMY_JOB}./ ZAP {record},{offset},{high}000\\#\n./ TURN 1*22\n./ DISPLAY\n"
+            yield f"record {record}: {link}{where}", ["each 0 to 9"], session
 
 
 WRITES = """./ PROGRAM WR
@@ -203,7 +204,7 @@ MANY_VIEWS = AT_RISK.replace(",COND=EVEN", "")
 RISK, VIEWS = MACHINE + AT_RISK, MACHINE + MANY_VIEWS
 ROLL, FULL = MACHINE + GROUP + READS_MEMBER + ROLLS, SMALL + WRITES + KEEPS_LATE + GROWS_BESIDE
 UP_TO_THE_GETS = "TURN 1*3, TURN 2*3, TURN 1*2, TURN 2*2, TURN 1, TURN 2, DEV VOL001, TURN 1, TURN 2, DEV VOL001"
-ZAPS = "./ ZAP 4,8,0007\n./ ZAP 9,8,00\n./ ZAP 7,16,4343202020202020\n"
+ZAPS = "./ ZAP 4,40,00000007\n./ ZAP 9,8,00\n./ ZAP 7,16,4343202020202020\n"
 
 # Sessions with their options, for which memory is refused and whose streams fail.
 SESSIONS = {

@@ -69,4 +69,4 @@ pub const LAYOUT_2: Layout = Layout {
 };
 
 /// The layout of the queue of a session.
-pub const QUEUE_LAYOUT: Layout = LAYOUT_1;
+pub const QUEUE_LAYOUT: Layout = LAYOUT_2;

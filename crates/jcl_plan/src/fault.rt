@@ -92,7 +92,7 @@ pub enum StatementFault {
     ForwardReference,
     #[error("a condition names no earlier step")]
     TestOfNoEarlierStep,
-    #[error("there are more than 32 steps")]
+    #[error("there are more than 255 steps")]
     TooManySteps,
     #[error("a step has more than 64 DD statements")]
     TooManyDds,

@@ -18,7 +18,7 @@ pub type Record = [u8; 80];
 pub const RECORDS_A_TRACK: usize = 32;
 
 /// The most steps of a job. (This profile)
-pub const MOST_STEPS: usize = 32;
+pub const MOST_STEPS: usize = 255;
 
 /// The most DDs of a step. (This profile)
 pub const MOST_DDS: usize = 64;

@@ -79,8 +79,8 @@ pub record RefusesJobs : Type 0 where
 
 -- So many steps, DDs, DDNAME keywords and names, and one more.
 pub record HasLimits : Type 0 where
-  pub steps_32 : refusal (times 32 (cards "//S EXEC PGM=X")) ≡ None
-  pub steps_33 : refusal (times 33 (cards "//S EXEC PGM=X")) ≡ Some (P TooManySteps)
+  pub steps_255 : refusal (times 255 (cards "//S EXEC PGM=X")) ≡ None
+  pub steps_256 : refusal (times 256 (cards "//S EXEC PGM=X")) ≡ Some (P TooManySteps)
   pub dds_64 : refusal (cards "//S EXEC PGM=X" ++ times 64 (cards "//D DD DUMMY")) ≡ None
   pub dds_65 : refusal (cards "//S EXEC PGM=X" ++ times 65 (cards "//D DD DUMMY")) ≡ Some (P TooManyDds)
   pub dd_names_5 : refusal (cards "//S EXEC PGM=X" ++ times 5 (cards "//D DD DDNAME=E")) ≡ None

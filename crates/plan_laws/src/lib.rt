@@ -5,7 +5,7 @@ ghost use Rattle.plan_laws.specs.Examples.{Example};
 ghost use Rattle.plan_laws.specs.PlanLaws.{ReferencesLookBack, StepsAreFew, TestsLookBack, UnitsAreKnown};
 ghost use Rattle.plan_laws.specs.Writing.{JobIsWritable, PlanIsWritable};
 
-/// A job has 32 steps at most, and a step 64 DDs.
+/// A job has 255 steps at most, and a step 64 DDs.
 pub fn steps_are_few()
     ensures { StepsAreFew }
 {}

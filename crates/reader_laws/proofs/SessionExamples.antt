@@ -99,7 +99,7 @@ abbrev zap : Spelled
 zap = in_form (says.Events (event.Zap 4 8 (0 ∷ 7 ∷ [])) 1)
 
 abbrev zap_last : Spelled
-zap_last = wide (says.Events (event.Zap 4096 175 (171 ∷ [])) 1)
+zap_last = wide (says.Events (event.Zap 65536 175 (171 ∷ [])) 1)
 
 abbrev display : Spelled
 display = in_form (says.Events event.Display 1)
@@ -117,7 +117,7 @@ program_block more =
 stores_spelled : text_of stores ≡
     line (codes "./ VOLUME VOL002 20 USED 0,10-12") (line (codes "./  GROUP  PAY.MASTER  03  SCRATCH  " ++ (13 ∷ []))
     (set_block (program_block (line (codes "./ DEV VOL001") (line (codes "./ CANCEL 12") (line (codes "./ ZAP 4,8,0007")
-    (line (codes "./  ZAP  04096,0175,AB  " ++ (13 ∷ [])) (line (codes "./ DISPLAY") []))))))))
+    (line (codes "./  ZAP  065536,0175,AB  " ++ (13 ∷ [])) (line (codes "./ DISPLAY") []))))))))
 unfolding digits encode_with
 stores_spelled = refl
 

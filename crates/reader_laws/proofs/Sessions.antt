@@ -86,7 +86,7 @@ fields_good form (says.Events (event.DeviceEnd serial) n) h = two true (is_good_
 fields_good form (says.Events (event.Cancel job) n) h =
     let k : job ≤ 9999 = h.1 in two true (is_good_field (number form job)) refl (number_good form job (omega arith))
 fields_good form (says.Events (event.Zap n offset bytes) m) h =
-    let most : n ≤ 4096 = h.1 in
+    let most : n ≤ 65536 = h.1 in
     let last : offset ≤ 175 = h.3 in
     two true (is_good_field (join_with_byte 44 (zap_parts form n offset bytes))) refl (zap_good form n offset bytes (omega arith) (omega arith))
 fields_good form (says.Events event.Display n) h = refl

@@ -88,7 +88,7 @@ pub zap_read : (form : Form) (n offset : ℕ) (bytes : List ℕ) → 1 ≤ n →
     list_all is_byte bytes ≡ true → stays_within offset (length bytes) ≡ true →
     zap_by (slice_split (λ c. c == 44) (join_with_byte 44 (zap_parts form n offset bytes))) ≡ says.Events (event.Zap n offset bytes) 1
 zap_read form n offset bytes low high first last are stays =
-    let most : n ≤ 4096 = high in
+    let most : n ≤ 65536 = high in
     let inside : offset ≤ 175 = last in
     let digits : List ℕ = hex_digits form bytes in
     ap zap_by (parts_listed (number form n) (number form offset) digits (number_no_comma form n (omega arith))

@@ -261,7 +261,7 @@ static ROWS: [Row; 64] = [
     Row {
         letter: b'P',
         number: 43,
-        wrong: "the job has over 32 steps",
+        wrong: "the job has over 255 steps",
         to_do: "make two jobs of it",
     },
     Row {

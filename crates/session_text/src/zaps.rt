@@ -15,7 +15,7 @@ use crate::statement::Says;
 use crate::values::comma_in;
 use boxed_core::Boxed;
 use cb_meaning::layout::{QUEUE_LAYOUT, RECORD_BYTES};
-use jname_core::decimal::number_within;
+use jname_core::decimal::{long_number_within, number_within};
 use plain::short::Short;
 use session_input::event::{Event, FIRST_OPEN, MOST_ZAPPED};
 use std::alloc::{AllocError, Global};
@@ -56,10 +56,7 @@ fn three_parts<'a>(text: &'a [u8]) -> Option<(Row<'a>, Row<'a>, Row<'a>)>
 fn record_in(text: &[u8]) -> Option<u32>
     ensures { result ≡ number_within 1 QUEUE_LAYOUT.most_records text.now }
 {
-    match number_within(1, QUEUE_LAYOUT.most_records as u16, text) {
-        None => None,
-        Some(number) => Some(u32::from(number)),
-    }
+    long_number_within(1, QUEUE_LAYOUT.most_records, text)
 }
 
 /// The place of a byte of a record that the text is, where that byte is open.

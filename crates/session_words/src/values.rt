@@ -169,8 +169,8 @@ pub(crate) static JOB: NumberForm = NumberForm {
 
 pub(crate) static RECORD: NumberForm = NumberForm {
     low: 1,
-    high: 4_096,
-    range: "a record of the queue is 1 to 4096",
+    high: 65_536,
+    range: "a record of the queue is 1 to 65536",
 };
 
 pub(crate) static OFFSET: NumberForm = NumberForm {

@@ -6,8 +6,8 @@ use Rattle.jcl_rows.proofs.denoted.has_limits.Goals as goal
 pub returns : goal.returns
 unfolding digits substituted_from
 returns c = record {
-  steps_32 = refl;
-  steps_33 = refl;
+  steps_255 = refl;
+  steps_256 = refl;
   dds_64 = refl;
   dds_65 = refl;
   dd_names_5 = refl;
