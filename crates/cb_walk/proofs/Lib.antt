@@ -11,3 +11,4 @@ mod UnderDds
 mod PassingDds
 mod PassingSteps
 mod WholeJob
+mod Unset

@@ -4,12 +4,21 @@ ghost use Rattle.cb_walk.specs.Marks.{is_marked};
 
 use std::alloc::{AllocError, Global};
 
-/// Marks for the numbers from 0 to this one, none of which is set.
+/// How many words of marks are made at once.
+const PIECE: usize = 256;
+
+/// Marks for the numbers from 0 to this one, none of which is set. They are made by pieces, as a word alone costs some instructions.
 pub(crate) fn no_marks(alloc: Global, last: u32) -> Result<Vec<u64>, AllocError>
     ensures none { IfOk result (λ marks. (n : ℕ) → is_marked marks.items n ≡ false) }
     ensures room { IfOk result (λ marks. last < 64 * length marks.items) }
 {
-    let marks = vec![in alloc; 0u64; last as usize / 64 + 1]?;
+    let piece = [0; PIECE];
+    let count = last as usize / 64 + 1;
+    let mut marks = Vec::with_capacity(alloc, count)?;
+    while marks.len() < count {
+        let some = (count - marks.len()).min(PIECE);
+        marks.extend_from_slice(&piece[..some])?;
+    }
     Ok(marks)
 }
 
