@@ -55,6 +55,7 @@ for session in tests/check/*.session; do
         echo "DIFFERS $session, in brief"
         differ=1
     fi
+    "$check" --deck <"$session" | cmp -s "$told" - || { echo "DIFFERS $session, with --deck and no deck behind it"; differ=1; }
     "$mvt" <"$session" 2>/dev/null | sed -n 's/^[0-9]* REJECTED //p' | grep -v '^Q' >"$work/rejected"
     python3 tests/first_refusals.py "$session" "$work/told" >"$work/first"
     if ! cmp -s "$work/rejected" "$work/first"; then
@@ -62,5 +63,37 @@ for session in tests/check/*.session; do
         diff "$work/rejected" "$work/first" | head -n 20
         differ=1
     fi
+done
+
+# A deck that stands alone behind a session: the findings are those of the same deck as a block, but that lines are counted from its first card, and what
+# is above it says so.
+for deck in tests/check/alone/*.jcl; do
+    name=${deck%.jcl}
+    wanted=0
+    grep -Eq '^line [0-9]+: ([CNP][0-9]+ |session fault|job .* (is at RISK|fails|has too many paths))' "$name.told" && wanted=1
+    cat "$name.session" "$deck" | "$check" --deck >"$work/told"
+    ends "$deck" "$wanted" $?
+    if ! cmp -s "$name.told" "$work/told"; then
+        echo "DIFFERS $deck"
+        diff "$name.told" "$work/told" | head -n 20
+        differ=1
+    fi
+    above=$(($(wc -l <"$name.session") + 1))
+    { cat "$name.session"; echo './ READ'; cat "$deck"; echo './ END'; } | "$check" | awk -v above="$above" '
+        match($0, /^line [0-9]+: /) {
+            line = substr($0, 6, RLENGTH - 7) + 0
+            rest = substr($0, RLENGTH + 1)
+            if (line < above) print "line " line ": " rest ", above the deck"
+            else print "line " line - above ": " rest
+            next
+        }
+        { print }' >"$work/block"
+    if ! cmp -s "$name.told" "$work/block"; then
+        echo "DIFFERS $deck, as a block"
+        diff "$name.told" "$work/block" | head -n 20
+        differ=1
+    fi
+    cat "$name.session" "$deck" | "$check" --deck --brief | sed 's/^\([0-9]*\):[1-9][0-9]*: /\1 /' >"$work/brief"
+    sed -n 's/^line \([0-9]*\): /\1 /p' "$name.told" | cmp -s - "$work/brief" || { echo "DIFFERS $deck, in brief"; differ=1; }
 done
 exit "$differ"

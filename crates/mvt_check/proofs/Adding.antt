@@ -8,10 +8,10 @@ use Rattle.mvt_check.specs.Checking.{AddsAll, AddsSaid, is_refused, is_risk, one
 
 module _ (units : List (List ℕ)) (library : List LibraryProcedure) (statements : List Statement) (n : ℕ) (s : Statement)
     (cut : drop n statements ≡ s ∷ drop (n + 1) statements) where
-  pub adds_on : (old now new : List ℕ) → AddsSaid units library s.line s.says now new →
-      ((last : List ℕ) → AddsAll units library (drop n statements) now last → AddsAll units library statements old last) →
-      (last : List ℕ) → AddsAll units library (drop (n + 1) statements) new last → AddsAll units library statements old last
-  adds_on old now new said before last h = before last (subst (λ l. AddsAll units library l now last) (sym cut) (new, said, h))
+  pub adds_on : (above : ℕ) (old now new : List ℕ) → AddsSaid units library above s.line s.says now new →
+      ((last : List ℕ) → AddsAll units library above (drop n statements) now last → AddsAll units library above statements old last) →
+      (last : List ℕ) → AddsAll units library above (drop (n + 1) statements) new last → AddsAll units library above statements old last
+  adds_on above old now new said before last h = before last (subst (λ l. AddsAll units library above l now last) (sym cut) (new, said, h))
 
   either : (a b c : Bool) → (a || (b || c)) ≡ (a || b || c)
   either true b c = refl

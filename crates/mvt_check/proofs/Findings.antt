@@ -1,9 +1,10 @@
 -- The column of a finding, line by line.
-use Rattle.std.proofs.Common.{◌≡◌, ℕ, ◌+◌, ◌-◌, ◌<◌, Bool, true, false, cond, not, List, [], ◌∷◌, ◌++◌, length, drop, get_or, map, Option, Some, None, Bor, refl, ap, ◌∙◌}
+use Rattle.std.proofs.Common.{◌≡◌, ℕ, ◌+◌, ◌-◌, ◌<◌, Bool, true, false, cond, not, List, [], ◌∷◌, ◌++◌, length, drop, get_or, map, Option, Some, None, Bor, refl, sym, ap, ◌∙◌, append_assoc}
 use Rattle.std.proofs.lemmas.List.{drop_more, drop-map}
 use Rattle.std.proofs.lemmas.List.Sums.{take_while-cons}
 use Rattle.std.specs.List.{before_first, find}
 use Rattle.std.specs.Option.{option_map_or}
+use Rattle.mvt_check.specs.Above.{line_above, lines_above}
 use Rattle.mvt_check.specs.Brief.{begins_finding, column_of, is_mark, line_in_brief, lines_in_brief}
 
 -- the first element that passes before one that stops
@@ -45,3 +46,16 @@ pub lines_at : (lines : List (Bor (List ℕ))) (i : ℕ) (d : Bor (List ℕ)) �
     lines_in_brief (drop i (map (λ line. line.now) lines))
     ≡ line_in_brief (get_or lines i d).now (map (λ line. line.now) (drop (i + 1) lines)) ++ lines_in_brief (drop (i + 1) (map (λ line. line.now) lines))
 lines_at lines i d within = rw (drop-map (λ (line : Bor (List ℕ)). line.now) (i + 1) lines) (ap lines_in_brief (contents_at lines i d within))
+
+-- and of lines above the deck, behind what is written already
+pub above_more : (lines : List (Bor (List ℕ))) (i : ℕ) (d : Bor (List ℕ)) (old new all : List ℕ) → i < length lines →
+    new ≡ old ++ 10 ∷ line_above (get_or lines i d).now → old ++ lines_above (drop i (map (λ line. line.now) lines)) ≡ all →
+    new ++ lines_above (drop (i + 1) (map (λ line. line.now) lines)) ≡ all
+above_more lines i d old new all within added before =
+    let rest = drop (i + 1) (map (λ (line : Bor (List ℕ)). line.now) lines) in
+    let here : lines_above (drop i (map (λ line. line.now) lines)) ≡ 10 ∷ line_above (get_or lines i d).now ++ lines_above rest =
+    rw (drop-map (λ (line : Bor (List ℕ)). line.now) (i + 1) lines) (ap lines_above (contents_at lines i d within)) in
+    ap (λ (t : List ℕ). t ++ lines_above rest) added
+    ∙ append_assoc old (10 ∷ line_above (get_or lines i d).now) (lines_above rest)
+    ∙ ap (λ (t : List ℕ). old ++ t) (sym here)
+    ∙ before

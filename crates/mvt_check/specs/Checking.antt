@@ -1,10 +1,11 @@
 -- What is found of the decks of a session, and what is written of it. (This profile)
-use Rattle.std.specs.Prelude.{◌≡◌, ◌⊎◌, ℕ, ◌+◌, ◌==◌, Bool, true, false, ◌||◌, List, [], ◌∷◌, ◌++◌, codes, decimal, Option, Some, None, is_some, is_err, take, if◌then◌else◌}
+use Rattle.std.specs.Prelude.{◌≡◌, ◌⊎◌, ℕ, ◌+◌, ◌-◌, ◌==◌, Bool, true, false, ◌||◌, List, [], ◌∷◌, ◌++◌, codes, decimal, Option, Some, None, is_some, is_err, take, if◌then◌else◌}
 use Rattle.std.specs.Io.KnownBytes.{Appends}
 use Rattle.std.specs.List.{list_any}
 use Rattle.mvt_check.specs.declared.answers.answer.Answer.{Answer}
 use Rattle.mvt_check.specs.declared.answers.answer.Answer.TheVariants as answer
 use Rattle.mvt_check.specs.declared.answers.answer.Answers.{Answers}
+use Rattle.mvt_check.specs.Above.{is_above, text_above, told_at, told_line}
 use Rattle.mvt_check.specs.Brief.{brief_of, warnings_in}
 use Rattle.mvt_check.specs.Telling.{AreAnswered}
 use Rattle.check_core.specs.declared.report.Checked.{Checked}
@@ -30,7 +31,10 @@ use Rattle.run_options.specs.declared.Options.{Options}
 use Rattle.session_core.specs.declared.SessionFault.{SessionFault}
 use Rattle.session_core.specs.declared.SessionFault.TheVariants.{Memory, Stopped, WriteFailed}
 use Rattle.session_core.specs.declared.open.Opened.{Opened}
+use Rattle.mvt_check.specs.declared.program.Wishes.{Wishes}
 use Rattle.mvt_check.specs.declared.session.Found.{Found}
+use Rattle.lone_deck.specs.declared.Framed.{Framed}
+use Rattle.lone_deck.specs.Framing.{IsFramed}
 
 -- a deck that is read denotes no job
 abbrev pub is_refused_event : List (List ℕ) → List LibraryProcedure → Event → Bool
@@ -69,16 +73,22 @@ abbrev pub AddsEvent : List (List ℕ) → List LibraryProcedure → ℕ → Eve
 AddsEvent units library first (event.Read lines) old new = AddsDeck units library first lines old new
 AddsEvent units library first other old new = new ≡ old
 
+-- So of an event on this line, where so many lines are above a deck that stands alone. A deck above that one keeps its lines of the session, and says so.
+abbrev pub AddsRead : Bool → List (List ℕ) → List LibraryProcedure → ℕ → ℕ → Event → List ℕ → List ℕ → Type 0
+AddsRead true units library above line event old new =
+    (own : List ℕ) × AddsEvent units library (line + 1) event [] own × (new ≡ old ++ text_above own)
+AddsRead false units library above line event old new = AddsEvent units library (line + 1 - above) event old new
+
 -- so of a statement, which has a deck or none
-abbrev pub AddsSaid : List (List ℕ) → List LibraryProcedure → ℕ → Says → List ℕ → List ℕ → Type 0
-AddsSaid units library line (says.Events event times) old new = AddsEvent units library (line + 1) event old new
-AddsSaid units library line other old new = new ≡ old
+abbrev pub AddsSaid : List (List ℕ) → List LibraryProcedure → ℕ → ℕ → Says → List ℕ → List ℕ → Type 0
+AddsSaid units library above line (says.Events event times) old new = AddsRead (is_above above line) units library above line event old new
+AddsSaid units library above line other old new = new ≡ old
 
 -- and of statements one after another
-abbrev pub AddsAll : List (List ℕ) → List LibraryProcedure → List Statement → List ℕ → List ℕ → Type 0
-AddsAll units library [] old new = new ≡ old
-AddsAll units library (s ∷ statements) old new =
-    (between : List ℕ) × AddsSaid units library s.line s.says old between × AddsAll units library statements between new
+abbrev pub AddsAll : List (List ℕ) → List LibraryProcedure → ℕ → List Statement → List ℕ → List ℕ → Type 0
+AddsAll units library above [] old new = new ≡ old
+AddsAll units library above (s ∷ statements) old new =
+    (between : List ℕ) × AddsSaid units library above s.line s.says old between × AddsAll units library above statements between new
 
 -- one for a deck that is refused
 abbrev pub one : Bool → ℕ
@@ -141,44 +151,47 @@ risks_in [] = 0
 risks_in (a ∷ answers) = one (is_risk a) + risks_in answers
 
 -- what is told of the session's own fault, if it has one: its sentence, and behind it the line and the reason
-abbrev pub TellsFault : Option (Fault × ℕ) → List ℕ → Type 0
-TellsFault None text = text ≡ []
-TellsFault (Some fault) text = GoesOn (fault_text (Some fault)) text
+abbrev pub TellsFault : ℕ → Option (Fault × ℕ) → List ℕ → Type 0
+TellsFault above None text = text ≡ []
+TellsFault above (Some (fault, line)) text =
+    (own : List ℕ) × GoesOn (fault_text (Some (fault, told_line above line))) own × (text ≡ told_at above line own)
 
 -- no deck is looked at, for the session has a fault
-pub record IsUnopened (statements : List Statement) (found : Found) : Type 0 where
+pub record IsUnopened (above : ℕ) (statements : List Statement) (found : Found) : Type 0 where
   pub fault : is_some (fault_of statements) ≡ true
-  pub text : TellsFault (fault_of statements) found.text.items
+  pub text : TellsFault above (fault_of statements) found.text.items
   pub refused : found.refused ≡ true
   pub calm : found.at_risk ≡ false
 
 -- what is found of a session that stops at a fault before its first event; of one for which memory is wanting nothing is
-abbrev pub TellsStop : SessionFault → Found → Type 0
-TellsStop (Stopped fault line) found =
-    TellsFault (Some (fault, line)) found.text.items × (found.refused ≡ true) × (found.at_risk ≡ false)
-TellsStop (WriteFailed line) found = ⊥
-TellsStop Memory found = ⊥
+abbrev pub TellsStop : ℕ → SessionFault → Found → Type 0
+TellsStop above (Stopped fault line) found =
+    TellsFault above (Some (fault, line)) found.text.items × (found.refused ≡ true) × (found.at_risk ≡ false)
+TellsStop above (WriteFailed line) found = ⊥
+TellsStop above Memory found = ⊥
 
 -- what is found of all decks comes behind a text, and then the sums
-pub record AddsOpened (units : List (List ℕ)) (library : List LibraryProcedure) (statements : List Statement) (risks : ℕ) (old new : List ℕ) : Type 0 where
+pub record AddsOpened (units : List (List ℕ)) (library : List LibraryProcedure) (above : ℕ) (statements : List Statement)
+    (risks : ℕ) (old new : List ℕ) : Type 0 where
   pub body : List ℕ
-  pub decks : AddsAll units library statements old body
+  pub decks : AddsAll units library above statements old body
   pub sums : new ≡ body ++ sums_text (refused_decks units library statements) risks (warnings_in body)
 
 -- the decks are looked at with the units and procedures that the session configures
-pub record IsLookedAt (o : Options) (statements : List Statement) (found : Found) : Type 0 where
+pub record IsLookedAt (o : Options) (above : ℕ) (statements : List Statement) (found : Found) : Type 0 where
   pub opened : Opened
   pub is : IsOpened statements opened
   pub refused : found.refused ≡ (is_some (fault_of statements) || some_refused (unit_names opened.fixed.units) opened.fixed.library statements)
   pub answers : Answers
   pub answered : AreAnswered o statements answers
   pub told : List ℕ
-  pub fault : TellsFault (fault_of statements) told
-  pub text : AddsOpened (unit_names opened.fixed.units) opened.fixed.library statements (risks_in answers.by_job.items) told found.text.items
+  pub fault : TellsFault above (fault_of statements) told
+  pub text : AddsOpened (unit_names opened.fixed.units) opened.fixed.library above statements (risks_in answers.by_job.items) told found.text.items
   pub risk : found.at_risk ≡ list_any is_risk answers.by_job.items
 
-abbrev pub IsFound : Options → List Statement → Found → Type 0
-IsFound o statements found = IsUnopened statements found ⊎ IsLookedAt o statements found
+-- what is found of a session, where so many lines are above a deck that stands alone; 0 where none does
+abbrev pub IsFound : Options → ℕ → List Statement → Found → Type 0
+IsFound o above statements found = IsUnopened above statements found ⊎ IsLookedAt o above statements found
 
 -- a text is written, or as much of it as the sink takes
 abbrev pub IsTold : SinkState → SinkState → List ℕ → Bool → ℕ → Type 0
@@ -186,15 +199,21 @@ IsTold sink sink_after text fails status =
     Appends sink.contents sink_after.contents text × (status ≡ (if fails then 1 else 0))
     ⊎ ((n : ℕ) × Appends sink.contents sink_after.contents (take n text)) × (status ≡ 1)
 
+-- what is found of a text: of the session that it is; or, where a deck that stands alone behind it is to be looked at, of the text with that deck as a block
+pub record IsFoundIn (o : Options) (deck : Bool) (ending : Ending) (text : List ℕ) (found : Found) : Type 0 where
+  pub framed : Framed
+  pub frames : IsFramed deck ending text framed
+  pub is : IsFound o framed.above (statements_of ending framed.text.items) found
+
 -- a session was read, and what is found of it is written: the whole text, or in brief where that is asked for
-pub record Checks (o : Options) (brief : Bool) (source source_after : SourceState) (sink sink_after : SinkState) (status : ℕ) : Type 0 where
+pub record Checks (o : Options) (w : Wishes) (source source_after : SourceState) (sink sink_after : SinkState) (status : ℕ) : Type 0 where
   pub text : List ℕ
   pub ending : Ending
   pub read : IsRead source source_after text ending
   pub found : Found
-  pub is : IsFound o (statements_of ending text) found
+  pub is : IsFoundIn o w.deck ending text found
   pub written : List ℕ
-  pub whole : written ≡ (if brief then brief_of found.text.items else found.text.items)
+  pub whole : written ≡ (if w.brief then brief_of found.text.items else found.text.items)
   pub told : IsTold sink sink_after written (found.refused || found.at_risk) status
 
 -- memory was wanting, and nothing is written

@@ -4,3 +4,4 @@ pub mod Reading
 pub mod Telling
 pub mod Words
 pub mod Brief
+pub mod Above

@@ -27,7 +27,7 @@ fn finding_of(line: &[u8]) -> Option<(&[u8], &[u8])>
     Some((number, what))
 }
 
-fn begins_finding(line: &[u8]) -> bool
+pub(crate) fn begins_finding(line: &[u8]) -> bool
     ensures { result ≡ begins_finding line.now }
 {
     finding_of(line).is_some()
@@ -95,7 +95,7 @@ fn push_line(text: &mut Vec<u8>, line: &[u8], behind: &[&[u8]]) -> Result<(), Al
 }
 
 /// The lines of a text.
-fn lines_of<'a>(alloc: Global, text: &'a [u8]) -> Result<Vec<&'a [u8]>, AllocError>
+pub(crate) fn lines_of<'a>(alloc: Global, text: &'a [u8]) -> Result<Vec<&'a [u8]>, AllocError>
     ensures { IfOk result (λ lines. map (λ line. line.now) lines.items ≡ lines_of text.now) }
 {
     text.split(|c| *c == b'\n').collect(alloc)

@@ -1,12 +1,13 @@
 //! The program `mvt-check`: it reads a session on standard input, and writes on standard output why its decks are refused, and where.
 #![tactic(auto)]
 
+mod above;
 mod answers;
 mod brief;
 mod program;
 mod session;
 
-use crate::program::{mvt_check, run_program};
+use crate::program::{Wishes, mvt_check, run_program};
 use command_line::ended::{end_asked, end_unread, prompt};
 use command_line::options::read_words;
 use session_core::stream::{Sink, Source};
@@ -34,7 +35,10 @@ fn main(rt: HostRuntime) -> ExitCode {
                 run_program(
                     rt.alloc(),
                     asked.options,
-                    asked.has("brief"),
+                    Wishes {
+                        brief: asked.has("brief"),
+                        deck: asked.has("deck"),
+                    },
                     &mut source,
                     &mut sink,
                     &mut errors,

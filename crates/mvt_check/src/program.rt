@@ -2,15 +2,16 @@
 ghost use Rattle.std.specs.Prelude.{◌≡◌, ◌⊎◌, IfOk, false, if◌then◌else◌};
 ghost use Rattle.session_core.specs.Streams.{sink_state, source_state};
 ghost use Rattle.mvt_check.specs.Brief.{brief_of};
-ghost use Rattle.mvt_check.specs.Checking.{Checks, IsTold, Starves};
+ghost use Rattle.mvt_check.specs.Checking.{Checks, IsFoundIn, IsTold, Starves};
 
 use crate::brief::brief_of;
 use crate::session::{Found, check_session};
 use command_line::ended::{ALL_READ, Ended, SESSION_FAULT, end_out_of_memory};
 use command_line::program::{Flag, Program};
+use lone_deck::frame;
 use run_options::Options;
 use session_core::stream::{Sink, Source};
-use session_core::transfer::{read_text, write_text};
+use session_core::transfer::{Input, read_text, write_text};
 use session_text::parse::statements;
 use std::alloc::{AllocError, Global};
 use std::io::{Read, Write};
@@ -21,12 +22,25 @@ pub(crate) fn mvt_check<'a>() -> Program<'a> {
         name: "mvt-check",
         about: "Reads a session on standard input, and writes why its decks are refused, and where",
         usage: "mvt-check [OPTIONS] < SESSION",
-        flags: &[Flag {
-            name: "brief",
-            help: "Write one line for each finding: LINE:COLUMN: and what it is",
-        }],
-        end: "Status: 0 nothing is wrong; 1 a deck is refused, the session has a fault, or a job is at RISK or TOOMANY; 2 the command line; 3 out of memory\nExample: mvt-check < pay.session\nSee also: mvt, mvt-play, mvt-picture",
+        flags: &[
+            Flag {
+                name: "brief",
+                help: "Write one line for each finding: LINE:COLUMN: and what it is",
+            },
+            Flag {
+                name: "deck",
+                help: "Read from the first card on one deck, whose lines count from 1, without ./ READ and ./ END",
+            },
+        ],
+        end: "Status: 0 nothing is wrong; 1 a deck is refused, the session has a fault, or a job is at RISK or TOOMANY; 2 the command line; 3 out of memory\nExample: mvt-check < pay.session\n         cat site.session pay.jcl | mvt-check --deck\nSee also: mvt, mvt-play, mvt-picture",
     }
+}
+
+/// What is asked for beside the options of a session: that what is found is written in brief, and that a deck which stands alone is looked at.
+#[derive(Clone, Copy)]
+pub(crate) struct Wishes {
+    pub(crate) brief: bool,
+    pub(crate) deck: bool,
 }
 
 /// What is written of a text: all of it, or a line for each finding.
@@ -38,6 +52,22 @@ fn shown(alloc: Global, text: Vec<u8>, brief: bool) -> Result<Vec<u8>, AllocErro
     } else {
         Ok(text)
     }
+}
+
+/// Looks at what was read, which is a session, or a session and a deck behind it.
+fn found_in(alloc: Global, options: Options, deck: bool, input: Input) -> Result<Found, AllocError>
+    ensures { IfOk result (IsFoundIn options deck input.ending input.text.items) }
+{
+    let Input { text, ending } = input;
+    let framed = frame(alloc, text, ending, deck)?;
+    let statements = statements(alloc, framed.text.as_slice(), ending)?;
+    check_session(
+        alloc,
+        framed.text.as_slice(),
+        framed.above,
+        statements.as_slice(),
+        options,
+    )
 }
 
 /// A text is written, or as much of it as the sink takes. The status is 1 where something is wrong.
@@ -66,30 +96,26 @@ fn tell<W: Write, E: Write>(
 pub(crate) fn run_program<R: Read, W: Write, E: Write>(
     alloc: Global,
     options: Options,
-    brief: bool,
+    wishes: Wishes,
     source: &mut Source<'_, R>,
     sink: &mut Sink<'_, W>,
     errors: &mut E,
 ) -> Ended
     requires source_unfailed { source.old.failed ≡ false }
     requires sink_unfailed { sink.old.failed ≡ false }
-    ensures { Checks options brief (source_state R.remaining source.old) (source_state R.remaining source.new)
+    ensures { Checks options wishes (source_state R.remaining source.old) (source_state R.remaining source.new)
         (sink_state W.contents sink.old) (sink_state W.contents sink.new) result.status
         ⊎ Starves (sink_state W.contents sink.old) (sink_state W.contents sink.new) result.status }
 {
     let Ok(input) = read_text(alloc, source) else {
         return end_out_of_memory(errors);
     };
-    let Ok(statements) = statements(alloc, input.text.as_slice(), input.ending) else {
-        return end_out_of_memory(errors);
-    };
-    let Ok(found) = check_session(alloc, input.text.as_slice(), statements.as_slice(), options)
-    else {
+    let Ok(found) = found_in(alloc, options, wishes.deck, input) else {
         return end_out_of_memory(errors);
     };
     let fails = found.fails();
     let Found { text, .. } = found;
-    let Ok(text) = shown(alloc, text, brief) else {
+    let Ok(text) = shown(alloc, text, wishes.brief) else {
         return end_out_of_memory(errors);
     };
     tell(text.as_slice(), fails, sink, errors)

@@ -6,8 +6,10 @@ ghost use Rattle.config_core.specs.Configs.{unit_names};
 ghost use Rattle.jcl_job.specs.Jobs.{job_of};
 ghost use Rattle.proc_library.specs.declared.library.LibraryProcedure.{LibraryProcedure};
 ghost use Rattle.session_core.specs.Opening.{IsOpened};
-ghost use Rattle.mvt_check.specs.Checking.{AddsAll, AddsDeck, AddsEvent, AddsFound, AddsOpened, AddsSaid, GoesOn, IsFound, IsLookedAt, TellsFault, TellsStop, fault_at, fault_of, fault_text, is_refused, is_refused_event, is_refused_so, is_risk, one, refused_decks, risks_in, some_refused, sums_text, warnings_text};
+ghost use Rattle.mvt_check.specs.Above.{is_above, told_at, told_line};
+ghost use Rattle.mvt_check.specs.Checking.{AddsAll, AddsDeck, AddsEvent, AddsFound, AddsOpened, AddsRead, AddsSaid, GoesOn, IsFound, IsLookedAt, TellsFault, TellsStop, fault_at, fault_of, fault_text, is_refused, is_refused_event, is_refused_so, is_risk, one, refused_decks, risks_in, some_refused, sums_text, warnings_text};
 
+use crate::above::{is_above, text_above, told_line};
 use crate::answers::answer::{Answer, Answers, DeckRead};
 use crate::answers::session::answers_of;
 use crate::answers::words::push_answer;
@@ -112,52 +114,89 @@ fn later_fault(opened: &Opened, statements: &[Statement<'_>]) -> Option<(Fault, 
     None
 }
 
-/// Writes a fault of a session, and behind it its line and the reason.
+/// Writes what is told of a line: where that is above a deck that stands alone, it says so.
+fn told_at(alloc: Global, above: usize, line: usize, own: Vec<u8>) -> Result<Vec<u8>, AllocError>
+    ensures { IfOk result (λ text. text.items ≡ told_at above line own.items) }
+{
+    if is_above(above, line) {
+        text_above(alloc, own.as_slice())
+    } else {
+        Ok(own)
+    }
+}
+
+/// Writes a fault of a session, and behind it its line of this text and the reason.
 fn fault_words(
     alloc: Global,
     input: &[u8],
+    above: usize,
     fault: Fault,
     line: usize,
 ) -> Result<Vec<u8>, AllocError>
-    ensures { IfOk result (λ text. GoesOn (fault_text (Some (fault, line))) text.items) }
+    ensures { IfOk result (λ text. GoesOn (fault_text (Some (fault, told_line above line))) text.items) }
 {
-    let mut text = fault_line(alloc, fault, line)?;
+    let mut text = fault_line(alloc, fault, told_line(above, line))?;
     push_fault_words(&mut text, fault.number(), line_at(input, line))?;
     Ok(text)
+}
+
+/// Writes what is told of a fault of a session, on this line of the text.
+fn told_fault(
+    alloc: Global,
+    input: &[u8],
+    above: usize,
+    fault: Fault,
+    line: usize,
+) -> Result<Vec<u8>, AllocError>
+    ensures { IfOk result (λ text. TellsFault above (Some (fault, line)) text.items) }
+{
+    let own = fault_words(alloc, input, above, fault, line)?;
+    told_at(alloc, above, line, own)
 }
 
 /// What is found of a session of this text that has this fault.
 fn found_stopped(
     alloc: Global,
     input: &[u8],
+    above: usize,
     fault: Fault,
     line: usize,
 ) -> Result<Found, AllocError>
-    ensures text { IfOk result (λ found. TellsFault (Some (fault, line)) found.text.items) }
+    ensures text { IfOk result (λ found. TellsFault above (Some (fault, line)) found.text.items) }
     ensures refused { IfOk result (λ found. found.refused ≡ true) }
     ensures calm { IfOk result (λ found. found.at_risk ≡ false) }
 {
     Ok(Found {
-        text: fault_words(alloc, input, fault, line)?,
+        text: told_fault(alloc, input, above, fault, line)?,
         refused: true,
         at_risk: false,
     })
 }
 
 /// What is found of a session that is not opened, by the fault at which it stops.
-fn found_unopened(alloc: Global, input: &[u8], why: SessionFault) -> Result<Found, AllocError>
-    ensures { IfOk result (TellsStop why) }
+fn found_unopened(
+    alloc: Global,
+    input: &[u8],
+    above: usize,
+    why: SessionFault,
+) -> Result<Found, AllocError>
+    ensures { IfOk result (TellsStop above why) }
 {
     match why {
-        SessionFault::Stopped(fault, line) => found_stopped(alloc, input, fault, line),
+        SessionFault::Stopped(fault, line) => found_stopped(alloc, input, above, fault, line),
         SessionFault::WriteFailed(_) => Err(AllocError),
         SessionFault::Memory => Err(AllocError),
     }
 }
 
 /// What is found of a session by its own fault, if it has one.
-fn found_by(alloc: Global, input: &[u8], fault: Option<(Fault, usize)>) -> Result<Found, AllocError>
-    ensures text { IfOk result (λ found. TellsFault fault found.text.items) }
+fn found_by(
+    alloc: Global,
+    input: &[u8],
+    above: usize,
+    fault: Option<(Fault, usize)>,
+) -> Result<Found, AllocError>
+    ensures text { IfOk result (λ found. TellsFault above fault found.text.items) }
     ensures refused { IfOk result (λ found. found.refused ≡ is_some fault) }
     ensures calm { IfOk result (λ found. found.at_risk ≡ false) }
 {
@@ -168,7 +207,7 @@ fn found_by(alloc: Global, input: &[u8], fault: Option<(Fault, usize)>) -> Resul
             at_risk: false,
         }),
         Some((fault, line)) => {
-            let found = found_stopped(alloc, input, fault, line)?;
+            let found = found_stopped(alloc, input, above, fault, line)?;
             Ok(found)
         }
     }
@@ -259,11 +298,12 @@ fn warn_of_programs(
     Ok(())
 }
 
-/// What is known of a session: what it configures, and what became of its decks.
+/// What is known of a session: what it configures, what became of its decks, and how many lines are above a deck that stands alone.
 #[derive(Clone, Copy)]
-struct Known<'a> {
+struct Known<'a, 'b> {
     fixed: &'a Fixed,
-    answers: &'a Answers,
+    answers: &'b Answers,
+    above: usize,
 }
 
 /// What admission answers the job of a deck, if it came so far.
@@ -296,7 +336,7 @@ fn with_card(alloc: Global, said: &[u8], card: &[u8]) -> Result<Vec<u8>, AllocEr
 /// What admission answers the job of a deck, at the card of which it tells, or at the first.
 fn answer_at(
     alloc: Global,
-    known: Known<'_>,
+    known: Known<'_, '_>,
     deck: Taken<'_, '_>,
     card: Option<usize>,
     read: &DeckRead,
@@ -324,7 +364,7 @@ fn answer_at(
 /// What else is told of a job, card by card: what is not configured for it, and what admission answers it.
 fn job_asides(
     alloc: Global,
-    known: Known<'_>,
+    known: Known<'_, '_>,
     deck: Taken<'_, '_>,
     read: Option<DeckRead>,
 ) -> Result<Vec<Aside>, AllocError> {
@@ -376,7 +416,7 @@ fn push_in_order(
 /// What else is told of a deck: what it warns of, and what is told of its job, in the order of cards.
 fn asides_of(
     alloc: Global,
-    known: Known<'_>,
+    known: Known<'_, '_>,
     first: usize,
     lines: &[Lent<'_>],
     checked: &Checked,
@@ -405,7 +445,7 @@ fn is_refused(checked: &Checked) -> bool
 /// Writes what was found of a deck, whose first card stands on this line of the session, and tells whether it is refused.
 fn tell_deck(
     alloc: Global,
-    known: Known<'_>,
+    known: Known<'_, '_>,
     first: usize,
     lines: &[Lent<'_>],
     checked: &Checked,
@@ -425,7 +465,7 @@ fn tell_deck(
 fn check_lines(
     alloc: Global,
     sources: &Sources<'_>,
-    known: Known<'_>,
+    known: Known<'_, '_>,
     first: usize,
     lines: &[Lent<'_>],
     deck: Option<DeckRead>,
@@ -442,7 +482,7 @@ fn check_lines(
 fn check_event(
     alloc: Global,
     sources: &Sources<'_>,
-    known: Known<'_>,
+    known: Known<'_, '_>,
     first: usize,
     event: &Event<'_>,
     deck: Option<DeckRead>,
@@ -460,24 +500,51 @@ fn check_event(
     }
 }
 
+/// Looks at the deck of an event on this line, if it has one, and tells whether it is refused.
+fn check_read(
+    alloc: Global,
+    sources: &Sources<'_>,
+    known: Known<'_, '_>,
+    line: usize,
+    event: &Event<'_>,
+    deck: Option<DeckRead>,
+    text: &mut Vec<u8>,
+) -> Result<bool, AllocError>
+    ensures refused { IfOk result (λ refused. refused ≡ is_refused_event sources.now.units.now sources.now.library.now event.now) }
+    ensures added { OnOk result (AddsRead (is_above known.entry.above line) sources.now.units.now sources.now.library.now known.entry.above line event.now
+        text.old.items text.new.items) }
+{
+    let Some(behind) = line.checked_add(1) else {
+        return Err(AllocError);
+    };
+    if is_above(known.above, line) {
+        let mut own = Vec::new(alloc);
+        let refused = check_event(alloc, sources, known, behind, event, deck, &mut own)?;
+        text.extend_from_slice(text_above(alloc, own.as_slice())?.as_slice())?;
+        Ok(refused)
+    } else {
+        let first = behind.saturating_sub(known.above);
+        check_event(alloc, sources, known, first, event, deck, text)
+    }
+}
+
 /// Looks at the deck of a statement, if it has one, and tells whether it is refused.
 fn check_statement(
     alloc: Global,
     sources: &Sources<'_>,
-    known: Known<'_>,
+    known: Known<'_, '_>,
     statement: &Statement<'_>,
     deck: Option<DeckRead>,
     text: &mut Vec<u8>,
 ) -> Result<bool, AllocError>
     ensures refused { IfOk result (λ refused. refused ≡ is_refused sources.now.units.now sources.now.library.now statement.now.says) }
-    ensures added { OnOk result (AddsSaid sources.now.units.now sources.now.library.now statement.now.line statement.now.says
+    ensures added { OnOk result (AddsSaid sources.now.units.now sources.now.library.now known.entry.above statement.now.line statement.now.says
         text.old.items text.new.items) }
 {
-    let Some(first) = statement.line.checked_add(1) else {
-        return Err(AllocError);
-    };
     match &statement.says {
-        Says::Events(event, _) => { check_event(alloc, sources, known, first, event, deck, text) }
+        Says::Events(event, _) => {
+            check_read(alloc, sources, known, statement.line, event, deck, text)
+        }
         _ => Ok(false),
     }
 }
@@ -509,13 +576,13 @@ fn deck_at(decks: &[DeckRead], place: usize, statement: usize) -> Option<DeckRea
 fn check_statements(
     alloc: Global,
     sources: &Sources<'_>,
-    known: Known<'_>,
+    known: Known<'_, '_>,
     statements: &[Statement<'_>],
     text: &mut Vec<u8>,
 ) -> Result<(bool, usize), AllocError>
     ensures refused { IfOk result (λ r. r.0 ≡ some_refused sources.now.units.now sources.now.library.now statements.now) }
     ensures counted { IfOk result (λ r. r.1 ≡ refused_decks sources.now.units.now sources.now.library.now statements.now) }
-    ensures added { OnOk result (AddsAll sources.now.units.now sources.now.library.now statements.now text.old.items text.new.items) }
+    ensures added { OnOk result (AddsAll sources.now.units.now sources.now.library.now known.entry.above statements.now text.old.items text.new.items) }
 {
     let mut refused = false;
     let mut count = 0;
@@ -626,11 +693,11 @@ fn names_in(alloc: Global, statements: &[Statement<'_>]) -> Result<Names, AllocE
 /// Looks at the decks of a session whose configuration has no fault, behind what is found of it already.
 fn check_opened(
     alloc: Global,
-    known: &Known<'_>,
+    known: &Known<'_, '_>,
     statements: &[Statement<'_>],
     found: &mut Found,
 ) -> Result<(), AllocError>
-    ensures text { OnOk result (AddsOpened (unit_names known.now.fixed.now.units) known.now.fixed.now.library statements.now
+    ensures text { OnOk result (AddsOpened (unit_names known.now.fixed.now.units) known.now.fixed.now.library known.now.above statements.now
         (risks_in known.now.answers.now.by_job.items) found.old.text.items found.new.text.items) }
     ensures refused { OnOk result (found.new.refused
         ≡ (found.old.refused || some_refused (unit_names known.now.fixed.now.units) known.now.fixed.now.library statements.now)) }
@@ -658,33 +725,36 @@ fn found_opened(
     alloc: Global,
     input: &[u8],
     opened: &Opened,
+    above: usize,
     statements: &[Statement<'_>],
     options: Options,
 ) -> Result<Found, AllocError>
     requires { IsOpened statements.now opened.now }
-    ensures { IfOk result (IsLookedAt options statements.now) }
+    ensures { IfOk result (IsLookedAt options above statements.now) }
 {
     let answers = answers_of(alloc, statements, options)?;
-    let mut found = found_by(alloc, input, later_fault(opened, statements))?;
+    let mut found = found_by(alloc, input, above, later_fault(opened, statements))?;
     let known = Known {
         fixed: &opened.fixed,
         answers: &answers,
+        above,
     };
     check_opened(alloc, &known, statements, &mut found)?;
     Ok(found)
 }
 
-/// Looks at the decks of a session. Its own fault, if it has one, is told first.
+/// Looks at the decks of a session of this text, where so many lines are above a deck that stands alone. Its own fault, if it has one, is told first.
 pub(crate) fn check_session(
     alloc: Global,
     input: &[u8],
+    above: usize,
     statements: &[Statement<'_>],
     options: Options,
 ) -> Result<Found, AllocError>
-    ensures { IfOk result (IsFound options statements.now) }
+    ensures { IfOk result (IsFound options above statements.now) }
 {
     match open(alloc, statements) {
-        Ok(opened) => found_opened(alloc, input, &opened, statements, options),
-        Err(why) => found_unopened(alloc, input, why),
+        Ok(opened) => found_opened(alloc, input, &opened, above, statements, options),
+        Err(why) => found_unopened(alloc, input, above, why),
     }
 }

@@ -6,9 +6,10 @@ use Rattle.mvt_check.proofs.session.check_session.Goals as goal
 
 pub returns-in-Ok : goal.returns-in-Ok
 returns-in-Ok c =
-    IfOk-weaker c.found_opened.result (IsLookedAt c.args.options c.args.statements.now) (IsFound c.args.options c.args.statements.now) (λ found so. inr so)
+    IfOk-weaker c.found_opened.result (IsLookedAt c.args.options c.args.above c.args.statements.now)
+    (IsFound c.args.options c.args.above c.args.statements.now) (λ found so. inr so)
     c.found_opened.ensures
 
 pub returns-in-Err : goal.returns-in-Err
 returns-in-Err c =
-    stops_found c.args.options c.args.statements.now c.in-Err.why c.found_unopened.result (c.in-Err.ensures.err c.args.options) c.found_unopened.ensures
+    stops_found c.args.options c.args.above c.args.statements.now c.in-Err.why c.found_unopened.result (c.in-Err.ensures.err c.args.options) c.found_unopened.ensures

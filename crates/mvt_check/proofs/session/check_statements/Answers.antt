@@ -16,6 +16,7 @@ loop-n-preserved c =
       counted = counted_on units library statements c.loop-n.n s cut c.loop-n.count c.in_ok-own.own c.one-count.result
           c.loop-n.invariant.counted c.in_ok-own.ensures.refused c.one-count.ensures.number;
       few = omega (arith, c.loop-n.invariant.few, c.one-count.ensures.bound);
-      added = adds_on units library statements c.loop-n.n s cut c.args.text.now.items c.loop-n.text.items c.check_statement.new.text.items
+      added = adds_on units library statements c.loop-n.n s cut c.args.known.above c.args.text.now.items c.loop-n.text.items
+          c.check_statement.new.text.items
           c.in_ok-own.ensures.added c.loop-n.invariant.added;
     }

@@ -9,6 +9,7 @@ invariant-loop-n l = record {
   counted : refused_decks l.fn.sources.units.now l.fn.sources.library.now l.statements
       ≡ l.count + refused_decks l.fn.sources.units.now l.fn.sources.library.now (drop l.n l.statements);
   few : l.count ≤ l.n;
-  added : (last : List ℕ) → AddsAll l.fn.sources.units.now l.fn.sources.library.now (drop l.n l.statements) l.text.items last →
-      AddsAll l.fn.sources.units.now l.fn.sources.library.now l.statements l.fn.text.items last;
+  added : (last : List ℕ) →
+      AddsAll l.fn.sources.units.now l.fn.sources.library.now l.fn.known.above (drop l.n l.statements) l.text.items last →
+      AddsAll l.fn.sources.units.now l.fn.sources.library.now l.fn.known.above l.statements l.fn.text.items last;
 }

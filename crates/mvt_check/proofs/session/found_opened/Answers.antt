@@ -13,7 +13,7 @@ returns c =
       opened = c.args.opened.now;
       is = c.requires;
       told = c.in_ok-found.found.text.items;
-      fault = subst (λ f. TellsFault f c.in_ok-found.found.text.items) c.later_fault.ensures own.text;
+      fault = subst (λ f. TellsFault c.args.above f c.in_ok-found.found.text.items) c.later_fault.ensures own.text;
       text = c.in_ok-check_opened.ensures.text;
       refused = c.in_ok-check_opened.ensures.refused
           ∙ ap (λ b. b || some_refused (unit_names fixed.units) fixed.library statements) (own.refused ∙ ap is_some c.later_fault.ensures);
