@@ -154,6 +154,12 @@ def places(n):
     return b"./ VOLUME V 100\n" + INITIATOR + deck(step * n) + turns(1, 118 * n + 4)
 
 
+def largest_job(n):
+    """A job of {:,} steps of 64 unnamed sets."""
+    step = b"//S EXEC PGM=IEFBR14\n" + lines(b"//D%d DD SPACE=(TRK,0)", range(64))
+    return b"./ VOLUME V 100\n" + INITIATOR + deck(step * n) + turns(1, 130 * n + 4)
+
+
 def old_sets(word, n):
     """Jobs of 240 sets each that are there, and that end by this word."""
     n -= n % 240
@@ -425,6 +431,7 @@ GROWING = [
     (puts_to_output, 12),
     (generations, 2000),
     (places, 32),
+    (largest_job, 255),
     (scratched, 6000),
     (uncatalogued, 6000),
     (simple_wait_for_space, 10_000),

@@ -1,5 +1,5 @@
 #!/usr/bin/env python3
-"""Counts instructions of the analysis of plans of 255 steps, which no deck of 32 steps says, by valgrind's callgrind.
+"""Counts instructions of the analysis of plans of 255 steps by themselves, without a machine, by valgrind's callgrind.
 
     python3 bench/plans.py [PROGRAM [WORD..]]
     python3 bench/plans.py --rows
