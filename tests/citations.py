@@ -7,6 +7,7 @@ A file is cited by its path, with or without `crates/` in front, or by its name 
 passage or in the line of crates above it, or one crate alone has it. The names after it, each in quotes of its own, have to be in it, and so has a
 word without quotes that ends them, as in `admit_core/specs/Told.antt`, `IsTold`, risk. `Admissions`, Admits cites a name of the file Admissions.antt
 of `world_meaning` or `jcl_meaning`. In a table whose last column is "Defined in", a name alone is in a file that the page cited last above it.
+In docs/PROVED.md each name in the entry of a crate is one of that crate or of those that it uses.
 """
 
 import functools
@@ -34,6 +35,11 @@ def text_of(path):
 @functools.cache
 def sources_of(crate):
     return "\n".join(text_of(path) for path in glob.glob(f"crates/{crate}/src/**/*.rt", recursive=True))
+
+
+@functools.cache
+def everything_of(crate):
+    return sources_of(crate) + "\n".join(text_of(path) for path in glob.glob(f"crates/{crate}/specs/*.antt"))
 
 
 def place_of(cited, before):
@@ -72,9 +78,23 @@ def wrong_in_tables(page):
                     yield f"no {name} in {path}"
 
 
+def wrong_in_entries(page):
+    """Yields the names in the entries of crates, as `- `plain`: ..` in docs/PROVED.md, that no crate that the entry is about has, or uses."""
+    used = dict(re.findall(r"^(\w+)[^#:\n]*:(.*)$", text_of("crates.txt"), re.M))
+    entries = text_of(page).split("## Asked of the caller\n")[0]
+    for entry in re.finditer(r"^- ((?:`\w+`(?:, | and )?)+): ((?:.|\n  )*)", entries, re.M):
+        crates = re.findall(r"\w+", entry[1])
+        if all(crate in used for crate in crates):
+            known = "\n".join(everything_of(crate) for own in crates for crate in (own, *used[own].split()))
+            for name in re.findall(r"`([A-Za-z_][A-Za-z_0-9:]*)`", entry[2]):
+                if name not in used and not has_name(known, name):
+                    yield f"no {name} in {' or '.join(crates)}"
+
+
 def wrong_in(page):
     """Yields what a page cites and what is not there."""
     yield from wrong_in_tables(page)
+    yield from wrong_in_entries(page) if page == "docs/PROVED.md" else ()
     heading = ""
     for passage in re.split(r"\n\n|\n(?=- |\||\d+\. )", text_of(page)):
         passage = " ".join(passage.split())

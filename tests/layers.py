@@ -28,7 +28,7 @@ def main():
     names = r"((?:`\w+`(?:, | and )?)+)"
     others = {
         "docs/ARCHITECTURE.md": layers_of("docs/ARCHITECTURE.md", r"\*\*([^*]+)\*\*", "- " + names),
-        "docs/PROVED.md": layers_of("docs/PROVED.md", r"## (.*)", names),
+        "docs/PROVED.md": layers_of("docs/PROVED.md", r"## (.*)", "(?:- )?" + names),
     }
     differ = 0
     for crate, layer in listed.items():
