@@ -31,6 +31,7 @@ ASKED = {
     "init_core": "Initiator turn Reply",
     "sched_core": "Config System apply ApplyFault drive Driven close Event",
     "session_core": "run_session SessionEnd SessionFault",
+    "law_core": "assured_run promises_are_kept",
     "mvt_main": "report",
 }
 DEFINES = r"\b(?:fn|struct|enum|trait|type) {}\b|^ +{}\b[ ,({{]"
