@@ -7,7 +7,9 @@ A file is cited by its path, with or without `crates/` in front, or by its name 
 passage or in the line of crates above it, or one crate alone has it. The names after it, each in quotes of its own, have to be in it, and so has a
 word without quotes that ends them, as in `admit_core/specs/Told.antt`, `IsTold`, risk. `Admissions`, Admits cites a name of the file Admissions.antt
 of `world_meaning` or `jcl_meaning`. In a table whose last column is "Defined in", a name alone is in a file that the page cited last above it.
-In docs/PROVED.md each name in the entry of a crate is one of that crate or of those that it uses.
+In docs/PROVED.md each name in the entry of a crate is one of that crate or of those that it uses. Any other name of the code in quotes, a word with
+an underscore or with `::`, is somewhere in a crate, or is an edit; but for docs/GATE.md, which also tells of what was, and for what
+docs/DECISIONS.md says was asked for otherwise.
 """
 
 import functools
@@ -91,10 +93,27 @@ def wrong_in_entries(page):
                     yield f"no {name} in {' or '.join(crates)}"
 
 
+@functools.cache
+def known_names():
+    """All names of the code, of its definitions, of crates and of edits."""
+    found = {name for crate in os.listdir("crates") for name in re.findall(r"\w+", everything_of(crate))}
+    edits = glob.glob("crates/*/must-fail/*") + glob.glob("tests/edits/*/*")
+    return found | set(os.listdir("crates")) | {os.path.basename(edit).split(".")[0] for edit in edits}
+
+
+def unknown_in(page):
+    """Yields the names of the code that no crate has."""
+    text = text_of(page).split("## Names that were asked for otherwise\n")[0] if page != "docs/GATE.md" else ""
+    for name in dict.fromkeys(re.findall(r"`([A-Za-z]\w*(?:_\w+|(?:::\w+)+))`", re.sub(r"^```.*?^```\n", "", text, flags=re.M | re.S))):
+        if name.split("::")[-1] not in known_names():
+            yield f"no name {name}"
+
+
 def wrong_in(page):
     """Yields what a page cites and what is not there."""
     yield from wrong_in_tables(page)
     yield from wrong_in_entries(page) if page == "docs/PROVED.md" else ()
+    yield from unknown_in(page)
     heading = ""
     for passage in re.split(r"\n\n|\n(?=- |\||\d+\. )", text_of(page)):
         passage = " ".join(passage.split())
