@@ -25,10 +25,10 @@ help:
 	@echo 'make pictures             draws each session of examples/ with ./mvt-picture and reads the pictures as XML'
 	@echo 'make test-play            compares the sessions of tests/play/ with ./mvt-play and ./mvt'
 	@echo 'make examples             runs each session of examples/ with ./mvt and compares the listings'
-	@echo 'make documents            compares README.md and docs/ with ./mvt: what examples print, what refusals are told; and looks for'
+	@echo 'make documents            compares README.md and docs/ with ./mvt: what examples print, how refusals are reported; and looks for'
 	@echo '                          what they cite'
 	@echo 'make rows                 compares the worked rows that are texts with ./mvt, and their tables with worked_rows'
-	@echo 'make hostile              refuses each allocation in turn and runs mutated sessions, behind make test'
+	@echo 'make hostile              refuses each allocation in turn and runs mutated sessions, after make test'
 	@echo 'make bench                counts the instructions of ./mvt on the sessions of bench/, by callgrind: ten minutes'
 	@echo 'make test                 the gate: every proof from nothing, the edits that must fail, the tests, the programs'
 
@@ -109,8 +109,8 @@ test-play: mvt tools
 examples: mvt
 	tests/examples.sh ./mvt
 
-# Compares the documents with ./mvt: their examples, and what docs/REFUSALS.md says is told; the table of examples; the layers of crates; and what is asked of callers.
-documents: mvt
+# Compares the documents with ./mvt and ./mvt-check: their examples, and what docs/REFUSALS.md says is reported; the table of examples; the layers of crates; and what is asked of callers.
+documents: mvt mvt-check
 	python3 tests/documents.py ./mvt
 	python3 tests/citations.py
 	python3 tests/layers.py
