@@ -5,7 +5,7 @@ ghost use Rattle.admit_core.specs.Admissions.{behind, given_to, is_assured, line
 
 use enq_core::table::Held;
 use jcl_meaning::meanings::Meanings;
-use jcl_meaning::state::Place;
+use jcl_meaning::places::Places;
 use jcl_plan::day::Day;
 use jcl_plan::entry::JobLine;
 use jcl_plan::plan::JobPlan;
@@ -41,7 +41,7 @@ impl NamedJob {
 /// What is fixed for a job by its admission: where its sets are placed, what its keys mean, its date.
 #[derive(Drop)]
 pub struct Provision {
-    pub places: Listed<Place>,
+    pub places: Places,
     pub meanings: Meanings,
     pub date: Day,
 }

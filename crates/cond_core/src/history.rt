@@ -1,11 +1,11 @@
 //! What becomes of a step, by what came before it. (COND parameter)
 ghost use Rattle.std.specs.Prelude.{◌≡◌};
-ghost use Rattle.cond_core.specs.Fates.{fate_after};
+ghost use Rattle.cond_core.specs.Fates.{fate_behind};
 
 use jcl_meaning::history::{abended, fate as fate_by, some_satisfied};
 use jcl_meaning::state::Ended;
 use jcl_plan::outcome::Fate;
-use jcl_plan::plan::{StepPlan, Test};
+use jcl_plan::plan::{AfterAbend, Test};
 
 /// What came before a step of a job.
 #[derive(Clone, Copy)]
@@ -19,15 +19,16 @@ pub struct History<'a> {
 }
 
 /// What becomes of a step, the first that applies: FLUSHED where a fault ended the job; BYPASSED where a JOB test is met; FLUSHED after
-/// an ABEND with neither EVEN nor ONLY; BYPASSED with ONLY where no ABEND came; BYPASSED where a test of its own is met; else RUN.
-pub fn fate(step: &StepPlan, history: &History) -> Fate
-    ensures { result ≡ fate_after history.now.faulted history.now.job_tests.now history.now.ended.now step.now }
+/// an ABEND with neither EVEN nor ONLY; BYPASSED with ONLY where no ABEND came; BYPASSED where a test of its own is met; else RUN. Whether one is met is
+/// given, since who reads a job from its records tries its tests one by one.
+pub fn fate(after_abend: AfterAbend, test_met: bool, history: &History) -> Fate
+    ensures { result ≡ fate_behind history.now.faulted history.now.job_tests.now history.now.ended.now after_abend test_met }
 {
     fate_by(
         history.faulted,
         some_satisfied(history.ended, history.job_tests),
-        step.after_abend,
+        after_abend,
         abended(history.ended),
-        some_satisfied(history.ended, step.tests.as_slice()),
+        test_met,
     )
 }

@@ -3,7 +3,8 @@ ghost use Rattle.std.specs.Prelude.{◌≡◌, ◌++◌, ◌∷◌, [], ◌<◌,
 ghost use Rattle.jcl_plan.specs.declared.entry.JobLine.{JobLine};
 
 use jcl_meaning::meanings::Meanings;
-use jcl_meaning::state::{Own, Place};
+use jcl_meaning::places::Places;
+use jcl_meaning::state::Own;
 use jcl_plan::day::Day;
 use jcl_plan::entry::JobLine;
 use jcl_plan::plan::Test;
@@ -17,7 +18,7 @@ use std::alloc::AllocError;
 pub struct Given<'a> {
     pub job_tests: &'a [Test],
     pub volumes: &'a [Serial],
-    pub places: &'a [Place],
+    pub places: &'a Places,
     pub meanings: &'a Meanings,
     pub date: Day,
 }

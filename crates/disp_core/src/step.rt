@@ -10,8 +10,9 @@ ghost use Rattle.disp_core.specs.Acting.{ActsAside};
 ghost use Rattle.disp_core.specs.Courses.{CarriedAside, CarriedEnd, course_ended_by, fixed_by, own_ended};
 
 use crate::course::{Course, Given};
+use cond_core::history::{History, fate};
 use jcl_meaning::ending::{as_ending, end_line, marked_later};
-use jcl_meaning::history::{abended, fate, is_abend, is_run, satisfied, some_satisfied};
+use jcl_meaning::history::{is_abend, is_run, satisfied};
 use jcl_meaning::state::{Ended, Own};
 use jcl_plan::entry::JobLine;
 use jcl_plan::outcome::{Abend, Outcome};
@@ -56,13 +57,12 @@ pub fn begin<T: JobText>(
 {
     let step = text.step(n - 1);
     let ended = course.own.ended.as_slice();
-    let fate = fate(
-        course.own.faulted,
-        some_satisfied(ended, given.job_tests),
-        step.after_abend,
-        abended(ended),
-        is_met(text, n - 1, ended),
-    );
+    let history = History {
+        job_tests: given.job_tests,
+        ended,
+        faulted: course.own.faulted,
+    };
+    let fate = fate(step.after_abend, is_met(text, n - 1, ended), &history);
     course.say(JobLine::Step {
         step: n,
         name: step.name,

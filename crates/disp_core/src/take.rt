@@ -1,7 +1,6 @@
 //! The taking of a DD. (GC28-6704, DISP parameter)
 ghost use Rattle.std.specs.Prelude.{◌≡◌, ◌<◌, Err, IfNone, IfOk, IfSome, None, OnErr, OnOk, Some, is_some, length, remove, true};
 ghost use Rattle.jcl_plan.specs.declared.entry.JobLine.{JobLine};
-ghost use Rattle.jcl_meaning.specs.Resolutions.{place_of};
 ghost use Rattle.jcl_meaning.specs.TakeActs.{new_dd, passed_left, take_word};
 ghost use Rattle.jcl_meaning.specs.Takes.{is_there, primary_of, where_of, without_passed};
 ghost use Rattle.job_text.specs.Texts.{take_as};
@@ -146,18 +145,6 @@ fn take_word(how: How, serial: Serial) -> TakeWord
         How::FoundByCatalog => TakeWord::Found(serial),
         How::Received { .. } => TakeWord::Received(serial),
     }
-}
-
-/// The place of a DD; of two the first counts.
-fn place_of(places: &[Place], step: usize, dd: usize) -> Option<Serial>
-    ensures { result ≡ place_of places.now step dd }
-{
-    for p in places {
-        if p.step == step && p.dd == dd {
-            return Some(p.serial);
-        }
-    }
-    None
 }
 
 /// The place of the first passed set of a key, from 0.
@@ -346,7 +333,7 @@ fn target<S: JobStore>(
         where_of(store, at.job, &p.volume, passed, own.volumes.as_slice()),
         first_passed(passed, key),
         catalogued(store, at.job, key),
-        place_of(given.places, at.step, at.dd),
+        given.places.of(at.step, at.dd),
     )
 }
 

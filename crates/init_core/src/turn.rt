@@ -38,7 +38,7 @@ fn given<'a>(profile: &Profile<'a>, admitted: &'a AdmittedJob) -> Given<'a>
     Given {
         job_tests: admitted.plan().tests.as_slice(),
         volumes: profile.volumes,
-        places: provision.places.as_slice(),
+        places: &provision.places,
         meanings: &provision.meanings,
         date: provision.date,
     }

@@ -1,53 +1,49 @@
--- Of meanings in order those before one that stands before a DD are not the DD's.
-use Rattle.std.proofs.Common.{◌≡◌, ◌∙◌, ℕ, zero, suc, ◌-◌, ◌<◌, Bool, true, false, ◌&&◌, ◌||◌, ◌==◌, nat_lt, List, [], ◌∷◌, ◌++◌, if◌then◌else◌, ap, arith, drop, length, lt-ltb, ltb-false, ltb-true, refl, slice_get, slice_index_or, Some, subst, sym}
-use Rattle.std.proofs.lemmas.Bool.{eqb-true, eqb-false, eq-eqb, ne_eqb}
-use Rattle.jcl_meaning.specs.declared.state.KeyMeaning.{KeyMeaning}
-use Rattle.jcl_meaning.specs.declared.state.Resolution.{Resolution}
-use Rattle.jcl_meaning.specs.InOrder.{AreInOrder, is_before}
-use Rattle.jcl_meaning.specs.Resolutions.{meaning_at}
+-- Of what is said of DDs in order, what stands before one that stands before a DD is not the DD's.
+use Rattle.std.proofs.Common.{◌≡◌, ◌∙◌, ℕ, zero, suc, ◌-◌, ◌<◌, Bool, true, false, ◌&&◌, ◌||◌, ◌==◌, nat_lt, List, [], ◌∷◌, ◌++◌, Option, if◌then◌else◌, ap, arith, drop, length, slice_get, slice_index_or, None, Some, subst, sym}
+use Rattle.jcl_meaning.specs.InOrder.{AreInOrder, first_of, is_before}
 
 -- one that stands before a DD is not its own
-apart : (a b s d : ℕ) → (nat_lt a s || (a == s && nat_lt b d)) ≡ true → (a == s && b == d) ≡ false
+apart : (a b s d : ℕ) → is_before a b s d ≡ true → (a == s && b == d) ≡ false
 apart a b s d h = grind (arith, h)
 
 -- an order
-between : (a b m n s d : ℕ) → (nat_lt a m || (a == m && nat_lt b n)) ≡ true → (nat_lt m s || (m == s && nat_lt n d)) ≡ true →
-    (nat_lt a s || (a == s && nat_lt b d)) ≡ true
+between : (a b m n s d : ℕ) → is_before a b m n ≡ true → is_before m n s d ≡ true → is_before a b s d ≡ true
 between a b m n s d first second = grind (arith, first, second)
 
-first_before : (m : KeyMeaning) (ms : List KeyMeaning) (j s d : ℕ) (none : KeyMeaning) → AreInOrder (m ∷ ms) → j < length ms →
-    is_before (slice_index_or ms j none) s d ≡ true → is_before m s d ≡ true
-first_before m [] j s d none order here h = absurd (omega (arith, here))
-first_before m (next ∷ ms) zero s d none order here h = between m.step m.dd next.step next.dd s d order.0 h
-first_before m (next ∷ ms) (suc j) s d none order here h =
-    between m.step m.dd next.step next.dd s d order.0 (first_before next ms j s d none order.1 (omega (arith, here)) h)
+first_before : {A : Type 0} → (f g : A → ℕ) (x : A) (xs : List A) (j s d : ℕ) (none : A) → AreInOrder f g (x ∷ xs) → j < length xs →
+    is_before (f (slice_index_or xs j none)) (g (slice_index_or xs j none)) s d ≡ true → is_before (f x) (g x) s d ≡ true
+first_before f g x [] j s d none order here h = absurd (omega (arith, here))
+first_before f g x (next ∷ xs) zero s d none order here h = between (f x) (g x) (f next) (g next) s d order.0 h
+first_before f g x (next ∷ xs) (suc j) s d none order here h =
+    between (f x) (g x) (f next) (g next) s d order.0 (first_before f g next xs j s d none order.1 (omega (arith, here)) h)
 
-not_its : (m : KeyMeaning) (ms : List KeyMeaning) (s d : ℕ) → is_before m s d ≡ true → meaning_at ms s d ≡ meaning_at (m ∷ ms) s d
-not_its m ms s d h =
-    sym (ap (λ (b : Bool). let r : Resolution = if b then m.means else meaning_at ms s d in r) (apart m.step m.dd s d h))
+not_its : {A : Type 0} → (f g : A → ℕ) (x : A) (xs : List A) (s d : ℕ) → is_before (f x) (g x) s d ≡ true → first_of f g xs s d ≡ first_of f g (x ∷ xs) s d
+not_its {A} f g x xs s d h =
+    sym (ap (λ (b : Bool). let r : Option A = if b then Some x else first_of f g xs s d in r) (apart (f x) (g x) s d h))
 
-rest_in_order : (m : KeyMeaning) (ms : List KeyMeaning) → AreInOrder (m ∷ ms) → AreInOrder ms
-rest_in_order m [] order = tt
-rest_in_order m (next ∷ ms) order = order.1
+rest_in_order : {A : Type 0} → (f g : A → ℕ) (x : A) (xs : List A) → AreInOrder f g (x ∷ xs) → AreInOrder f g xs
+rest_in_order f g x [] order = tt
+rest_in_order f g x (next ∷ xs) order = order.1
 
-pub skipped : (list : List KeyMeaning) (j s d : ℕ) (none : KeyMeaning) → AreInOrder list → j < length list → is_before (slice_index_or list j none) s d ≡ true →
-    meaning_at (drop (suc j) list) s d ≡ meaning_at list s d
-skipped [] j s d none order here h = absurd (omega (arith, here))
-skipped (m ∷ ms) zero s d none order here h = not_its m ms s d h
-skipped (m ∷ ms) (suc j) s d none order here h =
-    skipped ms j s d none (rest_in_order m ms order) (omega (arith, here)) h
-    ∙ not_its m ms s d (first_before m ms j s d none order (omega (arith, here)) h)
+pub skipped : {A : Type 0} → (f g : A → ℕ) (list : List A) (j s d : ℕ) (none : A) → AreInOrder f g list → j < length list →
+    is_before (f (slice_index_or list j none)) (g (slice_index_or list j none)) s d ≡ true →
+    first_of f g (drop (suc j) list) s d ≡ first_of f g list s d
+skipped f g [] j s d none order here h = absurd (omega (arith, here))
+skipped f g (x ∷ xs) zero s d none order here h = not_its f g x xs s d h
+skipped f g (x ∷ xs) (suc j) s d none order here h =
+    skipped f g xs j s d none (rest_in_order f g x xs order) (omega (arith, here)) h
+    ∙ not_its f g x xs s d (first_before f g x xs j s d none order (omega (arith, here)) h)
 
-pub pushed : (list : List KeyMeaning) (i : ℕ) (last next : KeyMeaning) → suc i ≡ length list → slice_get list i ≡ Some last →
-    is_before last next.step next.dd ≡ true → AreInOrder list → AreInOrder (list ++ next ∷ [])
-pushed [] i last next end is h order = tt
-pushed (m ∷ []) zero last next end is h order =
-    let same : m ≡ last = cc in (ap (λ (x : KeyMeaning). is_before x next.step next.dd) same ∙ h, tt)
-pushed (m ∷ []) (suc i) last next end is h order = absurd (omega (arith, end))
-pushed (m ∷ n ∷ list) zero last next end is h order = absurd (omega (arith, end))
-pushed (m ∷ n ∷ list) (suc i) last next end is h order = (order.0, pushed (n ∷ list) i last next (omega (arith, end)) is h order.1)
+pub pushed : {A : Type 0} → (f g : A → ℕ) (list : List A) (i : ℕ) (last next : A) → suc i ≡ length list → slice_get list i ≡ Some last →
+    is_before (f last) (g last) (f next) (g next) ≡ true → AreInOrder f g list → AreInOrder f g (list ++ next ∷ [])
+pushed f g [] i last next end is h order = tt
+pushed f g (x ∷ []) zero last next end is h order =
+    let same : x ≡ last = cc in (ap (λ x. is_before (f x) (g x) (f next) (g next)) same ∙ h, tt)
+pushed f g (x ∷ []) (suc i) last next end is h order = absurd (omega (arith, end))
+pushed f g (x ∷ y ∷ list) zero last next end is h order = absurd (omega (arith, end))
+pushed f g (x ∷ y ∷ list) (suc i) last next end is h order = (order.0, pushed f g (y ∷ list) i last next (omega (arith, end)) is h order.1)
 
-pub pushed_last : (list : List KeyMeaning) (last next : KeyMeaning) → slice_get list (length list - 1) ≡ Some last → is_before last next.step next.dd ≡ true →
-    AreInOrder list → AreInOrder (list ++ next ∷ [])
-pushed_last [] last next is h order = tt
-pushed_last (m ∷ ms) last next is h order = pushed (m ∷ ms) (length (m ∷ ms) - 1) last next (omega arith) is h order
+pub pushed_last : {A : Type 0} → (f g : A → ℕ) (list : List A) (last next : A) → slice_get list (length list - 1) ≡ Some last →
+    is_before (f last) (g last) (f next) (g next) ≡ true → AreInOrder f g list → AreInOrder f g (list ++ next ∷ [])
+pushed_last f g [] last next is h order = tt
+pushed_last f g (x ∷ xs) last next is h order = pushed f g (x ∷ xs) (length (x ∷ xs) - 1) last next (omega arith) is h order

@@ -5,8 +5,10 @@
 pub mod budget;
 pub mod ending;
 pub mod history;
+mod in_order;
 pub mod meanings;
 pub mod names;
+pub mod places;
 pub mod program;
 pub mod solo;
 pub mod source;

@@ -1,13 +1,23 @@
 //! What the keys of a job's DDs mean, each found without going through them all.
-ghost use Rattle.std.specs.Prelude.{◌≡◌, ◌++◌, ◌∷◌, ◌≤◌, [], OnErr, OnOk, drop, length, true};
-ghost use Rattle.jcl_meaning.specs.InOrder.{AreInOrder, is_before};
+ghost use Rattle.std.specs.Prelude.{◌≡◌, ◌++◌, ◌∷◌, [], OnErr, OnOk};
 ghost use Rattle.jcl_meaning.specs.Resolutions.{meaning_at};
 
+use crate::in_order::{OfDd, keeps_order, said_of};
 use crate::state::{KeyMeaning, Resolution};
 use jcl_plan::fault::Fault;
 use plain::listed::Listed;
 use std::alloc::{AllocError, Global};
 use std::marker::Model;
+
+impl OfDd for KeyMeaning {
+    ghost step_of = { λ m. m.step };
+
+    ghost dd_of = { λ m. m.dd };
+
+    fn spot(&self) -> (usize, usize) {
+        (self.step, self.dd)
+    }
+}
 
 /// A list of meanings. They are added in the order of steps and DDs; where they are not, one is found by going through them.
 #[derive(Drop)]
@@ -25,55 +35,7 @@ impl Model for Meanings {
 
     ghost view = { λ m. m.list };
 
-    ghost invariant = { λ m. m.in_order ≡ true → AreInOrder m.list };
-}
-
-/// Whether a meaning is of a DD before this one.
-fn is_before(meaning: &KeyMeaning, step: usize, dd: usize) -> bool
-    ensures { result ≡ is_before meaning.now step dd }
-{
-    meaning.step < step || (meaning.step == step && meaning.dd < dd)
-}
-
-/// How many stand before a DD, of which none is its own.
-fn before(list: &[KeyMeaning], step: usize, dd: usize) -> usize
-    requires { AreInOrder list.now }
-    ensures bound { result ≤ length list.now }
-    ensures skipped { meaning_at (drop result list.now) step dd ≡ meaning_at list.now step dd }
-{
-    let mut low = 0;
-    let mut high = list.len();
-    while low < high {
-        let middle = low + (high - low) / 2;
-        if is_before(&list[middle], step, dd) {
-            low = middle + 1;
-        } else {
-            high = middle;
-        }
-    }
-    low
-}
-
-/// What the key of a DD means; of two the first counts.
-fn meaning_at(list: &[KeyMeaning], step: usize, dd: usize) -> Resolution
-    ensures { result ≡ meaning_at list.now step dd }
-{
-    for meaning in list {
-        if meaning.step == step && meaning.dd == dd {
-            return meaning.means;
-        }
-    }
-    Resolution::Fails(Fault::F5)
-}
-
-/// Whether one that comes behind the others keeps their order.
-fn keeps_order(list: &[KeyMeaning], meaning: &KeyMeaning) -> bool
-    ensures { result ≡ true → AreInOrder list.now → AreInOrder (list.now ++ meaning.now ∷ []) }
-{
-    match list.last() {
-        None => true,
-        Some(last) => is_before(last, meaning.step, meaning.dd),
-    }
+    ghost invariant = { λ m. m.in_order ≡ true → AreInOrder (λ x. x.step) (λ x. x.dd) m.list };
 }
 
 impl Meanings {
@@ -108,13 +70,9 @@ impl Meanings {
     pub fn at(&self, step: usize, dd: usize) -> Resolution
         ensures { result ≡ meaning_at self.now step dd }
     {
-        let list = self.list.as_slice();
-        let from = if self.in_order {
-            before(list, step, dd)
-        } else {
-            0
-        };
-        let (_, rest) = list.split_at(from);
-        meaning_at(rest, step, dd)
+        match said_of(self.list.as_slice(), self.in_order, step, dd) {
+            Some(meaning) => meaning.means,
+            None => Resolution::Fails(Fault::F5),
+        }
     }
 }

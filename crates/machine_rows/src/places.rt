@@ -6,6 +6,7 @@ ghost use Rattle.jcl_plan.specs.declared.plan.TheConstants.{MOST_TRACKS};
 ghost use Rattle.place_core.specs.Placings.{NothingKeptFor};
 
 use cat_core::catalog::Catalog;
+use jcl_meaning::places::Places;
 use jcl_meaning::state::Place;
 use jcl_plan::plan::{
     AfterAbend, DdKind, DdPlan, Expiry, JobPlan, SetPlan, Space, Status, StepPlan, VolumePlan,
@@ -221,11 +222,7 @@ fn units_of(alloc: Global, serials: &Serials) -> Result<Vec<Listed<Serial>>, All
 }
 
 /// The places of job 7, found again where memory was wanting and where it was not: nothing stays set aside.
-fn found_again(
-    alloc: Global,
-    job: &JobPlan,
-    serials: &Serials,
-) -> Result<Listed<Place>, AllocError> {
+fn found_again(alloc: Global, job: &JobPlan, serials: &Serials) -> Result<Places, AllocError> {
     let mut store = store_of(alloc, serials)?;
     let units = units_of(alloc, serials)?;
     let _ = place_sets(alloc, &mut store, 7, job, units.as_slice());

@@ -48,7 +48,7 @@ fn analyse_holding<'a, J: Job + Drop>(
     let given = Given {
         job_tests: plan.tests.as_slice(),
         volumes: start.store.volumes.as_slice(),
-        places: start.places.as_slice(),
+        places: &start.places,
         meanings,
         date: start.date,
     };

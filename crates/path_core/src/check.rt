@@ -54,14 +54,7 @@ pub fn check_path(
         report.now.fault report.now.step report.now.dd report.now.path.items) }
 {
     let path = report.path.as_slice();
-    let ran = path_run(
-        alloc,
-        plan,
-        &start.store,
-        start.places.as_slice(),
-        path,
-        start.date,
-    )?;
+    let ran = path_run(alloc, plan, &start.store, &start.places, path, start.date)?;
     let fates = fates_in(alloc, ran.run.lines.as_slice())?;
     if !are_of_fates(fates.as_slice(), path) {
         return Ok(false);

@@ -63,14 +63,7 @@ pub fn path_lines(
 ) -> Result<Listed<JobLine>, AllocError>
     ensures { IfOk result (λ lines. lines ≡ path_lines (fixed_from start.now plan.now) plan.now (store_of start.now.store) path.now) }
 {
-    let ran = path_run(
-        alloc,
-        plan,
-        &start.store,
-        start.places.as_slice(),
-        path,
-        start.date,
-    )?;
+    let ran = path_run(alloc, plan, &start.store, &start.places, path, start.date)?;
     let count = count_to_fault(ran.run.lines.as_slice());
     let mut lines = ran.run.lines.into_vec();
     lines.truncate(count);

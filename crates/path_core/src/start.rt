@@ -1,8 +1,7 @@
 //! What a job finds as it starts.
-use jcl_meaning::state::Place;
+use jcl_meaning::places::Places;
 use jcl_meaning::store::SoloStore;
 use jcl_plan::day::Day;
-use plain::listed::Listed;
 
 /// What a job finds as it starts, and how far its analysis goes.
 #[derive(Drop)]
@@ -10,7 +9,7 @@ pub struct StartView {
     /// The sets and the entries under the job's names, and the volumes as configured.
     pub store: SoloStore,
     /// Where the sets are placed that the job is to make.
-    pub places: Listed<Place>,
+    pub places: Places,
     pub date: Day,
     /// The most views behind a step.
     pub most_views: usize,

@@ -1,6 +1,7 @@
 //! A job and what it finds, read from a text of one item a line.
 use crate::repeat::Repeat;
 use crate::words::{count_in, fault_in, path_in, serial_in, set_name_in, short_in, wanted};
+use jcl_meaning::places::Places;
 use jcl_meaning::state::Place;
 use jcl_meaning::store::{DataSet, SoloSet};
 use jcl_refs::units::UnitNames;
@@ -34,7 +35,7 @@ pub struct Case<'a> {
     pub sets: Listed<SoloSet>,
     /// Names of the catalog, each with its volume.
     pub entries: Listed<(DsName, Serial)>,
-    pub places: Listed<Place>,
+    pub places: Places,
     /// The volume of each set that may be made and has no other place.
     pub every_place: Option<Serial>,
     pub most_views: usize,
@@ -61,7 +62,7 @@ impl<'a> Reader<'a> {
                 volumes: Listed::empty(alloc),
                 sets: Listed::empty(alloc),
                 entries: Listed::empty(alloc),
-                places: Listed::empty(alloc),
+                places: Places::empty(alloc),
                 every_place: None,
                 most_views: 1024,
                 only_packed: false,

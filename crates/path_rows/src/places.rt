@@ -1,9 +1,9 @@
 //! Where sets are made that have no place of their own.
 use crate::case::Case;
+use jcl_meaning::places::Places;
 use jcl_meaning::state::Place;
 use jcl_plan::plan::{DdKind, DdPlan, JobPlan, SetPlan, Status, VolumePlan};
 use jname_core::serial::Serial;
-use plain::listed::Listed;
 use std::alloc::{AllocError, Global};
 
 /// The volume on which a set may be made: its own, or else this one.
@@ -18,7 +18,7 @@ fn volume_of(set: &SetPlan, serial: Serial) -> Option<Serial> {
 
 /// Puts the places of a step's sets behind others.
 fn add_step(
-    places: &mut Listed<Place>,
+    places: &mut Places,
     step: usize,
     dds: &[DdPlan],
     serial: Serial,
@@ -38,7 +38,7 @@ fn add_step(
 }
 
 /// The places of a case, and behind them those of all sets that its plan may make.
-pub(crate) fn places_of(case: &Case<'_>, plan: &JobPlan) -> Result<Listed<Place>, AllocError> {
+pub(crate) fn places_of(case: &Case<'_>, plan: &JobPlan) -> Result<Places, AllocError> {
     let mut places = case.places.clone()?;
     if let Some(serial) = case.every_place {
         for (before, step) in plan.steps.as_slice().iter().enumerate() {

@@ -6,7 +6,7 @@ ghost use Rattle.path_rows.specs.Catalogs.{AreVolumes};
 
 use crate::case::Case;
 use group_core::entry::CatEntry;
-use jcl_meaning::state::Place;
+use jcl_meaning::places::Places;
 use jcl_meaning::store::{SoloEntry, SoloSet, SoloStore};
 use jcl_plan::day::Day;
 use jname_core::ds_name::DsName;
@@ -41,7 +41,7 @@ fn sets_of(alloc: Global, sets: &[SoloSet]) -> Result<Listed<SoloSet>, AllocErro
 pub(crate) fn start_of(
     alloc: Global,
     case: &Case<'_>,
-    places: Listed<Place>,
+    places: Places,
     date: Day,
 ) -> Result<StartView, AllocError>
     ensures { IfOk result (λ start. HasSoundGroups (store_of start.store)) }

@@ -9,6 +9,7 @@ ghost use Rattle.place_core.specs.Volumes.{IsClear, all_back};
 
 use crate::aside::{aside_among, give_all_back, give_back};
 use crate::rule::{is_placed, unit_volumes};
+use jcl_meaning::places::Places;
 use jcl_meaning::state::Place;
 use jcl_plan::plan::{DdKind, DdPlan, JobPlan, SetPlan, StepPlan, VolumePlan};
 use jname_core::serial::Serial;
@@ -23,7 +24,7 @@ use store_core::take::primary_of;
 /// Places a set on one of these volumes. An `Err` changes nothing.
 fn place_among(
     volumes: &mut [Mounted],
-    places: &mut Listed<Place>,
+    places: &mut Places,
     among: &[Serial],
     at: KeptPlace,
     tracks: u16,
@@ -52,7 +53,7 @@ fn place_among(
 /// Places a set by its way to a volume, where these volumes are listed for its unit. An `Err` changes nothing.
 fn place_by(
     volumes: &mut [Mounted],
-    places: &mut Listed<Place>,
+    places: &mut Places,
     volume: &VolumePlan,
     listed: &[Serial],
     at: KeptPlace,
@@ -73,7 +74,7 @@ fn place_by(
 /// Places the set of a DD, if it is placed. An `Err` changes nothing.
 fn place_set(
     volumes: &mut [Mounted],
-    places: &mut Listed<Place>,
+    places: &mut Places,
     all: &[Serial],
     units: &[Listed<Serial>],
     at: KeptPlace,
@@ -94,7 +95,7 @@ fn place_set(
 /// Places what a DD makes, if it makes a set. An `Err` changes nothing.
 fn place_dd(
     volumes: &mut [Mounted],
-    places: &mut Listed<Place>,
+    places: &mut Places,
     all: &[Serial],
     units: &[Listed<Serial>],
     at: KeptPlace,
@@ -115,7 +116,7 @@ fn place_dd(
 /// Places the sets of a step's DDs. What is set aside stays so that it can be given back, also on an `Err`.
 fn place_dds(
     volumes: &mut [Mounted],
-    places: &mut Listed<Place>,
+    places: &mut Places,
     all: &[Serial],
     units: &[Listed<Serial>],
     job: u16,
@@ -141,7 +142,7 @@ fn place_dds(
 /// Places the sets of a job's steps. What is set aside stays so that it can be given back, also on an `Err`.
 fn place_steps(
     volumes: &mut [Mounted],
-    places: &mut Listed<Place>,
+    places: &mut Places,
     all: &[Serial],
     units: &[Listed<Serial>],
     job: u16,
@@ -177,7 +178,7 @@ pub fn place_sets(
     job: u16,
     plan: &JobPlan,
     units: &[Listed<Serial>],
-) -> Result<Listed<Place>, AllocError>
+) -> Result<Places, AllocError>
     requires { NothingKeptFor job store.old }
     ensures store { store.new ≡ store.old }
     ensures places { IfOk result (λ places. places ≡ placed store.old.volumes units.now job plan.now) }
@@ -185,7 +186,7 @@ pub fn place_sets(
 {
     let all = serials_of(alloc, store.volumes.as_slice())?;
     let mut volumes = mem::replace(&mut store.volumes, Listed::empty(alloc)).into_vec();
-    let mut places = Listed::empty(alloc);
+    let mut places = Places::empty(alloc);
     let done = place_steps(
         volumes.as_mut_slice(),
         &mut places,

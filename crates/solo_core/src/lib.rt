@@ -14,9 +14,10 @@ ghost use Rattle.solo_core.specs.PathRuns.{IsPathRun};
 use crate::path::{PathRun, faults_in};
 use crate::runner::Runner;
 use disp_core::course::{Course, Given};
+use jcl_meaning::places::Places;
 use jcl_meaning::program::{SoloProgram, endings};
 use jcl_meaning::solo::{SoloAnswers, SoloRun};
-use jcl_meaning::state::{Place, nothing_own};
+use jcl_meaning::state::nothing_own;
 use jcl_meaning::store::SoloStore;
 use jcl_plan::day::Day;
 use jcl_plan::outcome::Outcome;
@@ -31,7 +32,7 @@ fn run<'a>(
     alloc: Global,
     plan: &'a JobPlan,
     store: &'a SoloStore,
-    places: &'a [Place],
+    places: &'a Places,
     programs: &[SoloProgram],
     outcomes: &'a [Outcome],
     cancels: &'a [Option<u32>],
@@ -84,7 +85,7 @@ pub fn solo(
     alloc: Global,
     plan: &JobPlan,
     store: &SoloStore,
-    places: &[Place],
+    places: &Places,
     programs: &[SoloProgram],
     answers: &SoloAnswers,
     date: Day,
@@ -112,7 +113,7 @@ pub fn path_run(
     alloc: Global,
     plan: &JobPlan,
     store: &SoloStore,
-    places: &[Place],
+    places: &Places,
     outcomes: &[Outcome],
     date: Day,
 ) -> Result<PathRun, AllocError>
@@ -128,7 +129,7 @@ pub fn solo_path(
     alloc: Global,
     plan: &JobPlan,
     store: &SoloStore,
-    places: &[Place],
+    places: &Places,
     outcomes: &[Outcome],
     date: Day,
 ) -> Result<SoloRun, AllocError>

@@ -93,7 +93,7 @@ fn budget(alloc: Global, job: &Job<'_>) -> Result<usize, AllocError> {
 fn solo_of(alloc: Global, case: &Case<'_>, plan: &JobPlan) -> Result<SoloRun, AllocError> {
     let store = &case.found.store;
     let terms = &case.terms;
-    let places = terms.places.as_slice();
+    let places = &terms.places;
     match &terms.path {
         None => {
             let programs = case.coded.programs.as_slice();
@@ -151,7 +151,7 @@ impl Job<'_> {
             given: Given {
                 job_tests: self.plan.tests.as_slice(),
                 volumes: self.case.found.store.volumes.as_slice(),
-                places: terms.places.as_slice(),
+                places: &terms.places,
                 meanings: &self.meanings,
                 date: terms.date,
             },

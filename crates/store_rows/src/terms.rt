@@ -1,4 +1,5 @@
 //! The terms on which a job runs: its places, its answers, how its steps end, and its date.
+use jcl_meaning::places::Places;
 use jcl_meaning::solo::SoloAnswers;
 use jcl_meaning::state::Place;
 use jcl_plan::day::Day;
@@ -20,7 +21,7 @@ pub(crate) struct Period {
 /// What a job is given.
 #[derive(Drop)]
 pub(crate) struct Terms {
-    pub(crate) places: Listed<Place>,
+    pub(crate) places: Places,
     pub(crate) answers: SoloAnswers,
     /// How the steps end, where that is given.
     pub(crate) path: Option<Listed<Outcome>>,
@@ -46,7 +47,7 @@ const OUTCOMES: [(&str, Outcome); 3] = [
 
 pub(crate) fn no_terms(alloc: Global, date: Day) -> Terms {
     Terms {
-        places: Listed::empty(alloc),
+        places: Places::empty(alloc),
         answers: SoloAnswers {
             grants: Listed::empty(alloc),
             cancels: Listed::empty(alloc),

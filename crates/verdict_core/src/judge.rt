@@ -10,7 +10,7 @@ ghost use Rattle.verdict_core.specs.Judging.{IsJudged};
 use crate::known::KnownPlan;
 use crate::verdict::{Finding, verdict_in};
 use jcl_meaning::meanings::Meanings;
-use jcl_meaning::state::Place;
+use jcl_meaning::places::Places;
 use jcl_plan::day::Day;
 use jname_core::serial::Serial;
 use place_core::place::place_sets;
@@ -22,7 +22,7 @@ use store_core::meanings::{SeenBy, meanings_of};
 /// Where a job's sets are placed, what its keys mean, and what may become of it so.
 #[derive(Drop)]
 pub struct Judged {
-    pub places: Listed<Place>,
+    pub places: Places,
     pub meanings: Meanings,
     pub finding: Finding,
 }
@@ -52,15 +52,7 @@ pub fn judge(
     };
     let meanings = meanings_of(alloc, known.plan(), &seen)?;
     let finding = verdict_in(
-        alloc,
-        &*store,
-        job,
-        known,
-        places.as_slice(),
-        &meanings,
-        date,
-        most_views,
-        explains,
+        alloc, &*store, job, known, &places, &meanings, date, most_views, explains,
     )?;
     Ok(Judged {
         places,

@@ -18,6 +18,7 @@ ghost use Rattle.world_meaning.specs.Lenses.{seen};
 use crate::known::KnownPlan;
 use jcl_meaning::meanings::Meanings;
 use jcl_meaning::names::{HeldName, names_of};
+use jcl_meaning::places::Places;
 use jcl_meaning::state::Place;
 use jcl_plan::day::Day;
 use jcl_plan::entry::JobLine;
@@ -151,7 +152,7 @@ pub fn verdict_in(
     store: &SharedStore,
     job: u16,
     known: &mut KnownPlan,
-    places: &[Place],
+    places: &Places,
     meanings: &Meanings,
     date: Day,
     most_views: usize,
@@ -175,7 +176,7 @@ pub fn verdict_in(
     path_is_seen();
     let names = names_of(alloc, known.plan())?;
     let part = part_of(alloc, store, job, names.as_slice())?;
-    let places = Listed::copy_of(alloc, places)?;
+    let places = places.clone()?;
     let start = StartView {
         store: part,
         places,

@@ -22,7 +22,7 @@ returns-clause-found c =
     judged c.meanings_are_seen.ensures c.free_is_seen.ensures c.earliest_is_seen.ensures c.first_with_more_is_seen.ensures c.path_is_seen.ensures c.start_fits.ensures c.args.known.now
     (seen c.args.job (world_store_of c.args.store.now)) (store_of c.in_ok-part.part) c.args.date c.args.most_views c.requires.plan c.requires.groups
     c.as_slice.result.now (serials_of c.args.store.now.volumes) c.in_ok-part.part.volumes c.args.places.now c.in_ok-places.places c.args.explains
-    (c.as_slice.ensures ∙ c.in_ok-names.ensures ∙ ap names_of c.plan-2.ensures) c.in_ok-part.ensures.volumes c.in_ok-places.ensures c.in_ok-part.ensures.sets c.in_ok-part.ensures.catalog
+    (c.as_slice.ensures ∙ c.in_ok-names.ensures ∙ ap names_of c.plan-2.ensures) c.in_ok-part.ensures.volumes c.in_ok-places.ensures.cases c.in_ok-part.ensures.sets c.in_ok-part.ensures.catalog
     c.find.result c.find.ensures.found
 
 pub find-requires-clause-meanings : goal.find-requires-clause-meanings
