@@ -9,6 +9,7 @@ use Rattle.vtoc_core.specs.declared.entry.SetKey.{SetKey}
 use Rattle.vtoc_core.specs.declared.entry.SetKey.TheVariants.{Temporary, Unnamed}
 use Rattle.cb_meaning.specs.declared.layout.Layout.{Layout}
 use Rattle.cb_meaning.specs.declared.layout.TheConstants.{LAYOUT_1}
+use Rattle.cb_meaning.specs.Spelled.{Records}
 use Rattle.cb_meaning.specs.Walks.{is_free}
 use Rattle.cb_records.specs.Writes.{FitsRecord, HoldsNumber}
 use Rattle.cb_queue.specs.RecordQueues as queue
@@ -24,7 +25,7 @@ use Rattle.world_meaning.specs.Worlds.{Config, Initiator}
 use Rattle.config_core.specs.Configs.{Configuration}
 use Rattle.config_core.specs.Configured.{HasNamedSets, IsConfigured, IsNamed, numbers_of}
 use Rattle.config_core.specs.Sets.{NothingKept}
-use Rattle.config_core.specs.Starts.{StartsOfConfigurations, idle, start_config, start_shared}
+use Rattle.config_core.specs.Starts.{StartsOfConfigurations, StartsWithJobs, WaitAtStart, idle, start_config, start_shared}
 use Rattle.plain.specs.Lists.{Differ}
 
 -- what holds of each volume holds of the one that is found
@@ -54,8 +55,8 @@ no_set : (o : Option MountedState) (key : SetKey) → (IsNamed key → ⊥) → 
 no_set None key unnamed h = refl
 no_set (Some m) key unnamed h = no_entry (finite.get m.volume.sets key) (λ there. unnamed (h key there))
 
-store_is_good : (c : Configuration) (l : Layout) (date : ℕ) → IsConfigured c → IsWellFormed (start_shared c l date).store
-store_is_good c l date h = record {
+store_is_good : (c : Configuration) (q : Records) (date : ℕ) → IsConfigured c → IsWellFormed (start_shared c q date).store
+store_is_good c q date h = record {
   entries = h.entries;
   no_temporary = λ job name serial. no_set (mounted_in c.volumes serial) (Temporary job name) (λ e. e) (of_found HasNamedSets c.volumes serial h.sets);
   no_unnamed = λ job step dd serial. no_set (mounted_in c.volumes serial) (Unnamed job step dd) (λ e. e) (of_found HasNamedSets c.volumes serial h.sets);
@@ -114,18 +115,25 @@ numbers_idle : (xs : List ConfiguredInitiator) → map (λ (x : Initiator). x.nu
 numbers_idle [] = refl
 numbers_idle (x ∷ xs) = ap (λ ns. x.number ∷ ns) (numbers_idle xs)
 
-pub is_start : StartsOfConfigurations
-is_start c refuses views explains date l h own = record {
+pub is_start_with : StartsWithJobs
+is_start_with c refuses views explains date l q waiting jobs h own waits = record {
   layout = own;
   serials = h.serials;
   programs = h.programs;
-  store = store_is_good c l date h;
+  store = store_is_good c q date h;
   unused = record { kept = λ serial. refl; holds = refl; operations = refl; cancels = refl; spool = refl };
-  records = records_are_free (start_config c refuses views explains l);
-  waiting = All-nil _;
-  in_order = tt;
-  numbered = All-nil _;
+  records = waits.records;
+  waiting = waits.queued;
+  in_order = waits.in_order;
+  numbered = waits.numbered;
   initiators = subst Differ (sym (numbers_idle c.initiators)) h.numbers;
   idle = All-map (λ (x : Initiator). x.running ≡ None) idle c.initiators (λ k d within. refl);
   first_event = refl;
 }
+
+nobody_waits : (c : Config) → WaitAtStart c (shown (empty_queue c.layout)) [] 0
+nobody_waits c = record { records = records_are_free c; queued = All-nil _; in_order = tt; numbered = All-nil _ }
+
+pub is_start : StartsOfConfigurations
+is_start c refuses views explains date l h own =
+    is_start_with c refuses views explains date l (shown (empty_queue l)) [] 0 h own (nobody_waits (start_config c refuses views explains l))

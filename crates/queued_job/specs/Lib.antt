@@ -4,6 +4,7 @@ pub mod Entering
 pub mod Layouts
 pub mod Listed
 pub mod Naming
+pub mod Opening
 pub mod Reads
 pub mod Releases
 pub mod Selecting

@@ -9,10 +9,10 @@ use Rattle.cb_chain.specs.Written.{HoldsJobs}
 use Rattle.cb_meaning.specs.Layouts.{HasOwnFields}
 use Rattle.cb_meaning.specs.declared.layout.Layout.{Layout}
 use Rattle.cb_queue.specs.RecordQueues as queue
-use Rattle.cb_queue.specs.RecordQueues.{RecordQueue, empty_queue}
+use Rattle.cb_queue.specs.RecordQueues.{IsSoundQueue, RecordQueue}
 use Rattle.config_core.specs.Configs.{Configuration, unit_names, unit_volumes}
 use Rattle.config_core.specs.Configured.{IsConfigured}
-use Rattle.config_core.specs.Starts.{IsTakenApart, StartsOfConfigurations, idle, start_of, start_shared}
+use Rattle.config_core.specs.Starts.{IsTakenApart, StartsWithJobs, idle, start_config, start_shared}
 use Rattle.config_core.specs.declared.start.Fixed.{Fixed}
 use Rattle.config_core.proofs.Starting.{nothing_on}
 use Rattle.enq_core.specs.declared.table.Hold.{Hold}
@@ -32,7 +32,10 @@ use Rattle.shared_core.proofs.Showing.{nothing_shown}
 use Rattle.world_meaning.specs.Starts.{IsStart}
 use Rattle.world_meaning.specs.Worlds as world
 use Rattle.world_meaning.specs.Worlds.{World}
+use Rattle.machine_meaning.specs.declared.machine.TheConstants.{MOST_JOBS}
+use Rattle.queue_core.specs.declared.queue.Queued.{Queued}
 use Rattle.queued_job.specs.Layouts.{ReadsWhatItHolds}
+use Rattle.queued_job.specs.Opening.{CanBegin}
 use Rattle.queued_job.specs.Listed.{waiting_in}
 use Rattle.queued_job.specs.declared.backlog.Listing.{Listing}
 use Rattle.machine_core.specs.Shown.{shown}
@@ -41,11 +44,12 @@ use Rattle.init_core.specs.declared.running.Profile.{Profile}
 use Rattle.init_core.specs.declared.running.Running.{Running}
 use Rattle.sched_core.specs.Fits.{IsFit, IsKept}
 use Rattle.sched_core.specs.Machines.{RunsIn, config_in, shown_initiator, world_in}
-use Rattle.sched_core.specs.Starting.{IsForMachine}
+use Rattle.sched_core.specs.Starting.{IsForMachine, no_lines, start_in, waiting_at_start}
 use Rattle.sched_core.specs.declared.start.TheConstants.{FIRST_DAY}
 use Rattle.sched_core.specs.declared.state.Initiator.{Initiator}
 use Rattle.sched_core.specs.declared.state.State.{State}
 use Rattle.sched_core.proofs.Apart.{all_differ}
+use Rattle.sched_core.proofs.Opened.{all_listed, jobs_listed, waits}
 
 abbrev pub idle_seat : ConfiguredInitiator → Initiator
 idle_seat x = record { number = x.number; classes = x.classes; running = None }
@@ -64,14 +68,15 @@ nobody_there xs place r h = none xs place h.it h.at (λ e. let no : Some r ≡ N
 
 module _ {Q : Type 0} (queue_of : Q → RecordQueue) (store : SharedStore) (q : Q) (fixed : Fixed) (p : Profile) (s : State Q)
     (parts : s.parts ≡ record { store = store; queue = q; names = []; units = []; cancels = []; spool = []; date = FIRST_DAY })
-    (seats : s.initiators.items ≡ map idle_seat fixed.initiators) (backlog : s.backlog ≡ []) (jobs : s.jobs ≡ 0) (events : s.events ≡ 0)
+    (seats : s.initiators.items ≡ map idle_seat fixed.initiators) (backlog : s.backlog ≡ map no_lines (map (λ (x : Queued). x.job) (queue_of q).waiting))
+    (last : ℕ) (jobs : s.jobs ≡ last) (events : s.events ≡ 0)
     (volumes : p.volumes.now ≡ fixed.serials) (units : p.units.now ≡ unit_volumes fixed.units) (programs : p.programs.now ≡ fixed.programs)
-    (empty : queue_of q ≡ empty_queue (queue_of q).layout) (for_machine : IsForMachine (queue_of q).layout) where
+    (whole : IsSoundQueue (queue_of q)) (can : CanBegin (queue_of q) last) (few : last ≤ MOST_JOBS) (for_machine : IsForMachine (queue_of q).layout) where
   abbrev pub l : Layout
   l = (queue_of q).layout
 
-  queue_at : queue_of s.parts.queue ≡ empty_queue l
-  queue_at = ap (λ (x : Parts Q). queue_of x.queue) parts ∙ empty
+  queue_at : queue_of s.parts.queue ≡ queue_of q
+  queue_at = ap (λ (x : Parts Q). queue_of x.queue) parts
 
   layout_at : (queue_of s.parts.queue).layout ≡ l
   layout_at = ap (λ (x : Parts Q). (queue_of x.queue).layout) parts
@@ -99,12 +104,12 @@ module _ {Q : Type 0} (queue_of : Q → RecordQueue) (store : SharedStore) (q : 
     no_tracks : IsConfigured c → (serial : List ℕ) → kept_shown store.volumes serial ≡ []
     no_tracks k serial = ap (λ vs. kept_shown vs serial) t.volumes ∙ nothing_shown (mounted_in c.volumes serial) (nothing_on c.volumes k.kept serial)
 
-    shared_at : IsConfigured c → shown queue_of s.parts ≡ start_shared c l FIRST_DAY
+    shared_at : IsConfigured c → shown queue_of s.parts ≡ start_shared c (queue.shown (queue_of q)) FIRST_DAY
     shared_at k = ap (shown queue_of) parts ∙ (λ i. record {
       store = record { set = λ k serial. set_on (mounted_in (t.volumes i) serial) k; catalog = λ name. finite.get (t.catalog i) name };
       free = λ serial. free_on (t.volumes i) serial;
       kept = λ serial. no_tracks k serial i;
-      records = queue.shown (empty i);
+      records = queue.shown (queue_of q);
       holds = [];
       operations = [];
       cancels = [];
@@ -118,19 +123,24 @@ module _ {Q : Type 0} (queue_of : Q → RecordQueue) (store : SharedStore) (q : 
         ∙ idle_shown (config_in queue_of p s) (queue_of s.parts.queue) fixed.initiators
         ∙ ap (map idle) t.initiators
 
-    pub world_at : IsConfigured c → world_in queue_of (config_in queue_of p s) s ≡ start_of c p.refuses p.most_views p.explains l FIRST_DAY
+    waiting_at : waiting_in (queue_of s.parts.queue).waiting s.backlog ≡ map waiting_at_start (queue_of q).waiting
+    waiting_at = (λ i. waiting_in (queue_at i).waiting (backlog i)) ∙ all_listed (queue_of q).waiting
+
+    pub world_at : IsConfigured c → world_in queue_of (config_in queue_of p s) s ≡ start_in c p.refuses p.most_views p.explains (queue_of q) last
     world_at k = λ i. record {
       config = config_at i;
       shared = shared_at k i;
       initiators = seats_at i;
-      waiting = waiting_in (queue_at i).waiting (backlog i);
+      waiting = waiting_at i;
       jobs = jobs i;
       events = events i;
     }
 
-    module _ (k : IsConfigured c) (law : StartsOfConfigurations) (sound : StartsSound) (supplied : StartsSupplied) (reads : ReadsWhatItHolds) where
-      pub is_start : IsStart (start_of c p.refuses p.most_views p.explains l FIRST_DAY)
-      is_start = law c p.refuses p.most_views p.explains FIRST_DAY l k for_machine.link
+    module _ (k : IsConfigured c) (law : StartsWithJobs) (sound : StartsSound) (supplied : StartsSupplied) (reads : ReadsWhatItHolds) where
+      pub is_start : IsStart (start_in c p.refuses p.most_views p.explains (queue_of q) last)
+      is_start =
+          law c p.refuses p.most_views p.explains FIRST_DAY l (queue.shown (queue_of q)) (map waiting_at_start (queue_of q).waiting) last k for_machine.link
+          (waits (queue_of q) last whole can (start_config c p.refuses p.most_views p.explains l) refl)
 
       same_serials : serials_of s.parts.store.volumes ≡ p.volumes.now
       same_serials = ap (λ (x : Parts Q). serials_of x.store.volumes) parts ∙ ap serials_of t.volumes ∙ sym t.serials ∙ sym volumes
@@ -151,7 +161,8 @@ module _ {Q : Type 0} (queue_of : Q → RecordQueue) (store : SharedStore) (q : 
           few = few_volumes;
         };
         holds = subst HoldsJobs (sym layout_at) for_machine.holds;
-        listed = ap (λ (x : RecordQueue). map (λ y. y.job) x.waiting) queue_at ∙ sym (ap (map (λ (y : Listing). y.job)) backlog);
+        listed = ap (λ (x : RecordQueue). map (λ y. y.job) x.waiting) queue_at
+            ∙ sym (ap (map (λ (y : Listing). y.job)) backlog ∙ jobs_listed (queue_of q).waiting);
         ready = λ place r h. absurd (nobody_there fixed.initiators place r (record {
           it = h.it;
           at = ap (λ (xs : List Initiator). slice_get xs place) (sym seats) ∙ h.at;
@@ -159,14 +170,14 @@ module _ {Q : Type 0} (queue_of : Q → RecordQueue) (store : SharedStore) (q : 
         }));
         unnamed = λ job none. subst (λ hs. HoldsNone hs job) (sym (ap (λ (x : Parts Q). x.names) parts)) (All-nil (λ (h : Hold). h.job ≢ job));
         steps = ap (λ (y : Layout). y.most_steps) layout_at ∙ for_machine.steps;
-        few_jobs = omega (arith, jobs);
+        few_jobs = omega (arith, jobs, few);
         few_events = omega (arith, events);
       }
 
       pub begins_kept : IsKept queue_of (config_in queue_of p s) s
       begins_kept = record {
-        sound = subst IsSound (sym (world_at k)) (sound (start_of c p.refuses p.most_views p.explains l FIRST_DAY) is_start);
-        supplied = subst IsSupplied (sym (world_at k)) (supplied (start_of c p.refuses p.most_views p.explains l FIRST_DAY) is_start);
+        sound = subst IsSound (sym (world_at k)) (sound (start_in c p.refuses p.most_views p.explains (queue_of q) last) is_start);
+        supplied = subst IsSupplied (sym (world_at k)) (supplied (start_in c p.refuses p.most_views p.explains (queue_of q) last) is_start);
         fit = begins_fit;
       }
 

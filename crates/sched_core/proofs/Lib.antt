@@ -20,6 +20,7 @@ pub mod Shows
 pub mod Machined
 pub mod Begun
 pub mod Nexts
+mod Opened
 pub mod Driving
 pub mod Followed
 pub mod Unqueued

@@ -1,7 +1,7 @@
 //! The machine before its first event.
 ghost use Rattle.std.specs.Prelude.{◌≡◌, [], IfOk, map, None};
 ghost use Rattle.cb_meaning.specs.declared.layout.TheConstants.{QUEUE_LAYOUT};
-ghost use Rattle.sched_core.specs.Starting.{IsForMachine};
+ghost use Rattle.sched_core.specs.Starting.{AreRising, IsForMachine, no_lines};
 
 use crate::state::{Initiator, State};
 use cb_chain::laws::the_layouts_hold_jobs;
@@ -10,8 +10,9 @@ use enq_core::table::EnqTable;
 use jcl_plan::day::Day;
 use machine_core::parts::Parts;
 use machine_meaning::config::ConfiguredInitiator;
+use plain::listed::Listed;
 use prog_core::units::Units;
-use queued_job::backlog::Backlog;
+use queued_job::backlog::{Backlog, Listing};
 use queued_job::cancels::Cancels;
 use shared_core::store::SharedStore;
 use spool_core::spool::Spool;
@@ -56,12 +57,29 @@ fn first_day() -> Day
     }
 }
 
-/// The machine with this store and this queue, in which nobody waits.
+/// A listing without lines for each of these jobs.
+pub(crate) fn backlog_of(alloc: Global, jobs: &[u16]) -> Result<Backlog, AllocError>
+    requires { AreRising jobs.now }
+    ensures { IfOk result (λ backlog. backlog ≡ map no_lines jobs.now) }
+{
+    let mut backlog = Backlog::new(alloc);
+    for job in jobs {
+        backlog.enter(Listing {
+            job: *job,
+            lines: Listed::empty(alloc),
+        })?;
+    }
+    Ok(backlog)
+}
+
+/// The machine with this store and this queue, whose jobs have these listings. Their numbers go up to the last.
 pub(crate) fn started<Q: RecordStore>(
     alloc: Global,
     store: SharedStore,
     queue: Q,
     initiators: Vec<Initiator>,
+    backlog: Backlog,
+    last: u16,
 ) -> State<Q>
     ensures parts { result.parts ≡ record {
       store = store;
@@ -73,8 +91,8 @@ pub(crate) fn started<Q: RecordStore>(
       date = FIRST_DAY;
     } }
     ensures initiators { result.initiators.items ≡ initiators.items }
-    ensures backlog { result.backlog ≡ [] }
-    ensures jobs { result.jobs ≡ 0 }
+    ensures backlog { result.backlog ≡ backlog }
+    ensures jobs { result.jobs ≡ last }
     ensures events { result.events ≡ 0 }
 {
     State {
@@ -88,8 +106,8 @@ pub(crate) fn started<Q: RecordStore>(
             date: first_day(),
         },
         initiators,
-        backlog: Backlog::new(alloc),
-        jobs: 0,
+        backlog,
+        jobs: last,
         events: 0,
     }
 }

@@ -1,5 +1,5 @@
 //! The machine.
-ghost use Rattle.std.specs.Prelude.{◌≡◌, Err, IfOk, OnErr, take};
+ghost use Rattle.std.specs.Prelude.{◌≡◌, ◌≤◌, Err, IfErr, IfOk, OnErr, map, take};
 ghost use Rattle.cb_queue.specs.RecordQueues.{empty_queue};
 ghost use Rattle.config_core.specs.Configs.{Configuration};
 ghost use Rattle.config_core.specs.Configured.{IsConfigured};
@@ -8,7 +8,9 @@ ghost use Rattle.shared_core.specs.Sizes.{VolumesHaveTheirSizes};
 ghost use Rattle.world_meaning.specs.Starts.{IsStart};
 ghost use Rattle.world_meaning.specs.Transitions.{Transition};
 ghost use Rattle.sched_core.specs.Events.{RefusesFirst};
-ghost use Rattle.sched_core.specs.Starting.{IsForMachine, IsStarted};
+ghost use Rattle.machine_meaning.specs.declared.machine.TheConstants.{MOST_JOBS};
+ghost use Rattle.queued_job.specs.Opening.{CanBegin};
+ghost use Rattle.sched_core.specs.Starting.{IsForMachine, IsOpened, IsStarted};
 ghost use Rattle.sched_core.specs.Promised.{ArePromisedAlong};
 ghost use Rattle.sched_core.specs.Systems.{Applies, Drives, IsDriven, IsNext, IsWhole, KeepsIfRefused, Steps, denoting, meant_by, world_of};
 
@@ -16,12 +18,12 @@ use crate::ending::end;
 use crate::fault::ApplyFault;
 use crate::happening::apply_in;
 use crate::laws::chains_keep_promises;
-use crate::start::{idle_of, started};
+use crate::start::{backlog_of, idle_of, started};
 use crate::state::State;
 use case_laws::starts_supplied;
 use cb_queue::store::RecordStore;
 use cb_read::records::are_records;
-use config_core::laws::configuration_is_start;
+use config_core::laws::jobs_may_wait_at_the_start;
 use config_core::start::Fixed;
 use init_core::running::Profile;
 use jcl_plan::entry::Entry;
@@ -88,11 +90,55 @@ impl<'c, Q: RecordStore> System<'c, Q> {
         ensures started { IfOk result (λ m. (c : Configuration) → IsConfigured c → IsTakenApart c store fixed.now → IsStarted c refuses most_views explains (Q.queue queue).layout m) }
         ensures whole { IfOk result IsWhole }
     {
-        configuration_is_start();
+        match System::open_queue(
+            alloc,
+            store,
+            queue,
+            &[],
+            0,
+            fixed,
+            refuses,
+            most_views,
+            explains,
+        ) {
+            Ok(system) => Ok(system),
+            Err(_) => Err(AllocError),
+        }
+    }
+
+    /// The machine of a configuration that was taken apart, before its first event, with a queue in which jobs wait: these, of which nothing was written yet.
+    /// The numbers of the jobs that are read go on behind the last. Where memory is wanting the queue is given back.
+    pub fn open_queue(
+        alloc: Global,
+        store: SharedStore,
+        queue: Q,
+        waiting: &[u16],
+        last: u16,
+        fixed: &'c Fixed,
+        refuses: bool,
+        most_views: usize,
+        explains: bool,
+    ) -> Result<System<'c, Q>, Q>
+        requires configured { (c : Configuration) × IsConfigured c × IsTakenApart c store fixed.now }
+        requires waiting { waiting.now ≡ map (λ x. x.job) (Q.queue queue).waiting }
+        requires begins { CanBegin (Q.queue queue) last }
+        requires few { last ≤ MOST_JOBS }
+        requires layout { IsForMachine (Q.queue queue).layout }
+        ensures opened { IfOk result (λ m. (c : Configuration) → IsConfigured c → IsTakenApart c store fixed.now → IsOpened c refuses most_views explains (Q.queue queue) last m) }
+        ensures whole { IfOk result IsWhole }
+        ensures back { IfErr result (λ back. back ≡ queue) }
+    {
+        jobs_may_wait_at_the_start();
         starts_sound();
         starts_supplied();
         layout_reads_what_it_holds();
-        let initiators = idle_of(alloc, fixed.initiators.as_slice())?;
+        let _layout = queue.layout();
+        let Ok(backlog) = backlog_of(alloc, waiting) else {
+            return Err(queue);
+        };
+        let Ok(initiators) = idle_of(alloc, fixed.initiators.as_slice()) else {
+            return Err(queue);
+        };
         let system = System {
             alloc,
             profile: Profile {
@@ -105,7 +151,7 @@ impl<'c, Q: RecordStore> System<'c, Q> {
             },
             units: fixed.units.names(),
             library: &fixed.library,
-            state: started(alloc, store, queue, initiators),
+            state: started(alloc, store, queue, initiators, backlog, last),
         };
         system.is_whole();
         Ok(system)

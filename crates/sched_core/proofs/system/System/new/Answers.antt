@@ -1,62 +1,16 @@
-use Rattle.std.proofs.Common.{map, length, refl, sym, ap, ◌∙◌}
-use Rattle.config_core.specs.Configs.{unit_names}
-use Rattle.init_core.specs.declared.running.Profile.{Profile}
-use Rattle.sched_core.specs.declared.start.TheConstants.{FIRST_DAY}
-use Rattle.sched_core.proofs.Begun.{begins_kept, idle_seat, units_counted, units_few, volumes_apart, world_at}
+use Rattle.std.proofs.Common.{◌≡◌, ap, arith, map, sym}
+use Rattle.cb_queue.specs.RecordQueues.{RecordQueue}
+use Rattle.queue_core.specs.declared.queue.Queued.{Queued}
+use Rattle.sched_core.proofs.Opened.{begun, empty_can}
 use Rattle.sched_core.proofs.system.System.new.Goals as goal
 
-pub invariant_of-system : goal.invariant_of-system
-invariant_of-system g c = record {
-  few_units = units_few c.requires.configured.0 c.args.store c.args.fixed.now c.requires.configured.1 c.requires.configured.2 c.volumes.result.now c.volumes.ensures;
-  apart = volumes_apart c.requires.configured.0 c.args.store c.args.fixed.now c.requires.configured.1 c.requires.configured.2 c.as_slice-2.result.now c.as_slice-2.ensures;
-}
+pub open_queue-requires-clause-waiting : goal.open_queue-requires-clause-waiting
+open_queue-requires-clause-waiting g c = ap (λ (q : RecordQueue). map (λ (x : Queued). x.job) q.waiting) (sym c.requires.empty)
 
-pub invariant_of-system-2 : goal.invariant_of-system-2
-invariant_of-system-2 g c =
-    let fixed = c.args.fixed.now in
-    let few = units_few c.requires.configured.0 c.args.store fixed c.requires.configured.1 c.requires.configured.2 c.volumes.result.now c.volumes.ensures in
-    let differ = volumes_apart c.requires.configured.0 c.args.store fixed c.requires.configured.1 c.requires.configured.2 c.as_slice-2.result.now c.as_slice-2.ensures in
-    let p : Profile = record {
-      volumes = c.as_slice-2.result;
-      units = c.volumes.result;
-      programs = record { ref_ptr = c.args.fixed.ref_ptr; now = fixed.programs };
-      refuses = c.args.refuses;
-      most_views = c.args.most_views;
-      explains = c.args.explains;
-      few_units = few;
-      apart = differ;
-    } in
-    record {
-      kept = begins_kept g.Q.RecordStore.queue c.args.store c.args.queue fixed p c.started.result c.started.ensures.parts
-          (c.started.ensures.initiators ∙ c.in_ok-initiators.ensures ∙ ap (map idle_seat) c.as_slice.ensures)
-          c.started.ensures.backlog c.started.ensures.jobs c.started.ensures.events c.as_slice-2.ensures c.volumes.ensures refl c.requires.empty c.requires.layout
-          c.requires.configured.0 c.requires.configured.2 c.requires.configured.1
-          c.configuration_is_start.ensures c.starts_sound.ensures c.starts_supplied.ensures c.layout_reads_what_it_holds.ensures;
-      named = ap length c.names.ensures ∙ units_counted fixed.units ∙ sym (ap length c.volumes.ensures);
-    }
+pub open_queue-requires-clause-begins : goal.open_queue-requires-clause-begins
+open_queue-requires-clause-begins g c = empty_can (g.Q.RecordStore.queue c.args.queue) c.requires.empty
 
-pub returns-clause-started : goal.returns-clause-started
-returns-clause-started g c = λ config configured apart.
-    let fixed = c.args.fixed.now in
-    let few = units_few config c.args.store fixed configured apart c.volumes.result.now c.volumes.ensures in
-    let differ = volumes_apart config c.args.store fixed configured apart c.as_slice-2.result.now c.as_slice-2.ensures in
-    let p : Profile = record {
-      volumes = c.as_slice-2.result;
-      units = c.volumes.result;
-      programs = record { ref_ptr = c.args.fixed.ref_ptr; now = fixed.programs };
-      refuses = c.args.refuses;
-      most_views = c.args.most_views;
-      explains = c.args.explains;
-      few_units = few;
-      apart = differ;
-    } in
-    record {
-      is_start = c.configuration_is_start.ensures config c.args.refuses c.args.most_views c.args.explains FIRST_DAY _ configured c.requires.layout.link;
-      world = world_at g.Q.RecordStore.queue c.args.store c.args.queue fixed p c.started.result c.started.ensures.parts
-          (c.started.ensures.initiators ∙ c.in_ok-initiators.ensures ∙ ap (map idle_seat) c.as_slice.ensures)
-          c.started.ensures.backlog c.started.ensures.jobs c.started.ensures.events c.as_slice-2.ensures c.volumes.ensures refl c.requires.empty c.requires.layout
-          config apart configured;
-      unit_names = c.names.ensures ∙ ap unit_names apart.units;
-      library = apart.library;
-      volumes = ap (λ x. x.store.volumes) c.started.ensures.parts ∙ apart.volumes;
-    }
+pub returns-in-Ok-clause-started : goal.returns-in-Ok-clause-started
+returns-in-Ok-clause-started g c = λ config configured apart.
+    begun config c.args.refuses c.args.most_views c.args.explains (g.Q.RecordStore.queue c.args.queue) c.requires.empty _
+    (c.in-Ok.ensures.opened config configured apart)
