@@ -96,7 +96,6 @@ module _ (image : List ℕ) (units : ℕ) (xs : List WaitingJob) (w : WaitingJob
     dropped = ap (λ ds. ds ++ record { job = w.job; fault = fault } ∷ []) h.dropped
         ∙ sym (dropped_with ∙ ap (λ o. dropped_of image units xs ++ dropped_for w.job o) is);
     layout = h.layout;
-    waiting = h.waiting;
     owned = h.owned;
     fresh = h.fresh;
   }
@@ -182,7 +181,6 @@ module _ (image : List ℕ) (units : ℕ) (xs : List WaitingJob) (w : WaitingJob
           (zip_same (IsCarried image units q) (IsCarried image units new) old_stays (kept_of image units xs) stay h.kept) new_stands);
       dropped = h.dropped ∙ sym (dropped_with ∙ ap (λ o. dropped_of image units xs ++ dropped_for w.job o) is.faultless ∙ append-nil (dropped_of image units xs));
       layout = written.layout ∙ h.layout;
-      waiting = written.waiting ∙ h.waiting;
       owned = λ n some. owned_by n some (list_any (λ m. m == n) taken) refl;
       fresh = λ n some. fresh_by n some (list_any (λ m. m == n) taken) refl;
     }
@@ -207,7 +205,6 @@ none_carried image units q stay go empty own no_stay no_go = record {
   kept = subst (λ ws. AllZip (IsCarried image units q) [] ws) (sym no_stay) tt;
   dropped = no_go;
   layout = ap (λ (x : RecordQueue). x.layout) empty;
-  waiting = ap (λ (x : RecordQueue). x.waiting) empty;
   owned = λ n some. absurd (some (nobody n));
   fresh = λ n some. absurd (some (nobody n));
 }
@@ -233,3 +230,14 @@ one_noted image units jobs k w q new stay more go gone told still own there is o
         (subst (λ ds. AreCarried image units (take k jobs ++ w ∷ []) q more ds) (sym noted.1)
         (subst (λ ws. AreCarried image units (take k jobs ++ w ∷ []) q ws (go ++ record { job = w.job; fault = fault } ∷ [])) (sym noted.0)
         (one_dropped image units (take k jobs) w q stay go fault one.0 h)))
+
+-- the layout stays, and who waits
+pub layout_stays : (image : List ℕ) (units : ℕ) (w : WaitingJob) (old new : RecordQueue) (told : Result ℕ ℕ) → CarriesOne image units w old new told →
+    new.layout ≡ old.layout
+layout_stays image units w old new (Ok first) one = one.written.layout
+layout_stays image units w old new (Err fault) one = ap (λ (q : RecordQueue). q.layout) one.1
+
+pub nobody_waits : (image : List ℕ) (units : ℕ) (w : WaitingJob) (old new : RecordQueue) (told : Result ℕ ℕ) → CarriesOne image units w old new told →
+    new.waiting ≡ old.waiting
+nobody_waits image units w old new (Ok first) one = one.written.waiting
+nobody_waits image units w old new (Err fault) one = ap (λ (q : RecordQueue). q.waiting) one.1

@@ -3,3 +3,5 @@ mod Loaded
 mod Numbered
 mod Standing
 pub mod Stepped
+mod Waited
+mod Waits

@@ -1,17 +1,20 @@
 -- Jobs that are carried over from an image into a queue of the second layout. (This profile)
-use Rattle.std.specs.Prelude.{◌≡◌, ◌≢◌, ℕ, ◌==◌, true, false, List, [], ◌∷◌, ◌++◌, Some, None, Result, Ok, Err, length, map}
+use Rattle.std.specs.Prelude.{◌≡◌, ◌≢◌, ℕ, ◌≤◌, ◌==◌, true, false, List, [], ◌∷◌, ◌++◌, Some, None, Result, Ok, Err, length, map}
 use Rattle.std.specs.List.{AllZip, list_any}
 use Rattle.jcl_plan.specs.declared.plan.JobPlan.{JobPlan}
 use Rattle.cb_meaning.specs.declared.layout.TheConstants.{LAYOUT_1, LAYOUT_2}
 use Rattle.cb_meaning.specs.Spelled.{Denotes}
 use Rattle.cb_queue.specs.RecordQueues.{RecordQueue, owner_at, shown}
 use Rattle.cb_chain.specs.Written.{IsFresh, Written}
+use Rattle.machine_meaning.specs.declared.machine.TheConstants.{MOST_JOBS}
+use Rattle.queued_job.specs.Opening.{CanBegin}
 use Rattle.queue_images.specs.declared.image.DroppedJob.{DroppedJob}
 use Rattle.queue_images.specs.declared.image.TheConstants.{IMAGE_BYTES}
 use Rattle.queue_images.specs.declared.image.WaitingJob.{WaitingJob}
 use Rattle.queue_images.specs.declared.migrate.MigrateFault.{MigrateFault}
 use Rattle.queue_images.specs.declared.migrate.MigrateFault.TheVariants.{Memory, Numbers, Size}
 use Rattle.queue_images.specs.Images.{are_job_numbers, dropped_of, fault_in, kept_of, records_in}
+use Rattle.queue_images.specs.Waiting.{Wait, greatest}
 
 -- a job of the image stands in a queue under the same number, and denotes the same plan
 pub record IsCarried (image : List ℕ) (units : ℕ) (q : RecordQueue) (old new : WaitingJob) : Type 0 where
@@ -27,9 +30,15 @@ pub record AreCarried (image : List ℕ) (units : ℕ) (jobs : List WaitingJob) 
   pub kept : AllZip (IsCarried image units q) (kept_of image units jobs) stay
   pub dropped : go ≡ dropped_of image units jobs
   pub layout : q.layout ≡ LAYOUT_2
-  pub waiting : q.waiting ≡ []
   pub owned : (n : ℕ) → owner_at q n ≢ 0 → list_any (λ w. w.job == owner_at q n) stay ≡ true
   pub fresh : (n : ℕ) → owner_at q n ≢ 0 → IsFresh LAYOUT_2 ((shown q).at n)
+
+-- and they wait there in the order of their numbers, so that a machine may begin with them
+pub record AreWaiting (jobs : List WaitingJob) (q : RecordQueue) (stay : List WaitingJob) (ns : List ℕ) (last : ℕ) : Type 0 where
+  pub wait : Wait q stay ns
+  pub greatest : last ≡ greatest (map (λ w. w.job) jobs)
+  pub begins : CanBegin q last
+  pub few : last ≤ MOST_JOBS
 
 -- one job: its first record, where it was written anew, or its fault
 pub record IsWrittenAnew (image : List ℕ) (units : ℕ) (w : WaitingJob) (old new : RecordQueue) (first : ℕ) : Type 0 where

@@ -1,3 +1,4 @@
 pub mod Carrying
 pub mod Images
 pub mod Loading
+pub mod Waiting

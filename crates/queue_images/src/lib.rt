@@ -6,3 +6,4 @@ pub mod image;
 mod load;
 pub mod migrate;
 mod numbers;
+mod waiting;

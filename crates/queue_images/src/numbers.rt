@@ -7,7 +7,7 @@ use crate::image::WaitingJob;
 use machine_meaning::machine::MOST_JOBS;
 
 /// How many numbers there are with 0.
-const NUMBERS: usize = 10_000;
+pub(crate) const NUMBERS: usize = 10_000;
 
 /// Whether a number is that of a job, and has no mark.
 fn is_new(met: &[bool], job: u16) -> bool

@@ -10,7 +10,7 @@ use std::alloc::Global;
 
 /// What is done with an image.
 #[derive(Clone, Copy)]
-pub(crate) enum ImageVerb {
+pub enum ImageVerb {
     Size,
     Bytes,
     Job,
@@ -19,13 +19,13 @@ pub(crate) enum ImageVerb {
 
 /// An image, and the jobs that wait in it.
 #[derive(Drop)]
-pub(crate) struct Image {
-    bytes: Vec<u8>,
-    jobs: Vec<WaitingJob>,
+pub struct Image {
+    pub bytes: Vec<u8>,
+    pub jobs: Vec<WaitingJob>,
 }
 
 /// An image without a byte, and nobody waits.
-pub(crate) fn no_image(alloc: Global) -> Image {
+pub fn no_image(alloc: Global) -> Image {
     Image {
         bytes: Vec::new(alloc),
         jobs: Vec::new(alloc),
@@ -79,12 +79,24 @@ fn tell_records(store: &ChainStore, told: &mut Told) {
     }
 }
 
+/// The jobs that wait, in their order, and the greatest number that was given.
+fn tell_waiting(waiting: &[u16], last: u16, told: &mut Told) {
+    told.word(b"WAITING");
+    for job in waiting {
+        told.numbered(b" ", u64::from(*job));
+    }
+    told.numbered_line(b" OF ", u64::from(last));
+}
+
 fn tell_migrated(migrated: Migrated, told: &mut Told) {
     let Migrated {
         store,
         kept,
         dropped,
+        waiting,
+        last,
     } = migrated;
+    tell_waiting(waiting.as_slice(), last, told);
     tell_kept(kept.as_slice(), told);
     tell_dropped(dropped.as_slice(), told);
     tell_records(&store, told);
@@ -101,7 +113,7 @@ fn migrate(alloc: Global, image: &Image, units: u16, told: &mut Told) {
 }
 
 /// Does a command about an image.
-pub(crate) fn on_image(alloc: Global, image: &mut Image, verb: ImageVerb, line: &mut Line<'_>) {
+pub fn on_image(alloc: Global, image: &mut Image, verb: ImageVerb, line: &mut Line<'_>) {
     match verb {
         ImageVerb::Size => resize(alloc, image, line.words.number(), &mut line.told),
         ImageVerb::Bytes => {

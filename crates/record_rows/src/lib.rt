@@ -5,7 +5,7 @@
 mod deck;
 mod desk;
 mod fields;
-mod image;
+pub mod image;
 mod job;
 mod names;
 mod plan;

@@ -1,6 +1,7 @@
 //! Compares the rows of the tables that the command line names. A word ahead of tables says what these are about.
 #![tactic(auto)]
 
+mod opened;
 mod sessions;
 mod topic;
 

@@ -2,7 +2,7 @@
 
 mod command_lines;
 mod commands;
-mod driven;
+pub(crate) mod driven;
 mod each;
 mod listing;
 mod row;

@@ -11,15 +11,17 @@ pub(crate) enum Topic {
     Machine,
     Stores,
     Sessions,
+    Queues,
     Paths,
 }
 
-const TOPICS: [(&str, Topic); 6] = [
+const TOPICS: [(&str, Topic); 7] = [
     ("volumes", Topic::Volumes),
     ("records", Topic::Records),
     ("machine", Topic::Machine),
     ("stores", Topic::Stores),
     ("sessions", Topic::Sessions),
+    ("queues", Topic::Queues),
     ("paths", Topic::Paths),
 ];
 
@@ -41,6 +43,7 @@ impl Subject for Topic {
             Topic::Machine => machine_rows::answer(alloc, input, told),
             Topic::Stores => store_rows::answer(alloc, input, told),
             Topic::Sessions => crate::sessions::answer(alloc, input, told),
+            Topic::Queues => crate::opened::answer(alloc, input, told),
             Topic::Paths => path_rows::answer(alloc, input, told),
         }
     }

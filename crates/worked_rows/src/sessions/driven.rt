@@ -1,16 +1,21 @@
 //! The events of a session, driven one after another.
-ghost use Rattle.std.specs.Prelude.{◌≡◌, IfOk};
-ghost use Rattle.cb_meaning.specs.declared.layout.TheConstants.{QUEUE_LAYOUT};
+ghost use Rattle.std.specs.Prelude.{◌≡◌, IfOk, List};
+ghost use Rattle.cb_meaning.specs.declared.layout.TheConstants.{LAYOUT_2, QUEUE_LAYOUT};
 ghost use Rattle.cb_queue.specs.RecordQueues.{empty_queue};
+ghost use Rattle.queue_images.specs.declared.image.WaitingJob.{WaitingJob};
+ghost use Rattle.queue_images.specs.Carrying.{AreWaiting};
 ghost use Rattle.sched_core.specs.Starting.{IsForMachine};
 
 use boxed_core::Boxed;
 use cb_meaning::layout::QUEUE_LAYOUT;
 use cb_queue::list_store::ListStore;
+use cb_queue::store::RecordStore;
 use config_core::config::Config;
 use jcl_plan::entry::Entry;
 use plain::draft::Draft;
 use plain::listed::Listed;
+use queue_images::migrate::{Migrated, migrate_queue};
+use record_rows::image::Image;
 use run_options::{Options, RiskChoice};
 use sched_core::start::queue_layout_is_for_machine;
 use sched_core::system::System;
@@ -102,26 +107,12 @@ fn push_entries(text: &mut Draft, entries: &[Listed<Entry>]) -> Result<(), Alloc
     Ok(())
 }
 
-/// Drives the events, and once more the first for which memory was wanting with those behind it.
-fn drive(
+/// Drives the events, and once more the first for which memory was wanting with those behind it. Then takes the machine apart.
+fn lines_of<Q: RecordStore + Drop>(
     alloc: Global,
-    config: Config,
-    options: Options,
+    mut system: System<'_, Q>,
     events: &[Event<'_>],
 ) -> Result<Draft, AllocError> {
-    let (store, fixed) = config.take_apart()?;
-    let queue = first_queue(alloc)?;
-    let refuses = options.risk == RiskChoice::Refuse;
-    let views = usize::from(options.views);
-    let mut system = System::new(
-        alloc,
-        store,
-        queue,
-        &fixed,
-        refuses,
-        views,
-        options.explains,
-    )?;
     let first = system.drive(events);
     let (_, rest) = events.split_at(first.done);
     let then = system.drive(rest);
@@ -130,6 +121,81 @@ fn drive(
     push_entries(&mut text, first.entries.as_slice())?;
     push_entries(&mut text, then.entries.as_slice())?;
     Ok(text)
+}
+
+/// Drives the events from a machine in which nobody waits.
+fn drive(
+    alloc: Global,
+    config: Config,
+    options: Options,
+    events: &[Event<'_>],
+) -> Result<Draft, AllocError> {
+    let (store, fixed) = config.take_apart()?;
+    let queue = first_queue(alloc)?;
+    let system = System::new(
+        alloc,
+        store,
+        queue,
+        &fixed,
+        options.risk == RiskChoice::Refuse,
+        usize::from(options.views),
+        options.explains,
+    )?;
+    lines_of(alloc, system, events)
+}
+
+/// Drives the events from a machine with the jobs that were carried over.
+fn drive_on(
+    alloc: Global,
+    config: Config,
+    options: Options,
+    migrated: Migrated,
+    events: &[Event<'_>],
+) -> Result<Draft, AllocError>
+    requires waiting { (jobs : List WaitingJob) × AreWaiting jobs migrated.store.queue migrated.kept.items migrated.waiting.items migrated.last }
+    requires layout { migrated.store.queue.layout ≡ LAYOUT_2 }
+{
+    queue_layout_is_for_machine();
+    let Migrated {
+        store: queue,
+        kept: _,
+        dropped: _,
+        waiting,
+        last,
+    } = migrated;
+    let (store, fixed) = config.take_apart()?;
+    let Ok(system) = System::open_queue(
+        alloc,
+        store,
+        queue,
+        waiting.as_slice(),
+        last,
+        &fixed,
+        options.risk == RiskChoice::Refuse,
+        usize::from(options.views),
+        options.explains,
+    ) else {
+        return Err(AllocError);
+    };
+    lines_of(alloc, system, events)
+}
+
+/// The lines of a session's events, from a machine with the jobs of an image that can be read with so many lists of volumes.
+pub(crate) fn list_carried_on(
+    alloc: Global,
+    options: Options,
+    image: &Image,
+    units: u16,
+    text: &[u8],
+) -> Result<Draft, AllocError> {
+    let read = statements(alloc, text, Ending::Whole)?;
+    let mut config = Config::new(alloc);
+    let mut events = Vec::new(alloc);
+    gather(alloc, &mut config, &mut events, read.into_vec())?;
+    match migrate_queue(alloc, image.bytes.as_slice(), image.jobs.as_slice(), units) {
+        Ok(migrated) => drive_on(alloc, config, options, migrated, events.as_slice()),
+        Err(_) => Err(AllocError),
+    }
 }
 
 /// The listing of a session whose events are driven one after another.

@@ -1,32 +1,58 @@
-use Rattle.std.proofs.Common.{◌≡◌, ◌≤◌, ◌∙◌, ap, arith, get_or, length, subst, sym, take}
-use Rattle.std.proofs.lemmas.List.{get_or_default, take_all}
+use Rattle.std.proofs.Common.{◌≡◌, ◌≤◌, ◌∙◌, All, ap, map, refl, subst, sym, true}
+use Rattle.cb_queue.specs.RecordQueues.{RecordQueue}
 use Rattle.chain_store.specs.Values.{Linked}
+use Rattle.plain.specs.Lists.{are_different}
 use Rattle.queue_images.specs.declared.image.WaitingJob.{WaitingJob}
 use Rattle.queue_images.specs.Carrying.{AreCarried}
-use Rattle.queue_images.proofs.Carried.{none_carried, one_noted}
-use Rattle.queue_images.proofs.Numbered.{fits_at}
+use Rattle.queue_images.specs.Waiting.{CanWait, Wait}
+use Rattle.queue_images.proofs.Waited.{are_waiting, once, small, stand, still_carried}
 use Rattle.queue_images.proofs.migrate.carried.Goals as goal
 
-pub loop-w-init : goal.loop-w-init
-loop-w-init c =
-    none_carried c.args.image.now c.args.units c.in_ok-store.store.queue c.new-kept.result.items c.new-dropped.result.items
-    (ap (λ (s : Linked). s.queue) c.in_ok-store.ensures) c.the_layouts_hold_jobs.ensures.second.own_link c.new-kept.ensures.items c.new-dropped.ensures.items
+pub carry_jobs-requires-clause-loaded : goal.carry_jobs-requires-clause-loaded
+carry_jobs-requires-clause-loaded c = (c.args.image.now, c.in_ok-old.ensures)
 
-pub carry_job-requires-clause-number : goal.carry_job-requires-clause-number
-carry_job-requires-clause-number c = fits_at c.args.jobs.now c.loop-w.w-index c.loop-w-test.true c.requires.numbers
+pub carry_jobs-requires-clause-empty : goal.carry_jobs-requires-clause-empty
+carry_jobs-requires-clause-empty c = ap (λ (s : Linked). s.queue) c.in_ok-store.ensures
 
-pub carry_job-requires-clause-layout : goal.carry_job-requires-clause-layout
-carry_job-requires-clause-layout c = c.loop-w.invariant.layout
+pub carry_jobs-requires-clause-nothing : goal.carry_jobs-requires-clause-nothing
+carry_jobs-requires-clause-nothing c = (c.new-2.ensures.items, c.new-3.ensures.items)
 
-pub loop-w-preserved : goal.loop-w-preserved
-loop-w-preserved c =
-    let w : WaitingJob = get_or c.args.jobs.now c.loop-w.w-index (record { job = 0; jct = 0 }) in
-    one_noted c.args.image.now c.args.units c.args.jobs.now c.loop-w.w-index w c.loop-w.store.queue c.carry_job.new.new.queue c.loop-w.kept.items c.note.new.kept.items
-    c.loop-w.dropped.items c.note.new.dropped.items c.in_ok-told.told c.denotes_still.ensures c.layouts_have_own_links.ensures.second c.loop-w-test.true
-    (get_or_default c.args.jobs.now c.loop-w.w-index (record { job = 0; jct = 0 }) w c.loop-w-test.true)
-    (c.in_ok-told.ensures c.args.image.now c.in_ok-old.ensures) c.in_ok-note.ensures c.loop-w.invariant
+pub let_wait-requires-clause-layout : goal.let_wait-requires-clause-layout
+let_wait-requires-clause-layout c = (c.in_ok-carry_jobs.ensures.carried c.args.image.now c.in_ok-old.ensures).layout
 
-pub returns : goal.returns
-returns c =
-    subst (λ ws. AreCarried c.args.image.now c.args.units ws c.loop-w.store.queue c.loop-w.kept.items c.loop-w.dropped.items)
-    (take_all c.loop-w.w-index c.args.jobs.now (omega (arith, c.loop-w-test.false))) c.loop-w.invariant
+pub let_wait-requires-clause-numbers : goal.let_wait-requires-clause-numbers
+let_wait-requires-clause-numbers c =
+    let kept = c.carry_jobs.new.sorted.kept.items in
+    subst (All (λ (w : WaitingJob). w.job ≤ 9999)) (sym c.as_slice.ensures.value)
+    (small c.args.image.now c.args.units c.carry_jobs.new.new.queue c.args.jobs.now kept c.carry_jobs.new.sorted.dropped.items c.requires.numbers
+    (c.in_ok-carry_jobs.ensures.carried c.args.image.now c.in_ok-old.ensures))
+
+pub let_wait-requires-clause-once : goal.let_wait-requires-clause-once
+let_wait-requires-clause-once c =
+    let kept = c.carry_jobs.new.sorted.kept.items in
+    ap (λ ws. are_different (map (λ (w : WaitingJob). w.job) ws)) c.as_slice.ensures.value
+    ∙ once c.args.image.now c.args.units c.carry_jobs.new.new.queue c.args.jobs.now kept c.carry_jobs.new.sorted.dropped.items c.requires.numbers
+    (c.in_ok-carry_jobs.ensures.carried c.args.image.now c.in_ok-old.ensures)
+
+pub let_wait-requires-clause-stand : goal.let_wait-requires-clause-stand
+let_wait-requires-clause-stand c =
+    let kept = c.carry_jobs.new.sorted.kept.items in
+    subst (All (CanWait c.carry_jobs.new.new.queue)) (sym c.as_slice.ensures.value)
+    (stand c.args.image.now c.args.units c.carry_jobs.new.new.queue c.args.jobs.now kept c.carry_jobs.new.sorted.dropped.items c.requires.numbers
+    (c.in_ok-carry_jobs.ensures.carried c.args.image.now c.in_ok-old.ensures))
+
+pub returns-clause-carried : goal.returns-clause-carried
+returns-clause-carried c =
+    let kept = c.carry_jobs.new.sorted.kept.items in
+    still_carried c.args.image.now c.args.units c.carry_jobs.new.new.queue c.args.jobs.now kept c.carry_jobs.new.sorted.dropped.items c.requires.numbers
+    (c.in_ok-carry_jobs.ensures.carried c.args.image.now c.in_ok-old.ensures) c.let_wait.new.store.queue c.in_ok-waiting.waiting.items c.greatest.result
+    c.in_ok-waiting.ensures.rest (subst (λ ws. Wait c.let_wait.new.store.queue ws c.in_ok-waiting.waiting.items) c.as_slice.ensures.value c.in_ok-waiting.ensures.wait)
+    c.greatest.ensures
+
+pub returns-clause-waiting : goal.returns-clause-waiting
+returns-clause-waiting c =
+    let kept = c.carry_jobs.new.sorted.kept.items in
+    are_waiting c.args.image.now c.args.units c.carry_jobs.new.new.queue c.args.jobs.now kept c.carry_jobs.new.sorted.dropped.items c.requires.numbers
+    (c.in_ok-carry_jobs.ensures.carried c.args.image.now c.in_ok-old.ensures) c.let_wait.new.store.queue c.in_ok-waiting.waiting.items c.greatest.result
+    c.in_ok-waiting.ensures.rest (subst (λ ws. Wait c.let_wait.new.store.queue ws c.in_ok-waiting.waiting.items) c.as_slice.ensures.value c.in_ok-waiting.ensures.wait)
+    c.greatest.ensures
