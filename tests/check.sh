@@ -65,6 +65,23 @@ for session in tests/check/*.session; do
     fi
 done
 
+# Jobs that are run again: beside what is told of a session as it is, nothing but what they are answered then.
+for session in tests/check/again/*.session; do
+    told=${session%.session}.told
+    "$check" --again <"$session" >"$work/told"
+    ends "$session" 1 $?
+    if ! cmp -s "$told" "$work/told"; then
+        echo "DIFFERS $session"
+        diff "$told" "$work/told" | head -n 20
+        differ=1
+    fi
+    "$check" <"$session" >"$work/once"
+    ends "$session, once" 1 $?
+    sed '/^    run again, /,/^[^ ]/{/^ /d}' "$work/told" | cmp -s "$work/once" - || { echo "DIFFERS $session, but for what is run again"; differ=1; }
+    "$check" --again --brief <"$session" >"$work/brief"
+    "$check" --brief <"$session" | cmp -s - "$work/brief" || { echo "DIFFERS $session, in brief"; differ=1; }
+done
+
 # A deck that stands alone behind a session: the findings are those of the same deck as a block, but that lines are counted from its first card, and what
 # is above it says so.
 for deck in tests/check/alone/*.jcl; do

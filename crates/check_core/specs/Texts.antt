@@ -9,6 +9,8 @@ use Rattle.check_core.specs.declared.report.Checked.TheVariants.{Refused, Taken}
 use Rattle.check_core.specs.declared.report.Inside.{Inside}
 use Rattle.check_core.specs.declared.report.Report.{Report}
 use Rattle.check_core.specs.declared.report.Spot.{Spot}
+use Rattle.check_core.specs.declared.warnings.Warned.{Warned}
+use Rattle.check_core.specs.Warnings.{count_before, warnings_text}
 
 -- what is told of a refusal begins with the line and the number
 abbrev pub head : ℕ → Cause → List ℕ
@@ -78,8 +80,10 @@ abbrev pub TellsPlace : List (List ℕ) → Report → List ℕ → Type 0
 TellsPlace lines report text =
     (words : List ℕ) × (rest : List ℕ) × (text ≡ words ++ 10 ∷ spot_text lines report.spot ++ inside_text report.inside ++ rest)
 
--- behind a text nothing is added of a deck that denotes a job; of another first the line and the number of its refusal, then its words and its place
-abbrev pub AddsToldText : ℕ → List (List ℕ) → Checked → List ℕ → List ℕ → Type 0
-AddsToldText first lines (Taken plan) old new = new ≡ old
-AddsToldText first lines (Refused report later) old new =
-    (rest : List ℕ) × (new ≡ old ++ head (line_of first report.spot.card) report.cause ++ rest) × TellsPlace lines report rest
+-- Behind a text nothing is added of a deck that denotes a job. Of another there come the warnings of cards before that of its refusal, then the line and the
+-- number of this, then its words and its place.
+abbrev pub AddsToldText : ℕ → List (List ℕ) → Checked → List Warned → List ℕ → List ℕ → Type 0
+AddsToldText first lines (Taken plan) warned old new = new ≡ old
+AddsToldText first lines (Refused report later) warned old new =
+    (rest : List ℕ) × (new ≡ old ++ warnings_text first (take (count_before report.spot.card warned) warned)
+    ++ head (line_of first report.spot.card) report.cause ++ rest) × TellsPlace lines report rest

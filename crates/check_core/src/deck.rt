@@ -154,12 +154,17 @@ fn is_same(one: &Report, other: &Report) -> bool {
     }
 }
 
-/// Puts a report behind the others, unless it is for a statement of a procedure that one of them is for.
+/// Puts a report behind those of the same card and of cards before it, unless it is for a statement of a procedure that one of them is for.
 fn push_report(later: &mut Vec<Report>, first: &Report, report: Report) -> Result<(), AllocError> {
     if is_same(first, &report) || later.iter().any(|other| is_same(other, &report)) {
         return Ok(());
     }
-    later.push(report)?;
+    let card = report.spot.card.unwrap_or(0);
+    let place = later
+        .iter()
+        .take_while(|other| other.spot.card.unwrap_or(0) <= card)
+        .count();
+    later.insert(place.min(later.len()), report)?;
     Ok(())
 }
 

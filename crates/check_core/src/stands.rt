@@ -29,11 +29,11 @@ struct Stated {
     calls: Option<Name8>,
 }
 
-/// The statements of a deck that denotes a job, and the procedures that it may call.
+/// The statements of a deck that denotes a job, and where each of its steps begins among them.
 #[derive(Drop)]
-pub struct Stands<'a> {
-    library: &'a ProcLibrary,
+pub struct Stands {
     statements: Vec<Stated>,
+    begins: Vec<Begins>,
 }
 
 /// Where a step begins among the statements, and whether a call brings it.
@@ -116,13 +116,75 @@ fn named_before(dds: &[DdPlan], dd: usize) -> (usize, usize) {
     (dd - behind, behind)
 }
 
-impl<'a> Stands<'a> {
+/// How many steps a procedure of the deck brings, which begins at this place.
+fn steps_behind(statements: &[Stated], place: usize) -> usize {
+    let (_, behind) = statements.split_at(place.min(statements.len()));
+    behind
+        .iter()
+        .take_while(|statement| statement.is != Is::Pend)
+        .filter(|statement| statement.is == Is::Exec)
+        .count()
+}
+
+/// How many steps a call of a procedure brings: the first of its name in the deck, else that of the library.
+fn steps_of(library: &ProcLibrary, statements: &[Stated], name: &Name8) -> usize {
+    for (place, statement) in statements.iter().enumerate() {
+        if statement.is == Is::Proc && statement.name.as_slice() == name.as_slice() {
+            return steps_behind(statements, place);
+        }
+    }
+    steps_in(library, name)
+}
+
+/// Puts a step for each that the EXEC statement at this place brings.
+fn push_begins(
+    begins: &mut Vec<Begins>,
+    library: &ProcLibrary,
+    statements: &[Stated],
+    place: usize,
+    calls: &Option<Name8>,
+) -> Result<(), AllocError> {
+    let brings = match calls {
+        Some(name) => steps_of(library, statements, name),
+        None => 1,
+    };
+    for _ in 0..brings {
+        begins.push(Begins {
+            place,
+            called: calls.is_some(),
+        })?;
+    }
+    Ok(())
+}
+
+/// Where each step begins, in their order.
+fn begins_of(
+    alloc: Global,
+    library: &ProcLibrary,
+    statements: &[Stated],
+) -> Result<Vec<Begins>, AllocError> {
+    let mut begins = Vec::new(alloc);
+    let mut is_inside = false;
+    for (place, statement) in statements.iter().enumerate() {
+        match statement.is {
+            Is::Proc => is_inside = true,
+            Is::Pend => is_inside = false,
+            Is::Exec if !is_inside => {
+                push_begins(&mut begins, library, statements, place, &statement.calls)?;
+            }
+            _ => {}
+        }
+    }
+    Ok(begins)
+}
+
+impl Stands {
     /// The statements of these lines, which are a deck that denotes a job.
     pub fn of(
         alloc: Global,
-        library: &'a ProcLibrary,
+        library: &ProcLibrary,
         lines: &[Card<'_>],
-    ) -> Result<Stands<'a>, AllocError> {
+    ) -> Result<Stands, AllocError> {
         let walk = walk_lines(alloc, lines)?;
         let mut statements = Vec::new(alloc);
         for place in &walk.begun {
@@ -132,60 +194,13 @@ impl<'a> Stands<'a> {
                 }
             }
         }
-        Ok(Stands {
-            library,
-            statements,
-        })
+        let begins = begins_of(alloc, library, statements.as_slice())?;
+        Ok(Stands { statements, begins })
     }
 
-    /// How many steps a procedure of the deck brings, which begins at this place.
-    fn steps_behind(&self, place: usize) -> usize {
-        let (_, behind) = self
-            .statements
-            .as_slice()
-            .split_at(place.min(self.statements.len()));
-        behind
-            .iter()
-            .take_while(|statement| statement.is != Is::Pend)
-            .filter(|statement| statement.is == Is::Exec)
-            .count()
-    }
-
-    /// How many steps a call of a procedure brings: the first of its name in the deck, else that of the library.
-    fn steps_of(&self, name: &Name8) -> usize {
-        for (place, statement) in self.statements.iter().enumerate() {
-            if statement.is == Is::Proc && statement.name.as_slice() == name.as_slice() {
-                return self.steps_behind(place);
-            }
-        }
-        steps_in(self.library, name)
-    }
-
-    /// The EXEC statement that brings a step, which counts from 0.
-    fn exec_of(&self, step: usize) -> Option<Begins> {
-        let mut left = step;
-        let mut is_inside = false;
-        for (place, statement) in self.statements.iter().enumerate() {
-            match statement.is {
-                Is::Proc => is_inside = true,
-                Is::Pend => is_inside = false,
-                Is::Exec if !is_inside => {
-                    let brings = match &statement.calls {
-                        Some(name) => self.steps_of(name),
-                        None => 1,
-                    };
-                    if left < brings {
-                        return Some(Begins {
-                            place,
-                            called: statement.calls.is_some(),
-                        });
-                    }
-                    left -= brings;
-                }
-                _ => {}
-            }
-        }
-        None
+    /// Where a step begins, which counts from 1.
+    fn begins_at(&self, step: usize) -> Option<Begins> {
+        self.begins.get(step.checked_sub(1)?).copied()
     }
 
     /// The DD statements behind an EXEC statement, up to the next one.
@@ -209,7 +224,7 @@ impl<'a> Stands<'a> {
 
     /// The card of the EXEC statement that brings a step, which counts from 1.
     pub fn step_card(&self, step: usize) -> Option<usize> {
-        let begins = self.exec_of(step.checked_sub(1)?)?;
+        let begins = self.begins_at(step)?;
         self.card_of(begins.place)
     }
 
@@ -237,7 +252,7 @@ impl<'a> Stands<'a> {
 
     /// The card of a DD of the job's plan, or that of its step. Both count from 1.
     pub fn dd_card(&self, plan: &JobPlan, step: usize, dd: usize) -> Option<usize> {
-        let begins = self.exec_of(step.checked_sub(1)?)?;
+        let begins = self.begins_at(step)?;
         let of_step = plan.steps.as_slice().get(step.checked_sub(1)?)?;
         match self.own_dd_card(begins, of_step, dd.checked_sub(1)?) {
             Some(card) => Some(card),

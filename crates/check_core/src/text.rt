@@ -2,8 +2,10 @@
 ghost use Rattle.std.specs.Prelude.{◌≡◌, ℕ, ◌++◌, ◌∷◌, List, IfOk, OnOk, Some, decimal, map, replicate, take};
 ghost use Rattle.jcl_plan.specs.Texts.{cause_text};
 ghost use Rattle.check_core.specs.Texts.{AddsToldText, TellsPlace, card_text, column_count, cut_mark, has_text, head, inside_text, is_cut, line_of, mark_text, marked_text, of_session_text, shown, spot_text};
+ghost use Rattle.check_core.specs.Warnings.{count_before, warnings_text};
 
 use crate::report::{Checked, Inside, Report, Spot};
+use crate::warnings::{Warned, count_before, push_warned};
 use card_core::statement::Card;
 use itoa::Buffer;
 use jcl_plan::fault::Cause;
@@ -296,61 +298,81 @@ fn words_of(alloc: Global, lines: &[Card<'_>], report: &Report) -> Result<Vec<u8
     Ok(text)
 }
 
-/// What is told of the refusals behind the first.
+/// What is told of the refusals behind the first, and among them these warnings, each before the refusals of later cards.
 fn later_of(
     alloc: Global,
     first_line: usize,
     lines: &[Card<'_>],
     later: &[Report],
+    warned: &[Warned],
 ) -> Result<Vec<u8>, AllocError> {
     let mut text = Vec::new(alloc);
+    let mut left = warned;
     for report in later {
+        let (due, behind) = left.split_at(count_before(report.spot.card, left));
+        push_warned(&mut text, first_line, due)?;
+        left = behind;
         let line = line_of(first_line, report.spot.card)?;
         push_head(&mut text, line, report.cause)?;
         text.extend_from_slice(words_of(alloc, lines, report)?.as_slice())?;
     }
+    push_warned(&mut text, first_line, left)?;
     Ok(text)
 }
 
-/// The words of the first refusal, and what is told of the others.
+/// The words of the first refusal, and what is told of the others and of these warnings.
 fn rest_of(
     alloc: Global,
     first_line: usize,
     lines: &[Card<'_>],
     first: &Report,
     later: &[Report],
+    warned: &[Warned],
 ) -> Result<Vec<u8>, AllocError>
     ensures { IfOk result (λ text. TellsPlace lines.now first.now text.items) }
 {
-    let later = later_of(alloc, first_line, lines, later)?;
+    let later = later_of(alloc, first_line, lines, later, warned)?;
     let mut text = words_of(alloc, lines, first)?;
     text.extend_from_slice(later.as_slice())?;
     Ok(text)
 }
 
-/// Puts what is told of a deck behind a text. The deck's first card stands on this line of the session, which counts from 1.
+/// Writes what is told of a deck's first refusal, the others and these warnings.
+fn push_refused(
+    text: &mut Vec<u8>,
+    first_line: usize,
+    lines: &[Card<'_>],
+    first: &Report,
+    later: &[Report],
+    warned: &[Warned],
+) -> Result<(), AllocError>
+    ensures { OnOk result ((rest : List ℕ) × (text.new.items ≡ text.old.items
+        ++ warnings_text first_line (take (count_before first.now.spot.card warned.now) warned.now)
+        ++ head (line_of first_line first.now.spot.card) first.now.cause ++ rest) × TellsPlace lines.now first.now rest) }
+{
+    let (due, behind) = warned.split_at(count_before(first.spot.card, warned));
+    let rest = rest_of(*text.allocator(), first_line, lines, first, later, behind)?;
+    let line = line_of(first_line, first.spot.card)?;
+    push_warned(text, first_line, due)?;
+    push_head(text, line, first.cause)?;
+    text.extend_from_slice(rest.as_slice())
+}
+
+/// Puts what is told of a deck that is refused behind a text, and among that what its cards warn of. The deck's first card stands on this line of the
+/// session, which counts from 1. Of a deck that denotes a job nothing is put.
 pub fn push_checked(
     text: &mut Vec<u8>,
     first_line: usize,
     lines: &[Card<'_>],
     checked: &Checked,
+    warned: &[Warned],
 ) -> Result<(), AllocError>
-    ensures { OnOk result (AddsToldText first_line lines.now checked.now text.old.items text.new.items) }
+    ensures { OnOk result (AddsToldText first_line lines.now checked.now warned.now text.old.items text.new.items) }
 {
     match checked {
         Checked::Taken(_) => Ok(()),
         Checked::Refused { first, later } => {
-            let rest = rest_of(
-                *text.allocator(),
-                first_line,
-                lines,
-                first,
-                later.as_slice(),
-            )?;
-            let line = line_of(first_line, first.spot.card)?;
-            push_head(text, line, first.cause)?;
-            text.extend_from_slice(rest.as_slice())?;
-            Ok(())
+            push_refused(text, first_line, lines, first, later.as_slice(), warned)
         }
     }
 }

@@ -1,4 +1,7 @@
 //! What is accepted of a deck and rarely meant.
+ghost use Rattle.std.specs.Prelude.{◌≡◌, ◌≤◌, ◌+◌, ◌++◌, OnOk, length};
+ghost use Rattle.check_core.specs.Warnings.{count_before, is_before, warning_text, warnings_text, words_of};
+
 use crate::guess::is_keyword_of;
 use crate::report::{Checked, Report};
 use card_core::card::{Kind, card_of, kind_of};
@@ -13,7 +16,7 @@ const LAST_READ: usize = 70;
 
 /// What a card warns of.
 #[derive(Clone, Copy, PartialEq, Eq)]
-enum Warning {
+pub enum Warning {
     /// A `./` line.
     Swallowed,
     /// Text stands on both sides of the end of column 71.
@@ -27,7 +30,9 @@ enum Warning {
 }
 
 /// What is said of it.
-fn words_of(warning: Warning) -> &'static [u8] {
+fn words_of(warning: Warning) -> &'static [u8]
+    ensures { result.now ≡ words_of warning }
+{
     match warning {
         Warning::Swallowed => b"a ./ line is a card of this deck: a ./ END is missing before it",
         Warning::Cut => b"the text is cut behind column 71",
@@ -90,7 +95,9 @@ fn warning_of(line: &[u8]) -> Option<Warning> {
 }
 
 /// Writes a warning, with its line of the session, which counts from 1.
-pub fn push_warning(text: &mut Vec<u8>, line: usize, words: &[u8]) -> Result<(), AllocError> {
+pub fn push_warning(text: &mut Vec<u8>, line: usize, words: &[u8]) -> Result<(), AllocError>
+    ensures { OnOk result (text.new.items ≡ text.old.items ++ warning_text line words.now) }
+{
     let mut buffer = Buffer::new();
     text.extend_from_slice(b"line ")?;
     text.extend_from_slice(buffer.format(line as u64).as_bytes())?;
@@ -118,7 +125,7 @@ fn tells_hint(report: &Report, n: usize) -> bool {
 #[derive(Clone, Copy)]
 pub struct Warned {
     pub card: usize,
-    pub words: &'static [u8],
+    pub warning: Warning,
 }
 
 /// What a card of a deck warns of, of which this is told.
@@ -127,10 +134,7 @@ fn warned_at(line: &[u8], checked: &Checked, card: usize) -> Option<Warned> {
     if is_told(checked, card) {
         return None;
     }
-    Some(Warned {
-        card,
-        words: words_of(warning),
-    })
+    Some(Warned { card, warning })
 }
 
 /// What the cards of a deck warn of, of which this is told, in their order.
@@ -146,4 +150,46 @@ pub fn warnings_of(
         }
     }
     Ok(warned)
+}
+
+/// Writes a warning of a card of a deck whose first card stands on this line.
+fn push_one(text: &mut Vec<u8>, first: usize, warned: Warned) -> Result<(), AllocError>
+    ensures { OnOk result (text.new.items ≡ text.old.items ++ warning_text (first + warned.card) (words_of warned.warning)) }
+{
+    let Some(line) = first.checked_add(warned.card) else {
+        return Err(AllocError);
+    };
+    push_warning(text, line, words_of(warned.warning))
+}
+
+/// Writes warnings of cards of a deck whose first card stands on this line.
+#[tactic(auto, using(crate::proofs::Warned::warned_at))]
+pub fn push_warned(text: &mut Vec<u8>, first: usize, warned: &[Warned]) -> Result<(), AllocError>
+    ensures { OnOk result (text.new.items ≡ text.old.items ++ warnings_text first warned.now) }
+{
+    for warning in warned {
+        push_one(text, first, *warning)?;
+    }
+    Ok(())
+}
+
+/// Whether a warning is of a card before this one.
+fn is_before(card: Option<usize>, warned: &Warned) -> bool
+    ensures { result ≡ is_before card warned.now }
+{
+    match card {
+        Some(card) => warned.card < card,
+        None => false,
+    }
+}
+
+/// How many warnings in front are of cards before this one.
+pub(crate) fn count_before(card: Option<usize>, warned: &[Warned]) -> usize
+    ensures count { result ≡ count_before card warned.now }
+    ensures bound { result ≤ length warned.now }
+{
+    warned
+        .iter()
+        .take_while(|one| is_before(card, *one))
+        .count()
 }

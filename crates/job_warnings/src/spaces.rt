@@ -12,11 +12,11 @@ pub struct Room {
     pub tracks: usize,
 }
 
-/// How many tracks the volume of this serial has; none where it is not configured.
-fn tracks_of(rooms: &[Room], serial: Serial) -> usize {
+/// How many tracks the volume of this serial has, if it is configured.
+fn tracks_of(rooms: &[Room], serial: Serial) -> Option<usize> {
     match rooms.iter().find(|room| room.serial == serial) {
-        Some(room) => room.tracks,
-        None => 0,
+        Some(room) => Some(room.tracks),
+        None => None,
     }
 }
 
@@ -31,41 +31,74 @@ fn made_by(kind: &DdKind) -> Option<(&SetPlan, usize)> {
     }
 }
 
-/// The only volume on which a set may be made, if there is only one.
-fn only_volume(set: &SetPlan, units: &[Listed<Serial>]) -> Option<Serial> {
-    match (&set.volume, volumes_of(set, units)) {
-        (VolumePlan::Serial(serial), _) => Some(*serial),
-        (VolumePlan::NotCoded, [serial]) => Some(*serial),
+/// The volumes of a set's unit, if it asks for one.
+fn volumes_of<'a>(set: &SetPlan, units: &'a [Listed<Serial>]) -> Option<&'a [Serial]> {
+    let number = set.units?;
+    match units.get(usize::from(number).saturating_sub(1)) {
+        Some(volumes) => Some(volumes.as_slice()),
+        None => Some(&[]),
+    }
+}
+
+/// The only volume of a session.
+fn only_room(rooms: &[Room]) -> Option<Serial> {
+    match rooms {
+        [room] => Some(room.serial),
         _ => None,
     }
 }
 
-/// The volumes of a set's unit.
-fn volumes_of<'a>(set: &SetPlan, units: &'a [Listed<Serial>]) -> &'a [Serial] {
-    match set.units {
-        Some(number) => match units.get(usize::from(number).saturating_sub(1)) {
-            Some(volumes) => volumes.as_slice(),
-            None => &[],
-        },
-        None => &[],
+/// The only volume on which a set may be made, if there is only one.
+fn only_volume(set: &SetPlan, units: &[Listed<Serial>], rooms: &[Room]) -> Option<Serial> {
+    match (&set.volume, volumes_of(set, units)) {
+        (VolumePlan::Serial(serial), _) => Some(*serial),
+        (VolumePlan::NotCoded, Some([serial])) => Some(*serial),
+        (VolumePlan::NotCoded, None) => only_room(rooms),
+        _ => None,
     }
 }
 
-/// The most tracks that a volume of these has.
-fn most_of(rooms: &[Room], volumes: &[Serial]) -> usize {
+/// The most tracks that a volume of the session has.
+fn most_in(rooms: &[Room]) -> usize {
     let mut most = 0;
-    for serial in volumes {
-        most = tracks_of(rooms, *serial).max(most);
+    for room in rooms {
+        most = room.tracks.max(most);
     }
     most
 }
 
+/// The most tracks that one of these volumes has.
+fn most_of(rooms: &[Room], volumes: &[Serial]) -> usize {
+    let mut most = 0;
+    for serial in volumes {
+        most = tracks_of(rooms, *serial).unwrap_or(0).max(most);
+    }
+    most
+}
+
+/// The most tracks that a volume has on which a set without VOL may be made, where there are several.
+fn most_for(set: &SetPlan, units: &[Listed<Serial>], rooms: &[Room]) -> Option<usize> {
+    match (&set.volume, volumes_of(set, units)) {
+        (VolumePlan::NotCoded, Some([_, _, ..])) => {
+            Some(most_of(rooms, volumes_of(set, units).unwrap_or(&[])))
+        }
+        (VolumePlan::NotCoded, None) if rooms.len() > 1 => Some(most_in(rooms)),
+        _ => None,
+    }
+}
+
 /// How many tracks the sets ask a volume for that the first so many DDs of a step make.
-fn asked_of(step: &StepPlan, count: usize, units: &[Listed<Serial>], serial: Serial) -> usize {
+fn asked_of(
+    step: &StepPlan,
+    count: usize,
+    units: &[Listed<Serial>],
+    rooms: &[Room],
+    serial: Serial,
+) -> usize {
     let mut asked: usize = 0;
     for dd in step.dds.as_slice().iter().take(count) {
         if let Some((set, tracks)) = made_by(&dd.kind) {
-            if only_volume(set, units) == Some(serial) {
+            if only_volume(set, units, rooms) == Some(serial) {
                 asked = asked.saturating_add(tracks);
             }
         }
@@ -87,7 +120,10 @@ fn words_of(
 ) -> Result<Vec<u8>, AllocError> {
     let mut words = Vec::from_slice(
         alloc,
-        b"the sets that the step makes up to this DD ask for ",
+        match serial {
+            Some(_) => b"the sets that the step makes up to this DD ask for ".as_slice(),
+            None => b"the set asks for ".as_slice(),
+        },
     )?;
     push_number(&mut words, asked)?;
     match serial {
@@ -97,11 +133,14 @@ fn words_of(
             words.extend_from_slice(b", which has ")?;
         }
         None => words.extend_from_slice(
-            b" tracks of a volume of the unit, of which none has more than ",
+            b" tracks, and no volume on which it may be made has more than ",
         )?,
     }
     push_number(&mut words, most)?;
-    words.extend_from_slice(b": it can never fit")?;
+    words.extend_from_slice(match serial {
+        Some(_) => b": they can never fit".as_slice(),
+        None => b": it can never fit".as_slice(),
+    })?;
     Ok(words)
 }
 
@@ -114,26 +153,20 @@ fn in_vain(
     units: &[Listed<Serial>],
     rooms: &[Room],
 ) -> Option<(usize, Option<Serial>, usize)> {
-    match only_volume(set, units) {
-        Some(serial) => {
-            let asked = asked_of(step, d.saturating_add(1), units, serial);
-            let most = tracks_of(rooms, serial);
-            if asked > most {
-                Some((asked, Some(serial), most))
-            } else {
-                None
-            }
-        }
-        None => {
-            let volumes = volumes_of(set, units);
-            let most = most_of(rooms, volumes);
-            let is_listed = matches!(set.volume, VolumePlan::NotCoded) && !volumes.is_empty();
-            if is_listed && tracks > most {
-                Some((tracks, None, most))
-            } else {
-                None
-            }
-        }
+    if let Some(serial) = only_volume(set, units, rooms) {
+        let asked = asked_of(step, d.saturating_add(1), units, rooms, serial);
+        let most = tracks_of(rooms, serial)?;
+        return if asked > most {
+            Some((asked, Some(serial), most))
+        } else {
+            None
+        };
+    }
+    let most = most_for(set, units, rooms)?;
+    if tracks > most {
+        Some((tracks, None, most))
+    } else {
+        None
     }
 }
 

@@ -1,8 +1,8 @@
 //! What a job warns of.
-use crate::names::{same_dd, same_step};
+use crate::names::{is_same_step, push_step_name, same_dd};
 use crate::requests::{Denied, first_denied};
 use crate::spaces::{Room, never_fits};
-use jcl_plan::plan::{DdKind, JobPlan, StepPlan};
+use jcl_plan::plan::{DdKind, JobPlan, Status, StepPlan};
 use jname_core::serial::Serial;
 use plain::listed::Listed;
 use prog_core::library::ProgramLibrary;
@@ -26,13 +26,18 @@ pub struct Configured<'a, 'b, 'c> {
     pub rooms: &'c [Room],
 }
 
+/// The most warnings of one job.
+pub const MOST_WARNINGS: usize = 100;
+
 /// What is written of a DD that is only read.
 fn only_read(step: &StepPlan, dd: usize) -> &'static [u8] {
     match step.dds.as_slice().get(dd) {
         Some(plan) => match &plan.kind {
             DdKind::Cards(_) => b", which has cards: ABEND SFF1",
-            DdKind::Set(_) =>
-                b", which DISP=SHR or a concatenation allows only to read: ABEND SFF1",
+            DdKind::Set(set) => match set.status {
+                Status::Shr => b", which DISP=SHR allows only to read: ABEND SFF1",
+                _ => b", which is a concatenation: ABEND SFF1",
+            },
             _ => b", which is a concatenation: ABEND SFF1",
         },
         None => b": ABEND SFF1",
@@ -93,12 +98,14 @@ fn warn_of_step(
     n: usize,
     step: &StepPlan,
 ) -> Result<Option<JobWarning>, AllocError> {
-    let Some(name) = same_step(plan.steps.as_slice(), n, step) else {
+    if !is_same_step(plan.steps.as_slice(), n, step) {
         return Ok(None);
-    };
+    }
     let mut words = Vec::from_slice(alloc, b"a step before it is ")?;
-    words.extend_from_slice(name.as_slice())?;
-    words.extend_from_slice(b" too: a reference or a test means the first of them")?;
+    push_step_name(&mut words, step)?;
+    words.extend_from_slice(
+        b" too: a reference or a test means the last of them that is before it",
+    )?;
     Ok(Some(JobWarning {
         step: n.saturating_add(1),
         dd: None,
@@ -161,7 +168,7 @@ fn warn_of(
     put(warned, Some(warning))
 }
 
-/// What a job of this plan warns of, step by step.
+/// What a job of this plan warns of, step by step, a hundred warnings at most.
 pub fn warnings_of(
     alloc: Global,
     plan: &JobPlan,
@@ -170,6 +177,10 @@ pub fn warnings_of(
     let mut warned = Vec::new(alloc);
     for (n, step) in plan.steps.as_slice().iter().enumerate() {
         warn_of(alloc, plan, n, step, configured, &mut warned)?;
+        if warned.len() >= MOST_WARNINGS {
+            break;
+        }
     }
+    warned.truncate(MOST_WARNINGS);
     Ok(warned)
 }

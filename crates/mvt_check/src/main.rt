@@ -3,9 +3,12 @@
 
 mod above;
 mod answers;
+mod asides;
 mod brief;
+mod known;
 mod program;
 mod session;
+mod trials;
 
 use crate::program::{Wishes, mvt_check, run_program};
 use command_line::ended::{end_asked, end_unread, prompt};
@@ -38,6 +41,7 @@ fn main(rt: HostRuntime) -> ExitCode {
                     Wishes {
                         brief: asked.has("brief"),
                         deck: asked.has("deck"),
+                        again: asked.has("again"),
                     },
                     &mut source,
                     &mut sink,

@@ -28,6 +28,10 @@ pub(crate) fn mvt_check<'a>() -> Program<'a> {
                 help: "Write one line for each finding: LINE:COLUMN: and what it is",
             },
             Flag {
+                name: "again",
+                help: "Say of each ASSURED job what it is answered when it is run a second time",
+            },
+            Flag {
                 name: "deck",
                 help: "Read from the first card on one deck, whose lines count from 1, without ./ READ and ./ END",
             },
@@ -36,11 +40,13 @@ pub(crate) fn mvt_check<'a>() -> Program<'a> {
     }
 }
 
-/// What is asked for beside the options of a session: that what is found is written in brief, and that a deck which stands alone is looked at.
+/// What is asked for beside the options of a session: that what is found is written in brief, that a deck which stands alone is looked at, and that jobs are
+/// tried a second time.
 #[derive(Clone, Copy)]
 pub(crate) struct Wishes {
     pub(crate) brief: bool,
     pub(crate) deck: bool,
+    pub(crate) again: bool,
 }
 
 /// What is written of a text: all of it, or a line for each finding.
@@ -55,11 +61,16 @@ fn shown(alloc: Global, text: Vec<u8>, brief: bool) -> Result<Vec<u8>, AllocErro
 }
 
 /// Looks at what was read, which is a session, or a session and a deck behind it.
-fn found_in(alloc: Global, options: Options, deck: bool, input: Input) -> Result<Found, AllocError>
-    ensures { IfOk result (IsFoundIn options deck input.ending input.text.items) }
+fn found_in(
+    alloc: Global,
+    options: Options,
+    wishes: Wishes,
+    input: Input,
+) -> Result<Found, AllocError>
+    ensures { IfOk result (IsFoundIn options wishes.deck input.ending input.text.items) }
 {
     let Input { text, ending } = input;
-    let framed = frame(alloc, text, ending, deck)?;
+    let framed = frame(alloc, text, ending, wishes.deck)?;
     let statements = statements(alloc, framed.text.as_slice(), ending)?;
     check_session(
         alloc,
@@ -67,6 +78,7 @@ fn found_in(alloc: Global, options: Options, deck: bool, input: Input) -> Result
         framed.above,
         statements.as_slice(),
         options,
+        wishes.again,
     )
 }
 
@@ -110,7 +122,7 @@ pub(crate) fn run_program<R: Read, W: Write, E: Write>(
     let Ok(input) = read_text(alloc, source) else {
         return end_out_of_memory(errors);
     };
-    let Ok(found) = found_in(alloc, options, wishes.deck, input) else {
+    let Ok(found) = found_in(alloc, options, wishes, input) else {
         return end_out_of_memory(errors);
     };
     let fails = found.fails();

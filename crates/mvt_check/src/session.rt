@@ -12,20 +12,17 @@ ghost use Rattle.mvt_check.specs.Checking.{AddsAll, AddsDeck, AddsEvent, AddsFou
 use crate::above::{is_above, text_above, told_line};
 use crate::answers::answer::{Answer, Answers, DeckRead};
 use crate::answers::session::answers_of;
-use crate::answers::words::push_answer;
+use crate::asides::{Aside, Taken, job_asides};
 use crate::brief::count_warnings;
+use crate::known::{Known, Site, rooms_of, trials_of, turns_of};
 use check_core::deck::{Sources, check_deck};
 use check_core::report::Checked;
-use check_core::stands::Stands;
-use check_core::text::{push_card, push_checked};
-use check_core::warnings::{Warned, push_warning, warnings_of};
-use config_core::start::Fixed;
+use check_core::text::push_checked;
+use check_core::warnings::{Warned, push_warned, warnings_of};
 use itoa::Buffer;
-use jcl_meaning::program::is_iefbr14;
-use jcl_plan::plan::JobPlan;
-use jname_core::name8::Name8;
 use plain::lent::Lent;
 use plain::text::Text;
+use play_core::play::added_events;
 use run_options::Options;
 use session_core::SessionFault;
 use session_core::open::{Opened, open};
@@ -213,180 +210,6 @@ fn found_by(
     }
 }
 
-/// Whether an initiator selects from the class.
-fn is_taken(fixed: &Fixed, class: u8) -> bool {
-    fixed
-        .initiators
-        .as_slice()
-        .iter()
-        .any(|initiator| initiator.classes.as_slice().contains(&class))
-}
-
-/// A deck that denotes a job: the line of the session on which its first card stands, its lines, and the job.
-#[derive(Clone, Copy)]
-struct Taken<'a, 'b> {
-    first: usize,
-    lines: &'a [Lent<'b>],
-    plan: &'a JobPlan,
-}
-
-/// What is told of a job at a card of its deck, which counts from 0.
-#[derive(Drop)]
-struct Aside {
-    card: usize,
-    text: Vec<u8>,
-}
-
-/// Puts it behind what is told at this card or before it.
-fn put_aside(asides: &mut Vec<Aside>, aside: Aside) -> Result<(), AllocError> {
-    let behind = asides
-        .iter()
-        .take_while(|other| other.card <= aside.card)
-        .count();
-    asides.insert(behind.min(asides.len()), aside)?;
-    Ok(())
-}
-
-/// A warning at this card of a deck whose first card stands on this line.
-fn warning_at(alloc: Global, first: usize, card: usize, words: &[u8]) -> Result<Aside, AllocError> {
-    let mut text = Vec::new(alloc);
-    push_warning(&mut text, first.saturating_add(card), words)?;
-    Ok(Aside { card, text })
-}
-
-/// Warns of a class that no initiator takes.
-fn warn_of_class(
-    alloc: Global,
-    fixed: &Fixed,
-    deck: Taken<'_, '_>,
-    asides: &mut Vec<Aside>,
-) -> Result<(), AllocError> {
-    if is_taken(fixed, deck.plan.class) {
-        return Ok(());
-    }
-    let mut words = *b"no initiator takes class ?: the job waits for one";
-    words[25] = deck.plan.class;
-    put_aside(asides, warning_at(alloc, deck.first, 0, words.as_slice())?)
-}
-
-/// What is said of a program that is not there.
-fn no_program(alloc: Global, program: &Name8) -> Result<Vec<u8>, AllocError> {
-    let mut words = Vec::from_slice(alloc, b"there is no program ")?;
-    words.extend_from_slice(program.as_slice())?;
-    words.extend_from_slice(b": its step ends with ABEND S806")?;
-    Ok(words)
-}
-
-/// Warns of each program that is not there, at the EXEC statement that runs it.
-fn warn_of_programs(
-    alloc: Global,
-    fixed: &Fixed,
-    deck: Taken<'_, '_>,
-    stands: &Stands<'_>,
-    asides: &mut Vec<Aside>,
-) -> Result<(), AllocError> {
-    for (n, step) in deck.plan.steps.as_slice().iter().enumerate() {
-        if !is_iefbr14(&step.program) && !fixed.programs.has(&step.program) {
-            let words = no_program(alloc, &step.program)?;
-            let card = stands.step_card(n.saturating_add(1)).unwrap_or(0);
-            put_aside(
-                asides,
-                warning_at(alloc, deck.first, card, words.as_slice())?,
-            )?;
-        }
-    }
-    Ok(())
-}
-
-/// What is known of a session: what it configures, what became of its decks, and how many lines are above a deck that stands alone.
-#[derive(Clone, Copy)]
-struct Known<'a, 'b> {
-    fixed: &'a Fixed,
-    answers: &'b Answers,
-    above: usize,
-}
-
-/// What admission answers the job of a deck, if it came so far.
-fn answer_of<'a>(answers: &'a Answers, deck: &DeckRead) -> Option<&'a Answer> {
-    match deck.job {
-        Some(job) => answers.of_job(job),
-        None => None,
-    }
-}
-
-/// The card of which an answer tells, if it tells of one: that of the DD which may fail, or of the step that has too many paths.
-fn card_of(stands: &Stands<'_>, plan: &JobPlan, answer: Option<&Answer>) -> Option<usize> {
-    match answer {
-        Some(Answer::Risk { step, dd, .. }) => stands.dd_card(plan, *step, *dd),
-        Some(Answer::TooMany(step)) => stands.step_card(*step),
-        _ => None,
-    }
-}
-
-/// What is said of a card, with the card behind its first line.
-fn with_card(alloc: Global, said: &[u8], card: &[u8]) -> Result<Vec<u8>, AllocError> {
-    let line = said.iter().take_while(|c| **c != b'\n').count();
-    let (first, behind) = said.split_at(line.saturating_add(1).min(said.len()));
-    let mut text = Vec::from_slice(alloc, first)?;
-    push_card(&mut text, card)?;
-    text.extend_from_slice(behind)?;
-    Ok(text)
-}
-
-/// What admission answers the job of a deck, at the card of which it tells, or at the first.
-fn answer_at(
-    alloc: Global,
-    known: Known<'_, '_>,
-    deck: Taken<'_, '_>,
-    card: Option<usize>,
-    read: &DeckRead,
-) -> Result<Aside, AllocError> {
-    let place = card.unwrap_or(0);
-    let line = deck.first.saturating_add(place);
-    let mut text = Vec::new(alloc);
-    push_answer(
-        &mut text,
-        line,
-        deck.plan,
-        read.job,
-        answer_of(known.answers, read),
-    )?;
-    let shown = match card {
-        Some(n) => deck.lines.get(n),
-        None => None,
-    };
-    if let Some(shown) = shown {
-        text = with_card(alloc, text.as_slice(), shown.as_slice())?;
-    }
-    Ok(Aside { card: place, text })
-}
-
-/// What else is told of a job, card by card: what is not configured for it, and what admission answers it.
-fn job_asides(
-    alloc: Global,
-    known: Known<'_, '_>,
-    deck: Taken<'_, '_>,
-    read: Option<DeckRead>,
-) -> Result<Vec<Aside>, AllocError> {
-    let stands = Stands::of(alloc, &known.fixed.library, deck.lines)?;
-    let mut asides = Vec::new(alloc);
-    warn_of_class(alloc, known.fixed, deck, &mut asides)?;
-    warn_of_programs(alloc, known.fixed, deck, &stands, &mut asides)?;
-    if let Some(read) = read {
-        let card = card_of(&stands, deck.plan, answer_of(known.answers, &read));
-        put_aside(&mut asides, answer_at(alloc, known, deck, card, &read)?)?;
-    }
-    Ok(asides)
-}
-
-/// Writes these warnings.
-fn push_warned(text: &mut Vec<u8>, first: usize, warned: &[Warned]) -> Result<(), AllocError> {
-    for warning in warned {
-        push_warning(text, first.saturating_add(warning.card), warning.words)?;
-    }
-    Ok(())
-}
-
 /// How many warnings in front are of cards up to this one.
 fn count_up_to(warned: &[Warned], card: usize) -> usize {
     warned
@@ -413,22 +236,21 @@ fn push_in_order(
     push_warned(text, first, left)
 }
 
-/// What else is told of a deck: what it warns of, and what is told of its job, in the order of cards.
+/// What else is told of a deck that denotes a job: what it warns of, and what is told of its job, in the order of cards.
 fn asides_of(
     alloc: Global,
-    known: Known<'_, '_>,
+    known: Known<'_, '_, '_, '_, '_>,
     first: usize,
     lines: &[Lent<'_>],
     checked: &Checked,
+    warned: &[Warned],
     deck: Option<DeckRead>,
 ) -> Result<Vec<u8>, AllocError> {
-    let warned = warnings_of(alloc, lines, checked)?;
-    let asides = match checked {
-        Checked::Taken(plan) => job_asides(alloc, known, Taken { first, lines, plan }, deck)?,
-        Checked::Refused { .. } => Vec::new(alloc),
-    };
     let mut text = Vec::new(alloc);
-    push_in_order(&mut text, first, warned.as_slice(), asides.as_slice())?;
+    if let Checked::Taken(plan) = checked {
+        let asides = job_asides(alloc, known, Taken { first, lines, plan }, deck)?;
+        push_in_order(&mut text, first, warned, asides.as_slice())?;
+    }
     Ok(text)
 }
 
@@ -445,7 +267,7 @@ fn is_refused(checked: &Checked) -> bool
 /// Writes what was found of a deck, whose first card stands on this line of the session, and tells whether it is refused.
 fn tell_deck(
     alloc: Global,
-    known: Known<'_, '_>,
+    known: Known<'_, '_, '_, '_, '_>,
     first: usize,
     lines: &[Lent<'_>],
     checked: &Checked,
@@ -455,8 +277,10 @@ fn tell_deck(
     ensures refused { IfOk result (λ refused. refused ≡ is_refused_so checked.now) }
     ensures added { OnOk result (AddsFound first lines.now checked.now text.old.items text.new.items) }
 {
-    let asides = asides_of(alloc, known, first, lines, checked, deck)?;
-    push_checked(text, first, lines, checked)?;
+    let warned = warnings_of(alloc, lines, checked)?;
+    let warned = warned.as_slice();
+    let asides = asides_of(alloc, known, first, lines, checked, warned, deck)?;
+    push_checked(text, first, lines, checked, warned)?;
     text.extend_from_slice(asides.as_slice())?;
     Ok(is_refused(checked))
 }
@@ -465,7 +289,7 @@ fn tell_deck(
 fn check_lines(
     alloc: Global,
     sources: &Sources<'_>,
-    known: Known<'_, '_>,
+    known: Known<'_, '_, '_, '_, '_>,
     first: usize,
     lines: &[Lent<'_>],
     deck: Option<DeckRead>,
@@ -482,7 +306,7 @@ fn check_lines(
 fn check_event(
     alloc: Global,
     sources: &Sources<'_>,
-    known: Known<'_, '_>,
+    known: Known<'_, '_, '_, '_, '_>,
     first: usize,
     event: &Event<'_>,
     deck: Option<DeckRead>,
@@ -504,7 +328,7 @@ fn check_event(
 fn check_read(
     alloc: Global,
     sources: &Sources<'_>,
-    known: Known<'_, '_>,
+    known: Known<'_, '_, '_, '_, '_>,
     line: usize,
     event: &Event<'_>,
     deck: Option<DeckRead>,
@@ -532,7 +356,7 @@ fn check_read(
 fn check_statement(
     alloc: Global,
     sources: &Sources<'_>,
-    known: Known<'_, '_>,
+    known: Known<'_, '_, '_, '_, '_>,
     statement: &Statement<'_>,
     deck: Option<DeckRead>,
     text: &mut Vec<u8>,
@@ -576,7 +400,7 @@ fn deck_at(decks: &[DeckRead], place: usize, statement: usize) -> Option<DeckRea
 fn check_statements(
     alloc: Global,
     sources: &Sources<'_>,
-    known: Known<'_, '_>,
+    known: Known<'_, '_, '_, '_, '_>,
     statements: &[Statement<'_>],
     text: &mut Vec<u8>,
 ) -> Result<(bool, usize), AllocError>
@@ -693,7 +517,7 @@ fn names_in(alloc: Global, statements: &[Statement<'_>]) -> Result<Names, AllocE
 /// Looks at the decks of a session whose configuration has no fault, behind what is found of it already.
 fn check_opened(
     alloc: Global,
-    known: &Known<'_, '_>,
+    known: &Known<'_, '_, '_, '_, '_>,
     statements: &[Statement<'_>],
     found: &mut Found,
 ) -> Result<(), AllocError>
@@ -720,6 +544,36 @@ fn check_opened(
     Ok(())
 }
 
+/// What the jobs of a session that is opened are compared with.
+fn site_of(
+    alloc: Global,
+    opened: &Opened,
+    answers: &Answers,
+    statements: &[Statement<'_>],
+    options: Options,
+    again: bool,
+) -> Result<Site, AllocError> {
+    let trials = trials_of(alloc, answers, statements, options, again)?;
+    let given = if trials.is_empty() {
+        Vec::new(alloc)
+    } else {
+        added_events(alloc, statements, options)?
+    };
+    let Names {
+        units,
+        procedures: _,
+        lines: _,
+    } = names_in(alloc, statements)?;
+    Ok(Site {
+        rooms: rooms_of(alloc, opened.store.volumes.as_slice())?,
+        turns: turns_of(alloc, statements, opened.from)?,
+        units,
+        given,
+        options,
+        trials,
+    })
+}
+
 /// Looks at the decks of a session that is opened. Its own fault, if it has one, is told first.
 fn found_opened(
     alloc: Global,
@@ -728,15 +582,19 @@ fn found_opened(
     above: usize,
     statements: &[Statement<'_>],
     options: Options,
+    again: bool,
 ) -> Result<Found, AllocError>
     requires { IsOpened statements.now opened.now }
     ensures { IfOk result (IsLookedAt options above statements.now) }
 {
     let answers = answers_of(alloc, statements, options)?;
+    let site = site_of(alloc, opened, &answers, statements, options, again)?;
     let mut found = found_by(alloc, input, above, later_fault(opened, statements))?;
     let known = Known {
         fixed: &opened.fixed,
         answers: &answers,
+        site: &site,
+        statements,
         above,
     };
     check_opened(alloc, &known, statements, &mut found)?;
@@ -750,11 +608,12 @@ pub(crate) fn check_session(
     above: usize,
     statements: &[Statement<'_>],
     options: Options,
+    again: bool,
 ) -> Result<Found, AllocError>
     ensures { IfOk result (IsFound options above statements.now) }
 {
     match open(alloc, statements) {
-        Ok(opened) => found_opened(alloc, input, &opened, above, statements, options),
+        Ok(opened) => found_opened(alloc, input, &opened, above, statements, options, again),
         Err(why) => found_unopened(alloc, input, above, why),
     }
 }

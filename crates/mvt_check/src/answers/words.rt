@@ -84,6 +84,27 @@ fn said_of(alloc: Global, plan: &JobPlan, answer: Option<&Answer>) -> Result<Vec
     Ok(text)
 }
 
+/// What is answered once more, with the line's end.
+pub(crate) fn push_verdict(
+    text: &mut Vec<u8>,
+    plan: &JobPlan,
+    answer: &Answer,
+) -> Result<(), AllocError> {
+    match answer {
+        Answer::Assured { .. } => text.extend_from_slice(b" is ASSURED\n"),
+        Answer::SpaceWait(serial) => {
+            text.extend_from_slice(b" waits for space (WAIT SPACE) on volume ")?;
+            text.extend_from_slice(serial.as_slice())?;
+            text.extend_from_slice(b"\n")
+        }
+        _ => {
+            let said = said_of(*text.allocator(), plan, Some(answer))?;
+            text.extend_from_slice(verdict_of(Some(answer)))?;
+            text.extend_from_slice(said.as_slice())
+        }
+    }
+}
+
 /// The number of a job, if it has one, and a blank.
 fn push_job_number(text: &mut Vec<u8>, job: Option<u16>) -> Result<(), AllocError>
     ensures { OnOk result (text.new.items ≡ text.old.items ++ number_text job) }

@@ -9,7 +9,7 @@ returns c =
     let o = c.args.options in
     let input = c.args.input in
     let framed = c.in_ok-framed.framed in
-    IfOk-weaker c.check_session.result (IsFound o framed.above c.as_slice-3.result.now) (IsFoundIn o c.args.deck input.ending input.text.items)
+    IfOk-weaker c.check_session.result (IsFound o framed.above c.as_slice-3.result.now) (IsFoundIn o c.args.wishes.deck input.ending input.text.items)
     (λ found so. record {
       framed = framed;
       frames = c.in_ok-framed.ensures;
