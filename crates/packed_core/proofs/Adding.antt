@@ -1,5 +1,5 @@
 -- A scene more among those of views.
-use Rattle.std.proofs.Common.{◌≡◌, inl, inr, ◌++◌, ◌∷◌, ◌∙◌, ◌<◌, ◌≤◌, ℕ, List, [], Some, length, sym, ap, arith, length-append}
+use Rattle.std.proofs.Common.{◌≡◌, inl, inr, ◌++◌, ◌∷◌, ◌∙◌, ◌<◌, ◌≤◌, ℕ, List, [], None, Some, length, sym, ap, arith, length-append}
 use Rattle.std.specs.Prelude.{slice_get, slice_index_or}
 use Rattle.std.proofs.lemmas.Bool.{cases_lt}
 use Rattle.std.proofs.lemmas.List.{map-append}
@@ -8,6 +8,7 @@ use Rattle.jcl_plan.specs.declared.plan.JobPlan.{JobPlan}
 use Rattle.view_core.specs.declared.scene.Scene.{Scene}
 use Rattle.packed_core.specs.Entries.{Entry, scenes_of}
 use Rattle.packed_core.specs.Rows.{row_at}
+use Rattle.packed_core.specs.Scenes.{FindsScene, HasScene}
 use Rattle.packed_core.specs.Shown.{AreApart, alone}
 use Rattle.packed_core.specs.Views.{AreRows}
 use Rattle.packed_core.proofs.Places.{got_back, got_below, got_last}
@@ -32,3 +33,11 @@ rows_more plan part n m rows h are = record {
   numbered = λ i below. let l : slice_index_or (row_at rows i) 0 0 < n = are.numbered i below in omega arith;
   packed = are.packed;
 }
+
+-- a scene that shows the same stands in its place
+module _ (plan : JobPlan) (date k : ℕ) (scenes : List Scene) (a b : Scene) (same : alone plan date k a ≡ alone plan date k b) where
+  pub finds_as : FindsScene plan date k scenes a None → FindsScene plan date k scenes b None
+  finds_as none i w at alike = none i w at (alike ∙ sym same)
+
+  pub has_as : (n : ℕ) → HasScene plan date k scenes a n → HasScene plan date k scenes b n
+  has_as n h = record { one = h.one; there = h.there; same = h.same ∙ same }

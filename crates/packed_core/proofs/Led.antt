@@ -137,8 +137,8 @@ module _ {V : Type 0} (row_of : V → List ℕ) (plan : JobPlan) (fixed : Fixed)
         (subst (λ (n : ℕ). TellsByAbend shows (told_shown plan fixed.date n) there (met_of (room_at plan n) row) end b) at h)
 
     pub led_ended : fate_shown (length plan.tests.items) step v ≡ fate.Run →
-        (places : Vec Place Global) (end abend_end : Result Scene Stop) (by_code by_abend : Branch V) →
-        HasMade fixed (k + 1) step v.scene v.abended places.items →
+        (places : List Place) (end abend_end : Result Scene Stop) (by_code by_abend : Branch V) →
+        HasMade fixed (k + 1) step v.scene v.abended places →
         HasEnded fixed (k + 1) step v.scene v.abended (outcome.Code 0) end →
         HasEnded fixed (k + 1) step v.scene v.abended (outcome.Abend (User 0)) abend_end →
         LeadsByCode row_of plan fixed.date behind row end by_code → LeadsByAbend row_of plan fixed.date behind row abend_end by_abend →

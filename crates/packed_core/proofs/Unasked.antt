@@ -1,5 +1,5 @@
 -- Steps that ask for no volume need not be looked through.
-use Rattle.std.proofs.Common.{◌≡◌, ◌∷◌, ◌∙◌, ◌+◌, ℕ, zero, suc, Bool, true, false, List, [], None, ap, refl, sym}
+use Rattle.std.proofs.Common.{◌≡◌, ◌∷◌, ◌∙◌, ◌+◌, ◌≤◌, arith, ℕ, zero, suc, Bool, true, false, List, [], None, ap, refl, sym}
 use Rattle.std.specs.Prelude.{◌||◌, drop, take, if◌then◌else◌}
 use Rattle.std.specs.List.{list_any}
 use Rattle.jcl_plan.specs.declared.plan.DdKind.{DdKind}
@@ -12,7 +12,9 @@ use Rattle.jcl_meaning.specs.Parts.{part_of}
 use Rattle.jcl_meaning.specs.Stores.{store_of}
 use Rattle.jcl_meaning.specs.Takes.{dd_volume}
 use Rattle.jcl_meaning.specs.Views.{kind_refers, refers, shown_set, steps_refer}
+use Rattle.jcl_meaning.specs.declared.names.HeldName.{HeldName}
 use Rattle.view_core.specs.declared.scene.Scene.{Scene}
+use Rattle.view_core.specs.Same.{shown_alone}
 use Rattle.packed_core.specs.Asking.{AskUpTo, asks, kind_asks}
 use Rattle.packed_core.specs.Shown.{ShowsAlike}
 
@@ -82,3 +84,31 @@ one_less steps n s at not none step dd =
     ap (λ (l : List StepPlan). steps_refer l step dd) at
     ∙ or_none (list_any (λ (d : DdPlan). kind_refers d.kind step dd) s.dds) (steps_refer (drop (n + 1) steps) step dd) (dds_not s.dds step dd not)
     (none step dd)
+
+none_further : {X : Type 0} (f : X → Bool) (xs : List X) (n k : ℕ) → n ≤ k → list_any f (drop n xs) ≡ false → list_any f (drop k xs) ≡ false
+none_further f xs zero k h e = none_behind f xs k e
+none_further f [] (suc n) zero h e = refl
+none_further f [] (suc n) (suc k) h e = refl
+none_further f (x ∷ xs) (suc n) zero h e = absurd (omega (arith, h))
+none_further f (x ∷ xs) (suc n) (suc k) h e = none_further f xs n k (omega (arith, h)) e
+
+-- where no step behind a part asks for one, volumes are not seen
+pub without_volumes : (steps : List StepPlan) (n part : ℕ) (s : Scene) → n ≤ part → AskUpTo steps n → (names : List HeldName) (date : ℕ) →
+    shown_alone names date (drop part steps) (record { store = s.store; passed = s.passed; volumes = [] }) ≡ shown_alone names date (drop part steps) s
+without_volumes steps n part s h none names date = λ i. record {
+  sets = λ key serial. shown_set ((part_of names (store_of s.store)).set key serial) date;
+  catalog = (part_of names (store_of s.store)).catalog;
+  passed = s.passed;
+  volumes = λ step dd. unseen step dd i;
+  abended = false;
+  job_tests = [];
+  step_tests = [];
+}
+  where
+    unseen : (step dd : ℕ) → (if steps_refer (drop part steps) step dd then dd_volume [] step dd else None)
+        ≡ (if steps_refer (drop part steps) step dd then dd_volume s.volumes step dd else None)
+    unseen step dd =
+        let not : steps_refer (drop part steps) step dd ≡ false =
+        none_further (λ (x : StepPlan). list_any (λ (d : DdPlan). kind_refers d.kind step dd) x.dds) steps n part h (none step dd) in
+        ap (λ (b : Bool). if b then dd_volume [] step dd else None) not
+        ∙ sym (ap (λ (b : Bool). if b then dd_volume s.volumes step dd else None) not)

@@ -30,7 +30,7 @@ pub record HasPlaced (plan : JobPlan) (fixed : Fixed) (k : ℕ) (behind : List S
 
 abbrev pub ArePlaced : JobPlan → Fixed → ℕ → List Scene → StepPlan → Scene → Bool → Placed → Type 0
 ArePlaced plan fixed k behind step scene abend (placed.Refused stop) = HasStopped fixed (k + 1) step scene abend stop
-ArePlaced plan fixed k behind step scene abend (placed.Ended made by_code by_abend) = HasMade fixed (k + 1) step scene abend made.items
+ArePlaced plan fixed k behind step scene abend (placed.Ended made by_code by_abend) = HasMade fixed (k + 1) step scene abend made
     × HasPlaced plan fixed k behind step scene abend (outcome.Code 0) by_code
     × HasPlaced plan fixed k behind step scene abend (outcome.Abend (User 0)) by_abend
 

@@ -5,7 +5,6 @@ ghost use Rattle.view_domain.specs.declared.crossed.Stop.{Stop};
 ghost use Rattle.view_domain.specs.Crossings.{IsCrossed};
 ghost use Rattle.view_core.specs.declared.scene.Scene.{Scene};
 ghost use Rattle.view_core.specs.Bits.{fate_shown};
-ghost use Rattle.view_core.specs.Legs.{end_of};
 ghost use Rattle.view_core.specs.Shows.{Shows};
 ghost use Rattle.packed_core.specs.Crossing.{HasSameBits, IsLedTo, IsPassed, IsPlaced, IsRenumbered, IsStep, LeadsByAbend, LeadsByCode, NamesScene, row_shows};
 ghost use Rattle.packed_core.specs.Moving.{all_shown, shown_among};
@@ -28,9 +27,10 @@ use crate::words::{bit_of, clear, number_in, some_bit};
 use jcl_meaning::history::fate;
 use jcl_plan::outcome::Fate;
 use jcl_plan::plan::StepPlan;
+use plain::listed::Listed;
+use plain::shared::Shared;
 use std::alloc::{AllocError, Global};
 use std::marker::PhantomData;
-use std::rc::Rc;
 use view_core::legs::{Legs, legs_of};
 use view_core::same::drop_first;
 use view_core::scene::Scene;
@@ -95,16 +95,17 @@ impl<'a, J: Job + Drop> PackedDomain<'a, J> {
     /// The number of the scene that a step leaves, or the fault that it meets.
     fn place_end(
         &self,
+        alloc: Global,
         behind: &mut PackedViews<'a, J>,
-        end: Result<Rc<Scene>, Stop>,
+        end: Result<Scene, Stop>,
         hint: usize,
     ) -> Result<Result<usize, Stop>, AllocError>
         ensures more { OnOk result (HasMoreScenes behind.old behind.new) }
-        ensures placed { IfOk result (IsPlaced J.plan J.fixed.date behind.new (end_of (λ scene. scene.value) end)) }
+        ensures placed { IfOk result (IsPlaced J.plan J.fixed.date behind.new end) }
     {
         match end {
             Err(stop) => Ok(Err(stop)),
-            Ok(scene) => Ok(Ok(self.put_scene(behind, &scene, hint)?)),
+            Ok(scene) => Ok(Ok(self.put_new(alloc, behind, scene, hint)?)),
         }
     }
 
@@ -182,10 +183,10 @@ impl<'a, J: Job + Drop> PackedDomain<'a, J> {
                 by_code,
                 by_abend,
             } => {
-                let code = self.place_end(behind, by_code, n)?;
-                let abend = self.place_end(behind, by_abend, n)?;
+                let code = self.place_end(alloc, behind, by_code, n)?;
+                let abend = self.place_end(alloc, behind, by_abend, n)?;
                 Ok(Placed::Ended {
-                    made,
+                    made: Shared::new(alloc, Listed::new(made))?,
                     by_code: code,
                     by_abend: abend,
                 })
@@ -213,14 +214,14 @@ impl<'a, J: Job + Drop> PackedDomain<'a, J> {
             ArePlaced J.plan J.fixed before.old.part behind.new.scenes step.now scene abended it) }
     {
         if let Some(known) = behind.placed_on(before, n, abended) {
-            return placed_again(alloc, known);
+            return placed_again(known);
         }
         let placed = self.place_step(alloc, before, n, step, abended, behind)?;
         if before.are_few() {
             return Ok(placed);
         }
         before.tell(alloc, self.seals)?;
-        let again = placed_again(alloc, &placed)?;
+        let again = placed_again(&placed)?;
         behind.note_placed(alloc, before, n, abended, again)?;
         Ok(placed)
     }

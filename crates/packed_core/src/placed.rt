@@ -8,6 +8,7 @@ ghost use Rattle.packed_core.specs.Placed.{AreKnown, ArePlaced, HasNoMore, HasPu
 ghost use Rattle.packed_core.specs.Scenes.{HasScene};
 
 use jcl_meaning::state::Place;
+use plain::shared::Shared;
 use std::alloc::{AllocError, Global};
 use view_domain::crossed::Stop;
 
@@ -18,7 +19,7 @@ pub enum Placed {
     Refused(Stop),
     /// It made these sets, and by a code and by an ABEND left a scene each, or a disposition met a fault.
     Ended {
-        made: Vec<Place>,
+        made: Shared<Place>,
         by_code: Result<usize, Stop>,
         by_abend: Result<usize, Stop>,
     },
@@ -34,7 +35,7 @@ pub struct Known {
 }
 
 /// The same once more.
-pub(crate) fn placed_again(alloc: Global, placed: &Placed) -> Result<Placed, AllocError>
+pub(crate) fn placed_again(placed: &Placed) -> Result<Placed, AllocError>
     ensures { (plan : JobPlan) (fixed : Fixed) (k : ℕ) (behind : List Scene) (step : StepPlan) (scene : Scene) (abend : Bool) →
         ArePlaced plan fixed k behind step scene abend placed.now → IfOk result (ArePlaced plan fixed k behind step scene abend) }
 {
@@ -45,9 +46,8 @@ pub(crate) fn placed_again(alloc: Global, placed: &Placed) -> Result<Placed, All
             by_code,
             by_abend,
         } => {
-            let made = Vec::from_slice(alloc, made.as_slice())?;
             Ok(Placed::Ended {
-                made,
+                made: made.share()?,
                 by_code: *by_code,
                 by_abend: *by_abend,
             })

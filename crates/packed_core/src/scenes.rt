@@ -12,7 +12,8 @@ use crate::views::PackedViews;
 use jcl_meaning::names::HeldName;
 use jcl_plan::day::Day;
 use jcl_plan::plan::StepPlan;
-use std::alloc::AllocError;
+use plain::listed::Listed;
+use std::alloc::{AllocError, Global};
 use std::rc::Rc;
 use view_core::same::{drop_first, same_scene, take_first};
 use view_core::scene::Scene;
@@ -73,6 +74,22 @@ impl<'a, J: Job + Drop> PackedDomain<'a, J> {
         self.number_of(views, scene)
     }
 
+    /// Puts a scene behind the others, of which none shows the same, and tells its number.
+    fn push_scene(
+        &self,
+        views: &mut PackedViews<'_, J>,
+        scene: Rc<Scene>,
+    ) -> Result<usize, AllocError>
+        requires new { FindsScene J.plan J.fixed.date views.old.part views.old.scenes scene.value None }
+        ensures more { OnOk result (HasMoreScenes views.old views.new) }
+        ensures there { IfOk result (HasScene J.plan J.fixed.date views.new.part views.new.scenes scene.value) }
+    {
+        let number = views.entries.len();
+        views.sight = None;
+        views.entries.push(entry_of(scene))?;
+        Ok(number)
+    }
+
     /// The number of a scene, which is put behind the others if none of them shows the same.
     pub(crate) fn put_scene(
         &self,
@@ -85,11 +102,41 @@ impl<'a, J: Job + Drop> PackedDomain<'a, J> {
     {
         match self.number_near(views, scene, hint) {
             Some(number) => Ok(number),
+            None => self.push_scene(views, scene.clone()?),
+        }
+    }
+
+    /// A scene without the volumes of DDs, where no step behind the part asks for one: it shows the job the same there.
+    fn lean(&self, alloc: Global, part: usize, scene: Scene) -> Scene
+        ensures { alone J.plan J.fixed.date part result ≡ alone J.plan J.fixed.date part scene }
+    {
+        if part < self.asked {
+            return scene;
+        }
+        let Scene { store, passed, .. } = scene;
+        Scene {
+            store,
+            passed,
+            volumes: Listed::empty(alloc),
+        }
+    }
+
+    /// The same of a scene that a step leaves. As much of it is kept as it shows.
+    pub(crate) fn put_new(
+        &self,
+        alloc: Global,
+        views: &mut PackedViews<'_, J>,
+        scene: Scene,
+        hint: usize,
+    ) -> Result<usize, AllocError>
+        ensures more { OnOk result (HasMoreScenes views.old views.new) }
+        ensures there { IfOk result (HasScene J.plan J.fixed.date views.new.part views.new.scenes scene) }
+    {
+        match self.number_near(views, &scene, hint) {
+            Some(number) => Ok(number),
             None => {
-                let number = views.entries.len();
-                views.sight = None;
-                views.entries.push(entry_of(scene.clone()?))?;
-                Ok(number)
+                let kept = self.lean(alloc, views.part, scene);
+                self.push_scene(views, Rc::new(alloc, kept)?)
             }
         }
     }

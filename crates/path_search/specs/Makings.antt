@@ -28,7 +28,7 @@ abbrev pub made_of : {V : Type 0} → Crossed V → List Place
 made_of (crossed.Stops stop) = []
 made_of crossed.Ends = []
 made_of (crossed.Passes fate view) = []
-made_of (crossed.Runs made by_code by_abend) = made.items
+made_of (crossed.Runs made by_code by_abend) = made
 
 -- these places, and no other, are marked beside those that were
 pub record AreMarked (places : List Place) (old new : Rows) : Type 0 where

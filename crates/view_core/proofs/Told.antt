@@ -1,6 +1,6 @@
 -- The views that a step's moves tell, and the ends of the step that they tell them for.
-use Rattle.std.proofs.Common.{◌≡◌, ◌++◌, ◌∷◌, ◌∙◌, ◌+◌, ◌≤◌, ◌<◌, Global, ℕ, zero, suc, Bool, List, [], drop, length, refl, sym, ap, subst, map, get_or, arith}
-use Rattle.std.specs.Prelude.{All, Contains, Result, Ok, Err, Vec, slice_index_or}
+use Rattle.std.proofs.Common.{◌≡◌, ◌++◌, ◌∷◌, ◌∙◌, ◌+◌, ◌≤◌, ◌<◌, ℕ, zero, suc, Bool, List, [], drop, length, refl, sym, ap, subst, map, get_or, arith}
+use Rattle.std.specs.Prelude.{All, Contains, Result, Ok, Err, slice_index_or}
 use Rattle.std.specs.List.{AllByRecursion}
 use Rattle.std.proofs.lemmas.List.Elements.{All-contains, All-from_recursion, Contains-append_right}
 use Rattle.cond_core.specs.Classes.{IsInClass, IsInOneClass}
@@ -242,8 +242,8 @@ module _ {V : Type 0} (meaning : V → View) (plan : JobPlan) (fixed : Fixed) (k
     }
 
     -- or the step ends
-    pub crossed_ended : (places : Vec Place Global) (end abend_end : Result Scene Stop) (by_code by_abend : Branch V) (there : List View) →
-        HasMade fixed (k + 1) step v.scene v.abended places.items →
+    pub crossed_ended : (places : List Place) (end abend_end : Result Scene Stop) (by_code by_abend : Branch V) (there : List View) →
+        HasMade fixed (k + 1) step v.scene v.abended places →
         HasEnded fixed (k + 1) step v.scene v.abended (outcome.Code 0) end → TellsByCode meaning told_view there (k + 1) kept_here bits_here v.abended end by_code →
         HasEnded fixed (k + 1) step v.scene v.abended (outcome.Abend (User 0)) abend_end → TellsByAbend meaning told_view there bits_here abend_end by_abend →
         IsCrossed meaning plan fixed k there here (crossed.Runs places by_code by_abend)

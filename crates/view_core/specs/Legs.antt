@@ -21,11 +21,6 @@ use Rattle.view_core.specs.Lefts.{LeavesAll, left_actions}
 use Rattle.view_core.specs.Scenes.{IsBegun, state_on}
 use Rattle.view_core.specs.Walks.{EndsIn, StopsIn}
 
--- the scene that is left, which several views may show, or the fault that is met
-abbrev pub end_of : {R : Type 0} → (R → Scene) → Result R Stop → Result Scene Stop
-end_of value (Ok scene) = Ok (value scene)
-end_of value (Err stop) = Err stop
-
 pub record HasEnded (fixed : Fixed) (n : ℕ) (step : StepPlan) (scene : Scene) (abend : Bool) (outcome : Outcome) (end : Result Scene Stop) : Type 0 where
   pub own : Own
   pub begun : IsBegun scene abend own
@@ -45,7 +40,7 @@ pub record HasStopped (fixed : Fixed) (n : ℕ) (step : StepPlan) (scene : Scene
 abbrev pub AreLegs : Fixed → ℕ → StepPlan → Scene → Bool → Legs → Type 0
 AreLegs fixed n step scene abend (legs.Refused stop) = HasStopped fixed n step scene abend stop
 AreLegs fixed n step scene abend (legs.Ended made by_code by_abend) = HasMade fixed n step scene abend made.items
-    × HasEnded fixed n step scene abend (outcome.Code 0) (end_of (λ scene. scene.value) by_code) × HasEnded fixed n step scene abend (outcome.Abend (User 0)) (end_of (λ scene. scene.value) by_abend)
+    × HasEnded fixed n step scene abend (outcome.Code 0) by_code × HasEnded fixed n step scene abend (outcome.Abend (User 0)) by_abend
 
 -- the job's end deals with what was passed and not received: all without a fault, or up to the first that meets one
 pub record EndsJob (fixed : Fixed) (plan : JobPlan) (scene : Scene) (abend : Bool) (stop : Option Stop) : Type 0 where

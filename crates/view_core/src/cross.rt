@@ -13,6 +13,8 @@ use crate::same::drop_first;
 use crate::scene::PlainView;
 use jcl_plan::outcome::Fate;
 use jcl_plan::plan::StepPlan;
+use plain::listed::Listed;
+use plain::shared::Shared;
 use std::alloc::{AllocError, Global};
 use view_domain::crossed::Crossed;
 
@@ -60,7 +62,7 @@ impl<'a> PlainDomain<'a> {
         )?;
         let by_abend = by_abend(alloc, bits, abend_end)?;
         Ok(Crossed::Runs {
-            made,
+            made: Shared::new(alloc, Listed::new(made))?,
             by_code,
             by_abend,
         })

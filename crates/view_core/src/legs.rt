@@ -1,14 +1,10 @@
 //! What a step that runs comes to on a scene, whatever tests are met, and what the job's end does.
-ghost use Rattle.std.specs.Prelude.{◌≡◌, ◌<◌, ℕ, Bool, IfOk};
-ghost use Rattle.jcl_plan.specs.declared.plan.StepPlan.{StepPlan};
-ghost use Rattle.jcl_meaning.specs.States.{Fixed};
-ghost use Rattle.view_core.specs.declared.scene.Scene.{Scene};
+ghost use Rattle.std.specs.Prelude.{◌<◌, IfOk};
 ghost use Rattle.disp_core.specs.Courses.{fixed_by};
-ghost use Rattle.view_core.specs.Legs.{AreLegs, EndsJob, end_of};
+ghost use Rattle.view_core.specs.Legs.{AreLegs, EndsJob};
 
 use crate::domain::PlainDomain;
 use crate::leave::{leave_all, lefts_of};
-use crate::moves::shared;
 use crate::scene::Scene;
 use crate::walk::{Walked, under_of, walk};
 use disp_core::course::Given;
@@ -16,7 +12,6 @@ use jcl_meaning::state::Place;
 use jcl_plan::outcome::{Abend, Code, Outcome};
 use jcl_plan::plan::StepPlan;
 use std::alloc::{AllocError, Global};
-use std::rc::Rc;
 use view_domain::crossed::Stop;
 
 /// What a step that runs comes to on a scene: the same for all views that show it after an ABEND or none.
@@ -27,22 +22,9 @@ pub enum Legs {
     /// It made these sets, and by a code and by an ABEND left a scene each, or a disposition met a fault.
     Ended {
         made: Vec<Place>,
-        by_code: Result<Rc<Scene>, Stop>,
-        by_abend: Result<Rc<Scene>, Stop>,
+        by_code: Result<Scene, Stop>,
+        by_abend: Result<Scene, Stop>,
     },
-}
-
-/// The end of a step with its scene as one that several views may show.
-fn shared_end(
-    alloc: Global,
-    end: Result<Scene, Stop>,
-) -> Result<Result<Rc<Scene>, Stop>, AllocError>
-    ensures { IfOk result (λ e. end_of (λ scene. scene.value) e ≡ end) }
-{
-    match end {
-        Ok(scene) => Ok(Ok(shared(alloc, scene)?)),
-        Err(stop) => Ok(Err(stop)),
-    }
 }
 
 /// Carries out step n, which runs, twice on a scene: by code 0, and by an ABEND.
@@ -58,56 +40,20 @@ pub fn legs_of(
     ensures { IfOk result (AreLegs (fixed_by given.now) n step.now scene.now abended) }
 {
     let code = Outcome::Code(Code::zero());
-    let (made, end) = match walk(alloc, given, n, step, scene, abended, &code)? {
+    let (made, by_code) = match walk(alloc, given, n, step, scene, abended, &code)? {
         Walked::Refused(stop) => return Ok(Legs::Refused(stop)),
         Walked::Ended { made, end } => (made, end),
     };
     let abend = Outcome::Abend(Abend::User(Code::zero()));
-    let abend_end = match walk(alloc, given, n, step, scene, abended, &abend)? {
+    let by_abend = match walk(alloc, given, n, step, scene, abended, &abend)? {
         Walked::Refused(stop) => return Ok(Legs::Refused(stop)),
         Walked::Ended { made: _, end } => end,
     };
-    let by_code = shared_end(alloc, end)?;
-    let by_abend = shared_end(alloc, abend_end)?;
     Ok(Legs::Ended {
         made,
         by_code,
         by_abend,
     })
-}
-
-/// The end of a step, of which the scene is shared.
-fn end_again(end: &Result<Rc<Scene>, Stop>) -> Result<Result<Rc<Scene>, Stop>, AllocError>
-    ensures { IfOk result (λ e. end_of (λ scene. scene.value) e ≡ end_of (λ scene. scene.value) end.now) }
-{
-    match end {
-        Ok(scene) => Ok(Ok(scene.clone()?)),
-        Err(stop) => Ok(Err(*stop)),
-    }
-}
-
-/// The same once more. Its scenes are shared.
-pub fn legs_again(alloc: Global, legs: &Legs) -> Result<Legs, AllocError>
-    ensures { (fixed : Fixed) (n : ℕ) (step : StepPlan) (scene : Scene) (abend : Bool) → AreLegs fixed n step scene abend legs.now →
-        IfOk result (AreLegs fixed n step scene abend) }
-{
-    match legs {
-        Legs::Refused(stop) => Ok(Legs::Refused(*stop)),
-        Legs::Ended {
-            made,
-            by_code,
-            by_abend,
-        } => {
-            let made = Vec::from_slice(alloc, made.as_slice())?;
-            let by_code = end_again(by_code)?;
-            let by_abend = end_again(by_abend)?;
-            Ok(Legs::Ended {
-                made,
-                by_code,
-                by_abend,
-            })
-        }
-    }
 }
 
 impl<'a> PlainDomain<'a> {

@@ -1,6 +1,5 @@
 //! The views behind a step that ends without a fault.
 ghost use Rattle.std.specs.Prelude.{◌≡◌, ◌∷◌, [], IfOk, map};
-ghost use Rattle.view_core.specs.Legs.{end_of};
 ghost use Rattle.view_core.specs.Moves.{BranchesByAbend, BranchesByCode, told, told_abend, told_code};
 
 use crate::bits::{bits_ended, codes_at};
@@ -70,13 +69,14 @@ pub(crate) fn by_code(
     tests: &[Test],
     bits: &[bool],
     abended: bool,
-    end: Result<Rc<Scene>, Stop>,
+    end: Result<Scene, Stop>,
 ) -> Result<Branch<PlainView>, AllocError>
-    ensures { IfOk result (λ branch. BranchesByCode n tests.now bits.now abended (end_of (λ scene. scene.value) end) branch) }
+    ensures { IfOk result (λ branch. BranchesByCode n tests.now bits.now abended end branch) }
 {
     match end {
         Err(stop) => Ok(Branch::Stops(stop)),
         Ok(scene) => {
+            let scene = shared(alloc, scene)?;
             let codes = codes_at(alloc, n, tests)?;
             let moves = moves_by_code(
                 alloc,
@@ -96,13 +96,14 @@ pub(crate) fn by_code(
 pub(crate) fn by_abend(
     alloc: Global,
     bits: Vec<bool>,
-    end: Result<Rc<Scene>, Stop>,
+    end: Result<Scene, Stop>,
 ) -> Result<Branch<PlainView>, AllocError>
-    ensures { IfOk result (λ branch. BranchesByAbend bits.items (end_of (λ scene. scene.value) end) branch) }
+    ensures { IfOk result (λ branch. BranchesByAbend bits.items end branch) }
 {
     match end {
         Err(stop) => Ok(Branch::Stops(stop)),
         Ok(scene) => {
+            let scene = shared(alloc, scene)?;
             let mut moves = Vec::new(alloc);
             moves.push(Move {
                 outcome: Outcome::Abend(Abend::User(Code::zero())),

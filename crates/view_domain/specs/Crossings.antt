@@ -55,7 +55,7 @@ CameTo meaning plan date k there o ran (crossed.Passes fate view) =
     (fates_in ran.lines ≡ fate ∷ []) × ((fate ≡ Run) → ⊥) × (ran.faults ≡ []) × (ran.made ≡ [])
     × (view_at plan (k + 1) date ran.state ≡ meaning view)
 CameTo meaning plan date k there o ran (crossed.Runs made by_code by_abend) =
-    (fates_in ran.lines ≡ Run ∷ []) × (ran.made ≡ made.items) × IsBehindEnd meaning plan date k there ran (branch_of o by_code by_abend)
+    (fates_in ran.lines ≡ Run ∷ []) × (ran.made ≡ made) × IsBehindEnd meaning plan date k there ran (branch_of o by_code by_abend)
 
 -- Each state with the view, between two parts, along each outcome that a step may have, comes to what is said.
 abbrev pub IsCovered : {V : Type 0} → (V → View) → JobPlan → Fixed → ℕ → List View → View → Crossed V → Type 0

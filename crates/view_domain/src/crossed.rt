@@ -2,6 +2,7 @@
 use jcl_meaning::state::Place;
 use jcl_plan::fault::Fault;
 use jcl_plan::outcome::{Fate, Outcome};
+use plain::shared::Shared;
 
 /// The first fault that a part meets. Steps and DDs count from 1.
 #[derive(Clone, Copy)]
@@ -46,7 +47,7 @@ pub enum Crossed<V: Drop> {
     },
     /// The step runs: these sets are made, and then its end counts.
     Runs {
-        made: Vec<Place>,
+        made: Shared<Place>,
         by_code: Branch<V>,
         by_abend: Branch<V>,
     },

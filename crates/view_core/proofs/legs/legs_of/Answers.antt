@@ -1,4 +1,4 @@
-use Rattle.std.proofs.Common.{◌≡◌, ap, refl, sym, subst}
+use Rattle.std.proofs.Common.{◌≡◌, ap, refl}
 use Rattle.std.specs.Prelude.{Result}
 use Rattle.disp_core.specs.Courses.{fixed_by}
 use Rattle.jcl_plan.specs.declared.outcome.Abend.TheVariants.{User}
@@ -8,7 +8,6 @@ use Rattle.jcl_meaning.specs.States.{Fixed}
 use Rattle.view_domain.specs.declared.crossed.Stop.{Stop}
 use Rattle.view_core.specs.declared.scene.Scene.{Scene}
 use Rattle.view_core.specs.declared.walk.Walked.TheVariants as walked
-use Rattle.view_core.specs.Legs.{HasEnded, end_of}
 use Rattle.view_core.proofs.Walked.{WalkedFrom, walked_as}
 use Rattle.view_core.proofs.legs.legs_of.Goals as goal
 
@@ -46,8 +45,6 @@ returns c =
     c.in_ok-stop-2.field-0 (walked.Ended c.in-Ended-2.made abend_end) refl (ap (λ n. outcome.Abend (User n)) c.zero-2.ensures) c.in-Ended-2.is
     c.in_ok-stop-2.ensures in (
       record { own = walk.0; begun = walk.1; makes = walk.2.0 },
-      subst (HasEnded fixed c.args.n step scene c.args.abended (outcome.Code 0)) (sym c.in_ok-by_code.ensures)
-          (record { own = walk.0; begun = walk.1; ends = walk.2.1 }),
-      subst (HasEnded fixed c.args.n step scene c.args.abended (outcome.Abend (User 0))) (sym c.in_ok-by_abend.ensures)
-          (record { own = abend_walk.0; begun = abend_walk.1; ends = abend_walk.2.1 }),
+      record { own = walk.0; begun = walk.1; ends = walk.2.1 },
+      record { own = abend_walk.0; begun = abend_walk.1; ends = abend_walk.2.1 },
     )

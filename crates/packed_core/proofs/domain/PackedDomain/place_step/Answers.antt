@@ -7,14 +7,14 @@ use Rattle.view_domain.specs.declared.crossed.Stop.{Stop}
 use Rattle.view_core.specs.declared.legs.Legs.{Legs}
 use Rattle.view_core.specs.declared.legs.Legs.TheVariants as legs
 use Rattle.view_core.specs.declared.scene.Scene.{Scene}
-use Rattle.view_core.specs.Legs.{AreLegs, end_of}
+use Rattle.view_core.specs.Legs.{AreLegs, HasMade}
 use Rattle.packed_core.specs.Placed.{StandsIn}
 use Rattle.packed_core.specs.Views.{Views}
 use Rattle.packed_core.proofs.Led.{placed_still}
 use Rattle.packed_core.proofs.domain.PackedDomain.place_step.Goals as goal
 
-pub returns-in_ok-abend-in-Ended-clause-placed : goal.returns-in_ok-abend-in-Ended-clause-placed
-returns-in_ok-abend-in-Ended-clause-placed g c scene at =
+pub returns-in_ok-new-in-Ended-clause-placed : goal.returns-in_ok-new-in-Ended-clause-placed
+returns-in_ok-new-in-Ended-clause-placed g c scene at =
     let plan : JobPlan = g.J.Job.plan in
     let fixed : Fixed = g.J.Job.fixed in
     let k : ℕ = c.args.before.now.part in
@@ -32,11 +32,11 @@ returns-in_ok-abend-in-Ended-clause-placed g c scene at =
     let behind : Views = c.place_end-in-Ended.new.behind in
     let more = c.in_ok-abend-in-Ended.ensures.more in
     let stands_at : behind.part ≡ k + 1 = more.part ∙ c.in_ok-code-in-Ended.ensures.more.part ∙ c.requires.behind in
-    let end : Result Scene Stop = end_of (λ s. s.value) c.in-Ended.by_code in
-    let abend_end : Result Scene Stop = end_of (λ s. s.value) c.in-Ended.by_abend in
+    let end : Result Scene Stop = c.in-Ended.by_code in
+    let abend_end : Result Scene Stop = c.in-Ended.by_abend in
     let code : Result ℕ Stop = c.in_ok-code-in-Ended.code in
     let abend : Result ℕ Stop = c.in_ok-abend-in-Ended.abend in (
-      legs_are.0,
+      subst (HasMade fixed (k + 1) step scene abended) (sym (c.in_ok-new-in-Ended.ensures ∙ c.new.ensures)) legs_are.0,
       record {
         end = end;
         ended = legs_are.1;

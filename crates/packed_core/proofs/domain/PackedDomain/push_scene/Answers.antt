@@ -9,21 +9,21 @@ use Rattle.packed_core.specs.Views.{Views}
 use Rattle.packed_core.proofs.Adding.{apart_more, rows_more, scenes_more}
 use Rattle.packed_core.proofs.Places.{got_last}
 use Rattle.packed_core.proofs.Placing.{so_known_more}
-use Rattle.packed_core.proofs.domain.PackedDomain.put_scene.Goals as goal
+use Rattle.packed_core.proofs.domain.PackedDomain.push_scene.Goals as goal
 
-pub invariant_of-views-in-None : goal.invariant_of-views-in-None
-invariant_of-views-in-None g c =
+pub invariant_of-views-2 : goal.invariant_of-views-2
+invariant_of-views-2 g c =
     let old : List Entry = c.views.inside.entries.items in
     let entry : Entry = c.entry_of.result in
     let part : ℕ = c.views.inside.part in
-    let pushed : c.push.new.self.items ≡ old ++ entry ∷ [] = c.in_ok-push-in-None.ensures.items in
+    let pushed : c.push.new.self.items ≡ old ++ entry ∷ [] = c.in_ok-push.ensures.items in
     let is = c.views.invariant in
     let none : (i : ℕ) (w : Scene) → slice_get (scenes_of old) i ≡ Some w →
     alone g.J.Job.plan g.J.Job.fixed.date part w ≡ alone g.J.Job.plan g.J.Job.fixed.date part entry.scene → ⊥ =
-    λ i w at same. c.in-None.ensures i w (sym (ap (λ (v : Views). slice_get v.scenes i) c.views.view_is) ∙ at)
+    λ i w at same. c.requires.new i w (sym (ap (λ (v : Views). slice_get v.scenes i) c.views.view_is) ∙ at)
     (sym (ap (λ (v : Views). alone g.J.Job.plan g.J.Job.fixed.date v.part w) c.views.view_is) ∙ same ∙ ap (alone g.J.Job.plan g.J.Job.fixed.date part)
-    (ap (λ (e : Entry). e.scene) c.entry_of.ensures ∙ c.in_ok-clone-in-None.ensures.cases ∙ sym c.deref.ensures)
-    ∙ ap (λ (v : Views). alone g.J.Job.plan g.J.Job.fixed.date v.part c.deref.result.now) c.views.view_is) in
+    (ap (λ (e : Entry). e.scene) c.entry_of.ensures)
+    ∙ ap (λ (v : Views). alone g.J.Job.plan g.J.Job.fixed.date v.part c.args.scene.value) c.views.view_is) in
     record {
       roomed = is.roomed;
       small = is.small;
@@ -38,26 +38,26 @@ invariant_of-views-in-None g c =
       are_ways = is.are_ways;
     }
 
-pub returns-in_ok-push-in-None-clause-more : goal.returns-in_ok-push-in-None-clause-more
-returns-in_ok-push-in-None-clause-more g c =
+pub returns-clause-more : goal.returns-clause-more
+returns-clause-more g c =
     let old : List Entry = c.views.inside.entries.items in
     let entry : Entry = c.entry_of.result in
     record {
       more = entry.scene ∷ [];
-      scenes = ap scenes_of c.in_ok-push-in-None.ensures.items ∙ scenes_more old entry ∙ ap (λ (v : Views). v.scenes ++ entry.scene ∷ []) c.views.view_is;
+      scenes = ap scenes_of c.in_ok-push.ensures.items ∙ scenes_more old entry ∙ ap (λ (v : Views). v.scenes ++ entry.scene ∷ []) c.views.view_is;
       part = ap (λ (v : Views). v.part) c.views.view_is;
       rows = ap (λ (v : Views). v.rows) c.views.view_is;
     }
 
-pub returns-in_ok-push-in-None-clause-there : goal.returns-in_ok-push-in-None-clause-there
-returns-in_ok-push-in-None-clause-there g c =
+pub returns-clause-there : goal.returns-clause-there
+returns-clause-there g c =
     let old : List Entry = c.views.inside.entries.items in
     let entry : Entry = c.entry_of.result in
     let part : ℕ = c.views.inside.part in
     let last : c.len-number.result ≡ length (scenes_of old) = omega (arith, length-map old (λ (e : Entry). e.scene)) in
     record {
       one = entry.scene;
-      there = ap (λ (l : List Scene). slice_get l c.len-number.result) (ap scenes_of c.in_ok-push-in-None.ensures.items ∙ scenes_more old entry)
+      there = ap (λ (l : List Scene). slice_get l c.len-number.result) (ap scenes_of c.in_ok-push.ensures.items ∙ scenes_more old entry)
           ∙ ap (slice_get (scenes_of old ++ entry.scene ∷ [])) last ∙ got_last (scenes_of old) entry.scene;
-      same = ap (alone g.J.Job.plan g.J.Job.fixed.date part) (ap (λ (e : Entry). e.scene) c.entry_of.ensures ∙ c.in_ok-clone-in-None.ensures.cases);
+      same = ap (alone g.J.Job.plan g.J.Job.fixed.date part) (ap (λ (e : Entry). e.scene) c.entry_of.ensures);
     }
