@@ -4,7 +4,10 @@ use Rattle.cb_chain.specs.Written.{HoldsJobs}
 use Rattle.cb_meaning.specs.declared.layout.Layout.{Layout}
 use Rattle.config_core.specs.Configs.{Configuration, unit_names}
 use Rattle.cb_queue.specs.RecordQueues.{RecordQueue, shown}
-use Rattle.config_core.specs.Starts.{start_of, start_with}
+use Rattle.config_core.specs.declared.start.Fixed.{Fixed}
+use Rattle.shared_core.specs.declared.store.SharedStore.{SharedStore}
+use Rattle.config_core.specs.Configured.{IsConfigured}
+use Rattle.config_core.specs.Starts.{IsTakenApart, start_of, start_with}
 use Rattle.jcl_refs.specs.Plans.{most_steps}
 use Rattle.world_meaning.specs.Records.{IsQueueLayout}
 use Rattle.queue_core.specs.declared.queue.Queued.{Queued}
@@ -45,6 +48,10 @@ no_lines job = record { job = job; lines = [] }
 abbrev pub start_in : Configuration → Bool → ℕ → Bool → RecordQueue → ℕ → World
 start_in c refuses views explains q last =
     start_with c refuses views explains q.layout FIRST_DAY (shown q) (map waiting_at_start q.waiting) last
+
+-- so of each configuration that was taken apart into this store and what is fixed
+abbrev pub OfEachTakenApart : SharedStore → Fixed → (Configuration → Type 0) → Type 0
+OfEachTakenApart store fixed Of = (c : Configuration) → IsConfigured c → IsTakenApart c store fixed → Of c
 
 -- It is such a start; and the volumes, the units and the procedures are those of the configuration.
 pub record IsOpened (c : Configuration) (refuses : Bool) (views : ℕ) (explains : Bool) (q : RecordQueue) (last : ℕ) (m : Machine) : Type 0 where

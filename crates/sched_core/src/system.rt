@@ -10,7 +10,7 @@ ghost use Rattle.world_meaning.specs.Transitions.{Transition};
 ghost use Rattle.sched_core.specs.Events.{RefusesFirst};
 ghost use Rattle.machine_meaning.specs.declared.machine.TheConstants.{MOST_JOBS};
 ghost use Rattle.queued_job.specs.Opening.{CanBegin};
-ghost use Rattle.sched_core.specs.Starting.{IsForMachine, IsOpened, IsStarted};
+ghost use Rattle.sched_core.specs.Starting.{IsForMachine, IsOpened, IsStarted, OfEachTakenApart};
 ghost use Rattle.sched_core.specs.Promised.{ArePromisedAlong};
 ghost use Rattle.sched_core.specs.Systems.{Applies, Drives, IsDriven, IsNext, IsWhole, KeepsIfRefused, Steps, denoting, meant_by, world_of};
 
@@ -87,7 +87,7 @@ impl<'c, Q: RecordStore> System<'c, Q> {
         requires configured { (c : Configuration) × IsConfigured c × IsTakenApart c store fixed.now }
         requires empty { Q.queue queue ≡ empty_queue (Q.queue queue).layout }
         requires layout { IsForMachine (Q.queue queue).layout }
-        ensures started { IfOk result (λ m. (c : Configuration) → IsConfigured c → IsTakenApart c store fixed.now → IsStarted c refuses most_views explains (Q.queue queue).layout m) }
+        ensures started { IfOk result (λ m. OfEachTakenApart store fixed.now (λ c. IsStarted c refuses most_views explains (Q.queue queue).layout m)) }
         ensures whole { IfOk result IsWhole }
     {
         match System::open_queue(
@@ -124,7 +124,7 @@ impl<'c, Q: RecordStore> System<'c, Q> {
         requires begins { CanBegin (Q.queue queue) last }
         requires few { last ≤ MOST_JOBS }
         requires layout { IsForMachine (Q.queue queue).layout }
-        ensures opened { IfOk result (λ m. (c : Configuration) → IsConfigured c → IsTakenApart c store fixed.now → IsOpened c refuses most_views explains (Q.queue queue) last m) }
+        ensures opened { IfOk result (λ m. OfEachTakenApart store fixed.now (λ c. IsOpened c refuses most_views explains (Q.queue queue) last m)) }
         ensures whole { IfOk result IsWhole }
         ensures back { IfErr result (λ back. back ≡ queue) }
     {
