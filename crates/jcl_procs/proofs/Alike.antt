@@ -137,7 +137,7 @@ some_last : (steps : List FlatStep) → last_has_dd (dds_of steps) ≡ true → 
 some_last [] h = absurd cc
 some_last (x ∷ steps) h = has_some x steps
 
-placed_last : (library : Bool) (steps : List FlatStep) (s : Statement) → last_has_dd (dds_of steps) ≡ true → dd_place_faults library (dds_of steps) s ≡ []
+pub placed_last : (library : Bool) (steps : List FlatStep) (s : Statement) → last_has_dd (dds_of steps) ≡ true → dd_place_faults library (dds_of steps) s ≡ []
 placed_last library [] s h = absurd cc
 placed_last library (step ∷ steps) s h =
     let some : (length (dds_of (step ∷ steps)) == 0) ≡ false = grind arith in rw (some, h, and_false (has_no_name s)) refl

@@ -44,7 +44,7 @@ last_by (x ∷ []) (suc i) step h is = absurd (omega (arith, h))
 last_by (x ∷ y ∷ steps) zero step h is = absurd (omega (arith, h))
 last_by (x ∷ y ∷ steps) (suc i) step h is = last_by (y ∷ steps) i step (omega (arith, h)) is
 
-some_length : (steps : List FlatStep) (step : FlatStep) → slice_get steps (length steps - 1) ≡ Some step → length steps ≡ suc (length steps - 1)
+pub some_length : (steps : List FlatStep) (step : FlatStep) → slice_get steps (length steps - 1) ≡ Some step → length steps ≡ suc (length steps - 1)
 some_length [] step is = cc
 some_length (x ∷ steps) step is = omega arith
 

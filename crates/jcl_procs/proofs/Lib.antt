@@ -9,3 +9,4 @@ pub mod Recalled
 pub mod Rereading
 pub mod Same
 pub mod Unused
+pub mod Remembering

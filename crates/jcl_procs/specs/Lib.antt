@@ -6,3 +6,4 @@ pub mod Expansions
 pub mod Bodies
 pub mod Examples
 pub mod Counting
+pub mod Remembering

@@ -1,20 +1,25 @@
 //! The steps that a procedure brings at a call. (GC28-6704, "PROC statement", "Symbolic parameters")
-ghost use Rattle.std.specs.Prelude.{◌≡◌, ◌∷◌, ◌++◌, IfOk, OnOk, Some, [], false, length, true, map, unwrap_or};
+ghost use Rattle.std.specs.Prelude.{◌≡◌, ◌∷◌, ◌++◌, IfOk, IfSome, OnOk, Some, [], false, length, true, map, unwrap_or};
 ghost use Rattle.std.specs.Bool.{OnTrue};
+ghost use Rattle.std.specs.Option.{option_copied};
 ghost use Rattle.operand_core.specs.Faults.{told, written_name_faults};
 ghost use Rattle.operand_core.specs.Operands.{first_of, operand_of};
 ghost use Rattle.value_core.specs.Reads.{Gives, answer};
 ghost use Rattle.list_values.specs.Conditions.{no_condition};
 ghost use Rattle.jcl_symbols.specs.Substitutions.{substituted};
 ghost use Rattle.jcl_cards.specs.ExecCards as execs;
+ghost use Rattle.jcl_dds.specs.declared.dd.DdCard.{DdCard};
 ghost use Rattle.jcl_dds.specs.Dds.{is_data_word};
+ghost use Rattle.jcl_dds.specs.Merging.{by_itself};
 ghost use Rattle.jcl_deck.specs.declared.operation.Operation.TheVariants.{IsDd};
 ghost use Rattle.jcl_deck.specs.Decks.{dd_place_faults, last_has_dd, operation_of};
 ghost use Rattle.jcl_procs.specs.Calls.{calls, program_of, step_of, steps_of, steps_with, takes_dd, takes_exec};
 ghost use Rattle.jcl_procs.specs.Calling.{Moves, behind, TellsCalls, TellsData, call_of, dd_faults_with, dd_placed, dd_read, denoted};
 ghost use Rattle.jcl_procs.specs.Counting.{IsSettled, Tells, WereRead, has_symbol};
 ghost use Rattle.jcl_procs.specs.Calling.{exec_placed, exec_read, or_earliest, with_dd, with_step};
+ghost use Rattle.jcl_procs.specs.Remembering.{AreDdsOf, BringsDd, dd_at, kept_dd, last_dd};
 
+use crate::copies::copied_dd;
 use crate::step::FlatStep;
 use boxed_core::Boxed;
 use card_core::statement::{DataCard, Statement};
@@ -217,6 +222,26 @@ fn last_has_dd(steps: &[FlatStep]) -> bool
     }
 }
 
+/// The last DD of the last step.
+fn last_dd(steps: &[FlatStep]) -> Option<&DdCard>
+    ensures { option_copied result ≡ last_dd steps.now }
+{
+    match steps.last() {
+        Some(step) => step.dds.as_slice().last(),
+        None => None,
+    }
+}
+
+/// The DD that is remembered of a statement.
+fn dd_at(dds: &[Option<DdCard>], at: usize) -> Option<&DdCard>
+    ensures { option_copied result ≡ dd_at dds.now at }
+{
+    match dds.get(at) {
+        Some(dd) => dd.as_ref(),
+        None => None,
+    }
+}
+
 /// The fault of an operation that has no place there, or of the statement's name.
 #[tactic(auto, using(operand_core::proofs::Told::told_append))]
 fn refusal(name: &[u8], fault: StatementFault) -> Cause
@@ -336,6 +361,18 @@ impl Place {
         self.steps[last].dds.push(by_itself(dd))
     }
 
+    /// Adds a DD that is one of its own already.
+    fn add_own(&mut self, dd: DdCard) -> Result<(), AllocError>
+        ensures { (card : DdCard) → by_itself card ≡ dd → OnOk result (denoted self.new ≡ with_dd (denoted self.old) card) }
+    {
+        if self.steps.is_empty() {
+            self.job_library = true;
+            return Ok(());
+        }
+        let last = self.steps.len() - 1;
+        self.steps[last].dds.push(dd)
+    }
+
     fn take_dd(
         &mut self,
         alloc: Global,
@@ -377,6 +414,46 @@ impl Place {
             && !has_symbol(statement.operand.as_slice())
     }
 
+    /// Takes the next statement of a procedure, of which this DD is remembered.
+    fn take_again(
+        &mut self,
+        alloc: Global,
+        caller: &Caller<'_>,
+        statement: &Statement,
+        dd: Option<&DdCard>,
+    ) -> Result<(), ReadError>
+        requires { IfSome (option_copied dd) (BringsDd statement.now) }
+        ensures { Moves result self.new (behind (call_of caller.now) (denoted self.old) statement.now) }
+    {
+        if let Some(dd) = dd {
+            if last_has_dd(self.steps.as_slice()) {
+                let copy = copied_dd(alloc, dd)?;
+                self.add_own(copy)?;
+                return Ok(());
+            }
+        }
+        self.take(alloc, caller, statement)
+    }
+
+    /// Remembers of a statement the last DD, if it settles.
+    fn remember(
+        &self,
+        alloc: Global,
+        settles: bool,
+        dds: &mut Vec<Option<DdCard>>,
+    ) -> Result<(), AllocError>
+        ensures { OnOk result (dds.new.items ≡ dds.old.items ++ kept_dd settles (denoted self.now).steps ∷ []) }
+    {
+        if settles {
+            if let Some(dd) = last_dd(self.steps.as_slice()) {
+                dds.push(Some(copied_dd(alloc, dd)?))?;
+                return Ok(());
+            }
+        }
+        dds.push(None)?;
+        Ok(())
+    }
+
     fn count(&self) -> usize
         ensures { result ≡ length (denoted self.now).steps }
     {
@@ -395,7 +472,7 @@ impl Place {
     }
 }
 
-fn steps_from(
+pub(crate) fn steps_from(
     alloc: Global,
     caller: &Caller<'_>,
     statements: &[Statement],
@@ -419,6 +496,43 @@ pub fn steps_of(
 {
     let lent = Caller { ..caller };
     steps_from(alloc, &lent, statements)
+}
+
+/// The same, and for each statement the DD that it brings, where that is the same at each call.
+pub(crate) fn steps_remembered(
+    alloc: Global,
+    caller: &Caller<'_>,
+    statements: &[Statement],
+    dds: &mut Vec<Option<DdCard>>,
+) -> Result<Listed<FlatStep>, ReadError>
+    requires { dds.old.items ≡ [] }
+    ensures gives { Gives result (steps_of (call_of caller.now) statements.now) }
+    ensures same { OnOk result (AreDdsOf dds.new.items statements.now) }
+{
+    let mut place = Place::start(alloc);
+    for statement in statements {
+        let settles = place.settles(statement);
+        place.take(alloc, caller, statement)?;
+        place.remember(alloc, settles, dds)?;
+    }
+    Ok(place.end()?)
+}
+
+/// The steps that a procedure's statements bring at a call, where these DDs of them are remembered.
+pub(crate) fn steps_again(
+    alloc: Global,
+    caller: &Caller<'_>,
+    statements: &[Statement],
+    dds: &[Option<DdCard>],
+) -> Result<Listed<FlatStep>, ReadError>
+    requires { AreDdsOf dds.now statements.now }
+    ensures { Gives result (steps_of (call_of caller.now) statements.now) }
+{
+    let mut place = Place::start(alloc);
+    for at in 0..statements.len() {
+        place.take_again(alloc, caller, &statements[at], dd_at(dds, at))?;
+    }
+    Ok(place.end()?)
 }
 
 /// How many steps statements bring at this call that another one did not refuse, or their first refusal. A DD without a symbol behind another one of its step is not read again.

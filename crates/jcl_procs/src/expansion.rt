@@ -7,12 +7,14 @@ ghost use Rattle.jcl_dds.specs.Merging.{by_itself};
 ghost use Rattle.jcl_procs.specs.declared.step.FlatStep.{FlatStep};
 ghost use Rattle.jcl_procs.specs.Counting.{IsKnown, IsLeft, KeepsFirst, Tells, counted, is_over, up_to};
 ghost use Rattle.jcl_procs.specs.Expansions.{called, flat_from, plain_step, steps_by};
+ghost use Rattle.jcl_procs.specs.Remembering.{IsRemembered};
 
 use crate::bodies::{Sources, body_named};
-use crate::calls::{Caller, condition_or_none, steps_of};
+use crate::calls::{Caller, condition_or_none};
 use crate::conditions::override_conditions;
 use crate::known::{Call, Known, tell_call};
 use crate::overriding::override_dds;
+use crate::remembered::{Remembered, steps_at};
 use crate::step::FlatStep;
 use jcl_cards::exec::{ExecCard, Runs};
 use jcl_dds::dd::DdCard;
@@ -24,6 +26,7 @@ use jname_core::name8::Name8;
 use plain::listed::Listed;
 use proc_library::library::ProcLibrary;
 use std::alloc::{AllocError, Global};
+use std::collections::VecDeque;
 use value_core::refusal::ReadError;
 
 /// The steps of a deck, up to a number of them.
@@ -43,27 +46,48 @@ pub struct Reached {
     pub kept: usize,
 }
 
+/// A step of the deck that calls a procedure.
+#[derive(Clone, Copy)]
+struct StepCall<'a> {
+    /// Its place, from 1.
+    place: usize,
+    exec: &'a ExecCard,
+    /// The name of the procedure.
+    name: Name8,
+    /// The symbols to which it gives values.
+    symbols: &'a [Symbol],
+}
+
 /// A call: the procedure's steps, then its overrides.
 fn called(
     alloc: Global,
     sources: &Sources<'_>,
-    place: usize,
-    exec: &ExecCard,
+    remembered: &mut Vec<Remembered>,
+    call: &StepCall<'_>,
     dds: Listed<DdCard>,
-    name: Name8,
-    symbols: &[Symbol],
+    later: &VecDeque<DeckStep>,
 ) -> Result<Listed<FlatStep>, ReadError>
-    ensures { Gives result (called sources.now.library.now sources.now.procedures.now place exec.now dds name symbols.now) }
+    requires { All (IsRemembered sources.now.library.now sources.now.procedures.now) remembered.old.items }
+    ensures gives { Gives result (called sources.now.library.now sources.now.procedures.now call.now.place call.now.exec.now dds call.now.name call.now.symbols.now) }
+    ensures remembered { OnOk result (All (IsRemembered sources.now.library.now sources.now.procedures.now) remembered.new.items) }
 {
-    let body = body_named(alloc, sources, name)?;
+    let body = body_named(alloc, sources, call.name)?;
     let caller = Caller {
-        name: exec.name,
-        place,
-        symbols,
+        name: call.exec.name,
+        place: call.place,
+        symbols: call.symbols,
         own_symbols: body.symbols.as_slice(),
     };
-    let steps = steps_of(alloc, caller, body.statements)?;
-    let changed = override_conditions(steps, exec)?;
+    let steps = steps_at(
+        alloc,
+        sources,
+        &caller,
+        body.statements,
+        call.name,
+        remembered,
+        later,
+    )?;
+    let changed = override_conditions(steps, call.exec)?;
     override_dds(alloc, changed, dds)
 }
 
@@ -116,27 +140,31 @@ fn plain_step(
     Ok(Listed::new(steps))
 }
 
-/// The steps of a deck's step.
+/// The steps of a deck's step, before these others.
 fn steps_by(
     alloc: Global,
     sources: &Sources<'_>,
+    remembered: &mut Vec<Remembered>,
     place: usize,
     exec: &ExecCard,
     dds: Listed<DdCard>,
+    later: &VecDeque<DeckStep>,
 ) -> Result<Listed<FlatStep>, ReadError>
-    ensures { Gives result (steps_by exec.now.runs sources.now.library.now sources.now.procedures.now place (record { exec = exec.now; dds = dds })) }
+    requires { All (IsRemembered sources.now.library.now sources.now.procedures.now) remembered.old.items }
+    ensures gives { Gives result (steps_by exec.now.runs sources.now.library.now sources.now.procedures.now place (record { exec = exec.now; dds = dds })) }
+    ensures remembered { OnOk result (All (IsRemembered sources.now.library.now sources.now.procedures.now) remembered.new.items) }
 {
     match &exec.runs {
         Runs::Program(name) => plain_step(alloc, exec, dds, *name),
-        Runs::Procedure { name, symbols } => called(
-            alloc,
-            sources,
-            place,
-            exec,
-            dds,
-            *name,
-            symbols.as_slice(),
-        ),
+        Runs::Procedure { name, symbols } => {
+            let call = StepCall {
+                place,
+                exec,
+                name: *name,
+                symbols: symbols.as_slice(),
+            };
+            called(alloc, sources, remembered, &call, dds, later)
+        }
     }
 }
 
@@ -145,12 +173,16 @@ fn tell_step(
     alloc: Global,
     sources: &Sources<'_>,
     known: &mut Vec<Known>,
+    remembered: &mut Vec<Remembered>,
     place: usize,
     step: DeckStep,
+    later: &VecDeque<DeckStep>,
 ) -> Result<usize, ReadError>
-    requires { All (IsKnown sources.now.library.now sources.now.procedures.now) known.old.items }
+    requires known { All (IsKnown sources.now.library.now sources.now.procedures.now) known.old.items }
+    requires remembered { All (IsRemembered sources.now.library.now sources.now.procedures.now) remembered.old.items }
     ensures tells { Tells result (steps_by step.exec.runs sources.now.library.now sources.now.procedures.now place step) }
     ensures known { OnOk result (All (IsKnown sources.now.library.now sources.now.procedures.now) known.new.items) }
+    ensures remembered { OnOk result (All (IsRemembered sources.now.library.now sources.now.procedures.now) remembered.new.items) }
 {
     let DeckStep { exec, dds } = step;
     if let Runs::Procedure { name, symbols } = &exec.runs {
@@ -165,7 +197,7 @@ fn tell_step(
             return tell_call(alloc, sources, known, &call);
         }
     }
-    let found = steps_by(alloc, sources, place, &exec, dds)?;
+    let found = steps_by(alloc, sources, remembered, place, &exec, dds, later)?;
     Ok(found.len())
 }
 
@@ -262,16 +294,26 @@ pub fn expand_to(
     };
     let mut expansion = kept_first(alloc, most, steps.as_slice());
     let mut known = Vec::new(alloc);
+    let mut remembered = Vec::new(alloc);
+    let mut later = VecDeque::from(steps.into_vec());
     let mut place = 0;
-    for step in steps.into_vec() {
+    while let Some(step) = later.pop_front() {
         place += 1;
         reached.step = place;
         if is_many(&expansion) {
-            tell_step(alloc, &sources, &mut known, place, step)?;
+            tell_step(
+                alloc,
+                &sources,
+                &mut known,
+                &mut remembered,
+                place,
+                step,
+                &later,
+            )?;
             continue;
         }
         let DeckStep { exec, dds } = step;
-        let found = steps_by(alloc, &sources, place, &exec, dds)?;
+        let found = steps_by(alloc, &sources, &mut remembered, place, &exec, dds, &later)?;
         expansion = with_steps(expansion, most, found)?;
         reached.kept = kept_to(&expansion, place, reached.kept);
     }
@@ -303,11 +345,21 @@ pub fn is_over(
         procedures,
     };
     let mut known = Vec::new(alloc);
+    let mut remembered = Vec::new(alloc);
+    let mut later = VecDeque::from(steps.into_vec());
     let mut left = Some(most);
     let mut place = 0;
-    for step in steps.into_vec() {
+    while let Some(step) = later.pop_front() {
         place += 1;
-        let count = tell_step(alloc, &sources, &mut known, place, step)?;
+        let count = tell_step(
+            alloc,
+            &sources,
+            &mut known,
+            &mut remembered,
+            place,
+            step,
+            &later,
+        )?;
         left = left_behind(left, count);
     }
     Ok(left.is_none())

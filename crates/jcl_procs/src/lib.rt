@@ -4,8 +4,10 @@
 mod bodies;
 pub mod calls;
 pub mod conditions;
+mod copies;
 pub mod examples;
 pub mod expansion;
 mod known;
 pub mod overriding;
+mod remembered;
 pub mod step;
