@@ -18,17 +18,18 @@ pub struct VolumeLane {
     pub serial: Serial,
     pub levels: Vec<Level>,
     pub busy: Lane,
-    /// The most tracks that were free or kept.
-    pub most: usize,
+    /// Its tracks.
+    pub size: usize,
 }
 
 impl VolumeLane {
-    pub fn new(alloc: Global, serial: Serial) -> VolumeLane {
+    /// A volume of so many tracks.
+    pub fn new(alloc: Global, serial: Serial, size: usize) -> VolumeLane {
         VolumeLane {
             serial,
             levels: Vec::new(alloc),
             busy: Lane::empty(alloc),
-            most: 1,
+            size,
         }
     }
 
@@ -42,7 +43,6 @@ impl VolumeLane {
     /// The volume after an event.
     pub fn add(&mut self, alloc: Global, event: u32, seen: &VolumeSeen) -> Result<(), AllocError> {
         if !self.is_at(seen) {
-            self.most = self.most.max(seen.free).max(seen.kept);
             self.levels.push(Level {
                 from: event,
                 free: seen.free,

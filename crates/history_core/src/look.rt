@@ -2,6 +2,8 @@
 
 #[derive(Clone, Copy, PartialEq, Eq)]
 pub enum Look {
+    /// A job waits in the queue.
+    Queued,
     /// An initiator selected a job, which is not admitted yet.
     Selected,
     /// The job waits for names or for space.
@@ -23,8 +25,16 @@ pub enum Look {
     Kept,
     /// An operation is under way on a volume.
     Busy,
-    /// More than one of these, too short to be drawn.
+    /// More than one of these: too short to be drawn, or beyond those that have a lane.
     Several,
+    /// A job holds names that no other wants.
+    Together,
+    /// A writer writes a job's lines.
+    Writes,
     Abend,
     Fault,
+    /// The operator cancelled a job.
+    Cancel,
+    /// A deck was rejected.
+    Rejected,
 }

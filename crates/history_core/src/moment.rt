@@ -26,4 +26,6 @@ pub struct Moment<'a> {
     pub initiators: &'a [InitiatorSeen],
     pub holds: &'a [Hold],
     pub volumes: &'a [VolumeSeen],
+    /// Whether the event did anything.
+    pub acts: bool,
 }
