@@ -1,4 +1,6 @@
 //! Which names have a lane of their own in a picture, and in which order.
+ghost use Rattle.std.specs.Prelude.{◌≡◌, ◌≤◌, [], IfOk, OnOk, length};
+
 use crate::lane::{Lane, What};
 use crate::look::Look;
 use crate::names::{JobHolds, NameLane, Names};
@@ -88,7 +90,11 @@ impl Drawn {
         holds: &JobHolds,
         count: usize,
         text: &[u8],
-    ) -> Result<(), AllocError> {
+    ) -> Result<(), AllocError>
+        requires { length self.old.together.items ≤ MOST_TOGETHER }
+        ensures few { OnOk result (length self.new.together.items ≤ MOST_TOGETHER) }
+        ensures places { self.new.places ≡ self.old.places }
+    {
         let place = self.free_lane(holds.from);
         if place >= self.together.len() {
             if place >= MOST_TOGETHER {
@@ -110,9 +116,13 @@ impl Drawn {
         }
     }
 
-    fn add_own(&mut self, names: &Names) -> Result<(), AllocError> {
+    fn add_own(&mut self, names: &Names) -> Result<(), AllocError>
+        requires { self.old.places.items ≡ [] }
+        ensures few { OnOk result (length self.new.places.items ≤ MOST_NAMES) }
+        ensures together { self.new.together ≡ self.old.together }
+    {
         let mut last: Option<(usize, usize)> = None;
-        for _ in 0..MOST_NAMES {
+        for _taken in 0..MOST_NAMES {
             let next = next_name(names.lanes.as_slice(), last);
             let Some((_, place)) = next else {
                 return Ok(());
@@ -124,7 +134,10 @@ impl Drawn {
     }
 
     /// Of these names.
-    pub fn of(alloc: Global, names: &Names) -> Result<Drawn, AllocError> {
+    pub fn of(alloc: Global, names: &Names) -> Result<Drawn, AllocError>
+        ensures own { IfOk result (λ drawn. length drawn.places.items ≤ MOST_NAMES) }
+        ensures together { IfOk result (λ drawn. length drawn.together.items ≤ MOST_TOGETHER) }
+    {
         let mut drawn = Drawn {
             places: Vec::new(alloc),
             together: Vec::new(alloc),
