@@ -11,6 +11,7 @@ use crate::watch::Watch;
 use chain_store::store::ChainStore;
 use config_core::start::Fixed;
 use history_core::history::History;
+use jcl_plan::entry::Entry;
 use run_options::Options;
 use sched_core::system::System;
 use session_core::open::{Opened, open, start};
@@ -18,12 +19,21 @@ use session_core::stream::Source;
 use session_core::transfer::read_text;
 use session_core::{SessionEnd, SessionFault};
 use session_input::event::Event;
+use session_input::statement::ConfigStatement;
 use session_text::fault::Fault;
 use session_text::parse::statements;
 use session_text::statement::{Says, Statement};
 use shared_core::store::SharedStore;
 use std::alloc::{AllocError, Global};
 use std::io::Read;
+
+/// Whether an event that wrote these lines did anything.
+fn acts(event: &Event<'_>, lines: &[Entry]) -> bool {
+    match event {
+        Event::DeviceEnd(_) | Event::Zap { .. } => true,
+        _ => !lines.is_empty(),
+    }
+}
 
 /// Applies an event so many times.
 fn run_events(
@@ -36,7 +46,8 @@ fn run_events(
 ) -> Result<(), AllocError> {
     for _ in 0..times {
         let lines = system.apply_shown(event)?;
-        watch.keep(alloc, system, lines.as_slice(), history)?;
+        let acts = acts(event, lines.as_slice());
+        watch.keep(alloc, system, lines.as_slice(), acts, history)?;
     }
     Ok(())
 }
@@ -90,6 +101,22 @@ fn run_on(
     outcome
 }
 
+/// Keeps the volumes of a configuration.
+fn add_volumes(
+    alloc: Global,
+    statements: &[Statement<'_>],
+    history: &mut History,
+) -> Result<(), AllocError> {
+    for statement in statements {
+        if let Says::Config { statement, .. } = &statement.says {
+            if let ConfigStatement::Volume { serial, tracks, .. } = statement.get() {
+                history.add_volume(alloc, *serial, *tracks)?;
+            }
+        }
+    }
+    Ok(())
+}
+
 /// Runs the statements of a session that is opened.
 fn run_opened(
     alloc: Global,
@@ -107,7 +134,10 @@ fn run_opened(
         from,
         late,
     } = opened;
-    let (_, rest) = statements.split_at(from);
+    let (first, rest) = statements.split_at(from);
+    let Ok(()) = add_volumes(alloc, first, history) else {
+        return Err(SessionFault::Memory);
+    };
     run_on(alloc, (store, queue), &fixed, rest, late, options, history)
 }
 

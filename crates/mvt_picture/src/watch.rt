@@ -66,12 +66,13 @@ impl Watch {
         Ok(())
     }
 
-    /// Keeps what is seen after an event that wrote these lines.
+    /// Keeps what is seen after an event that wrote these lines, and whether it did anything.
     pub(crate) fn keep<Q: RecordStore>(
         &mut self,
         alloc: Global,
         system: &System<'_, Q>,
         lines: &[Entry],
+        acts: bool,
         history: &mut History,
     ) -> Result<(), AllocError> {
         self.see_initiators(system)?;
@@ -84,6 +85,7 @@ impl Watch {
                 initiators: self.initiators.as_slice(),
                 holds: self.holds.as_slice(),
                 volumes: self.volumes.as_slice(),
+                acts,
             },
         )
     }

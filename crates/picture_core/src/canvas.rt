@@ -1,13 +1,17 @@
 //! Where lanes are drawn, and the lanes of runs.
+use crate::axis::Axis;
 use crate::cut::{Piece, pieces_of};
+use crate::label::{label_of, letters_in};
 use crate::scale::Scale;
 use crate::sheet::Sheet;
-use crate::style::{class_of, has_room};
+use crate::style::{class_of, words_on};
 use crate::tell::{Telling, piece_title, runs_in};
 use history_core::history::History;
 use history_core::initiators::InitiatorLane;
 use history_core::lane::{Flag, Lane, Run};
 use history_core::look::Look;
+use history_core::order::Drawn;
+use history_core::writers::WriterLane;
 use plain::listed::Listed;
 use plain::short::Short;
 use plain::text::Text;
@@ -20,17 +24,14 @@ pub(crate) const LEAST_LEFT: u32 = 110;
 pub(crate) const LETTER: u32 = 8;
 
 /// The pixels right of the lanes.
-pub(crate) const RIGHT: u32 = 40;
+pub(crate) const RIGHT: u32 = 70;
 
-/// The fewest pixels across in which a job's number is written, and a step's number beside it.
-pub(crate) const LEAST_FOR_JOB: u32 = 32;
-
-pub(crate) const LEAST_FOR_STEP: u32 = 80;
-
-/// The pixels above the first lane, of a lane, of a volume's lane, and between lanes.
+/// The pixels above the first lane, of a lane, of the notes below it, of a volume's lane, and between lanes.
 pub(crate) const TOP: u32 = 64;
 
 pub(crate) const LANE: u32 = 22;
+
+pub(crate) const NOTES: u32 = 14;
 
 pub(crate) const VOLUME: u32 = 52;
 
@@ -48,9 +49,10 @@ pub(crate) const LEAST_TITLE: usize = 120;
 
 /// Where lanes are drawn.
 #[derive(Drop)]
-pub(crate) struct Canvas {
+pub(crate) struct Canvas<'a> {
     pub(crate) alloc: Global,
-    pub(crate) scale: Scale,
+    pub(crate) history: &'a History,
+    pub(crate) axis: Axis,
     /// The pixels left of the lanes.
     pub(crate) left: u32,
     /// The most bytes of a title.
@@ -61,14 +63,18 @@ pub(crate) struct Canvas {
 }
 
 /// How many lanes there are.
-pub(crate) fn lane_count(history: &History) -> usize {
-    let names = history.names.lanes.len().saturating_add(1);
-    let volumes = history.volumes.len().saturating_mul(2);
-    history
-        .initiators
+pub(crate) fn lane_count(history: &History, drawn: &Drawn) -> usize {
+    let jobs = history
+        .queue
+        .slots
         .len()
-        .saturating_add(names)
+        .saturating_add(history.initiators.len())
+        .saturating_add(history.writers.lanes.len());
+    let names = drawn.places.len().saturating_add(drawn.together.len());
+    let volumes = history.volumes.len().saturating_mul(2);
+    jobs.saturating_add(names)
         .saturating_add(volumes)
+        .saturating_add(1)
 }
 
 pub(crate) fn to_u32(n: usize) -> u32 {
@@ -79,10 +85,12 @@ pub(crate) fn to_u32(n: usize) -> u32 {
 }
 
 /// The pixels that the names take.
-pub(crate) fn left_of(history: &History) -> u32 {
+pub(crate) fn left_of(history: &History, drawn: &Drawn) -> u32 {
     let mut longest: usize = 0;
-    for lane in &history.names.lanes {
-        longest = longest.max(lane.name.as_slice().len());
+    for place in &drawn.places {
+        if let Some(lane) = history.names.lanes.get(*place) {
+            longest = longest.max(lane.name.as_slice().len());
+        }
     }
     to_u32(longest)
         .saturating_mul(LETTER)
@@ -99,32 +107,38 @@ pub(crate) fn title_limit(scale: &Scale, lanes: usize) -> usize {
     }
 }
 
-impl Canvas {
-    pub(crate) fn new(alloc: Global, history: &History) -> Canvas {
-        let lanes = lane_count(history);
-        let scale = Scale::new(history.events, to_u32(lanes));
-        Canvas {
+impl<'a> Canvas<'a> {
+    pub(crate) fn new(
+        alloc: Global,
+        history: &'a History,
+        drawn: &Drawn,
+    ) -> Result<Canvas<'a>, AllocError> {
+        let lanes = lane_count(history, drawn);
+        let axis = Axis::new(alloc, history, to_u32(lanes))?;
+        let limit = title_limit(&axis.scale, lanes);
+        Ok(Canvas {
             alloc,
-            scale,
-            left: left_of(history),
-            limit: title_limit(&scale, lanes),
+            history,
+            axis,
+            left: left_of(history, drawn),
+            limit,
             top: TOP,
             groups: Listed::empty(alloc),
-        }
+        })
     }
 
     /// The place of a column, so far below the top of the lane.
     pub(crate) fn at(&self, column: u32, below: u32) -> Point {
         Point {
-            x: self.left.saturating_add(self.scale.before(column)),
+            x: self.left.saturating_add(self.axis.scale.before(column)),
             y: self.top.saturating_add(below),
         }
     }
 
     /// The pixels from a column up to another.
     pub(crate) fn across(&self, from: u32, to: u32) -> u32 {
-        let before = self.scale.before(from);
-        self.scale.before(to).saturating_sub(before).max(1)
+        let before = self.axis.scale.before(from);
+        self.axis.scale.before(to).saturating_sub(before).max(1)
     }
 
     pub(crate) fn add_ground(
@@ -134,7 +148,7 @@ impl Canvas {
         height: u32,
     ) -> Result<(), AllocError> {
         let size = Size {
-            width: self.scale.width,
+            width: self.axis.scale.width,
             height,
         };
         sheet.rectangle(Short::new(b"lane"), self.at(0, 0), size, None)?;
@@ -162,7 +176,13 @@ impl Canvas {
             width: self.across(piece.from, piece.to),
             height,
         };
-        let title = piece_title(self.alloc, own, self.scale.events, self.limit)?;
+        let title = piece_title(
+            self.alloc,
+            &self.history.jobs,
+            own,
+            self.axis.events,
+            self.limit,
+        )?;
         sheet.rectangle(
             class_of(look),
             self.at(piece.from, below),
@@ -175,7 +195,7 @@ impl Canvas {
         }
     }
 
-    /// The job's number within a rectangle, and the step's, where there is room.
+    /// The words within a rectangle, where there is room.
     pub(crate) fn add_inner(
         &self,
         sheet: &mut Sheet,
@@ -183,23 +203,22 @@ impl Canvas {
         run: &Run,
         width: u32,
     ) -> Result<(), AllocError> {
-        let what = run.what;
-        if width < LEAST_FOR_JOB || !has_room(what.look) {
+        let look = run.what.look;
+        if look == Look::Busy {
             return Ok(());
         }
-        let mut telling = Telling::empty(self.alloc, 40);
-        telling.push_job(what.job)?;
-        if width >= LEAST_FOR_STEP && what.look == Look::Runs {
-            telling.push(b" step ")?;
-            telling.push_number(what.number as u64)?;
+        let letters = letters_in(width);
+        let words = label_of(self.alloc, run, &self.history.jobs, letters)?;
+        if words.as_slice().is_empty() {
+            return Ok(());
         }
         let mut place = self.at(piece.from, 14);
         place.x = place.x.saturating_add(3);
-        sheet.owned_text(Short::new(b"inner"), place, telling.into_text())
+        sheet.owned_text(words_on(look), place, words)
     }
 
     pub(crate) fn add_flag(&self, sheet: &mut Sheet, flag: &Flag) -> Result<(), AllocError> {
-        let column = self.scale.column_of(flag.event);
+        let column = self.axis.column_of(flag.event);
         let place = self.at(column, 4);
         let size = Size {
             width: 11,
@@ -214,7 +233,7 @@ impl Canvas {
     pub(crate) fn add_flags(&self, sheet: &mut Sheet, flags: &[Flag]) -> Result<(), AllocError> {
         let mut last: Option<u32> = None;
         for flag in flags {
-            let column = Some(self.scale.column_of(flag.event));
+            let column = Some(self.axis.column_of(flag.event));
             if column != last {
                 self.add_flag(sheet, flag)?;
             }
@@ -230,7 +249,7 @@ impl Canvas {
         below: u32,
         height: u32,
     ) -> Result<(), AllocError> {
-        let pieces = pieces_of(self.alloc, &self.scale, lane.runs.as_slice())?;
+        let pieces = pieces_of(self.alloc, &self.axis, lane.runs.as_slice())?;
         for piece in &pieces {
             self.add_piece(sheet, piece, lane.runs.as_slice(), below, height)?;
         }
@@ -260,20 +279,48 @@ impl Canvas {
         self.end_lane(sheet, class, LANE)
     }
 
+    /// A lane with notes below it.
     pub(crate) fn add_initiator(&mut self, lane: &InitiatorLane) -> Result<(), AllocError> {
         let mut label = Telling::empty(self.alloc, 40);
         label.push(b"initiator ")?;
         label.push_number(u64::from(lane.number))?;
-        let label = label.into_text();
-        self.add_lane(label.as_slice(), &lane.lane, Short::new(b"initiator"))
+        let mut sheet = Sheet::empty(self.alloc);
+        self.add_ground(&mut sheet, label.as_slice(), LANE)?;
+        self.add_runs(&mut sheet, &lane.lane, 0, LANE)?;
+        self.add_notes(&mut sheet, lane.lane.notes.as_slice(), LANE + NOTES - 3)?;
+        self.end_lane(sheet, Short::new(b"initiator"), LANE + NOTES)
     }
 
-    pub(crate) fn add_names(&mut self, history: &History) -> Result<(), AllocError> {
-        for lane in &history.names.lanes {
-            self.add_lane(lane.name.as_slice(), &lane.lane, Short::new(b"name"))?;
+    pub(crate) fn add_queue(&mut self) -> Result<(), AllocError> {
+        let queue = &self.history.queue;
+        let mut label: &[u8] = b"queue";
+        for slot in &queue.slots {
+            self.add_lane(label, &slot.lane, Short::new(b"queue"))?;
+            label = b"";
         }
-        if !history.names.others.runs.is_empty() {
-            self.add_lane(b"other names", &history.names.others, Short::new(b"names"))?;
+        if !queue.others.runs.is_empty() {
+            self.add_lane(b"more jobs", &queue.others, Short::new(b"queue"))?;
+        }
+        Ok(())
+    }
+
+    pub(crate) fn add_writer(&mut self, lane: &WriterLane) -> Result<(), AllocError> {
+        let mut label = Telling::empty(self.alloc, 40);
+        label.push(b"writer ")?;
+        label.push(&[lane.class])?;
+        self.add_lane(label.as_slice(), &lane.lane, Short::new(b"writer"))
+    }
+
+    pub(crate) fn add_names(&mut self, drawn: &Drawn) -> Result<(), AllocError> {
+        for place in &drawn.places {
+            if let Some(lane) = self.history.names.lanes.get(*place) {
+                self.add_lane(lane.name.as_slice(), &lane.lane, Short::new(b"name"))?;
+            }
+        }
+        let mut label: &[u8] = b"other names";
+        for lane in &drawn.together {
+            self.add_lane(label, lane, Short::new(b"names"))?;
+            label = b"";
         }
         Ok(())
     }

@@ -3,7 +3,7 @@ ghost use Rattle.std.specs.Prelude.{◌≡◌, ◌<◌, ◌≤◌, ◌+◌, IfOk
 ghost use Rattle.picture_core.specs.Cuts.{IsCut};
 ghost use Rattle.picture_core.specs.Scales.{last_column};
 
-use crate::scale::Scale;
+use crate::axis::Axis;
 use history_core::lane::Run;
 use std::alloc::{AllocError, Global};
 
@@ -162,22 +162,18 @@ impl Cutter {
 }
 
 /// What is drawn of runs, in order, none over another, at most a piece in each column.
-pub(crate) fn pieces_of(
-    alloc: Global,
-    scale: &Scale,
-    runs: &[Run],
-) -> Result<Vec<Piece>, AllocError>
-    ensures { IfOk result (λ pieces. length pieces.items ≤ last_column scale.now + 1) }
+pub(crate) fn pieces_of(alloc: Global, axis: &Axis, runs: &[Run]) -> Result<Vec<Piece>, AllocError>
+    ensures { IfOk result (λ pieces. length pieces.items ≤ last_column axis.now.scale + 1) }
 {
     let mut cutter = Cutter {
         pieces: Vec::new(alloc),
         free: 0,
-        last: scale.last_column(),
+        last: axis.scale.last_column(),
         short: None,
     };
     for (place, run) in runs.iter().enumerate() {
-        let from = scale.column_of(run.from.min(scale.events));
-        let to = scale.column_of(run.to.min(scale.events));
+        let from = axis.column_of(run.from);
+        let to = axis.column_of(run.to);
         cutter.add(place, from, to)?;
     }
     cutter.end_short()?;

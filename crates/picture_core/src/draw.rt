@@ -1,37 +1,39 @@
 //! The picture: its lanes, its axis and its legend.
-use crate::canvas::{Canvas, GAP, LANE, LEAST_WIDTH, RIGHT, TOP, VOLUME, to_u32};
+use crate::axis::is_cut;
+use crate::canvas::{Canvas, LEAST_WIDTH, RIGHT, TOP};
 use crate::legend::add_legend;
-use crate::scale::part;
 use crate::sheet::Sheet;
 use crate::style::{STYLE, add_patterns};
 use crate::tell::Telling;
 use history_core::history::History;
+use history_core::order::Drawn;
+use history_core::still::Still;
 use plain::short::Short;
 use plain::text::Text;
 use std::alloc::{AllocError, Global};
 use svg_text::shape::{Picture, Point, Size};
 
-impl Canvas {
-    fn add_lanes(&mut self, history: &History) -> Result<(), AllocError> {
+impl Canvas<'_> {
+    fn add_lanes(&mut self, drawn: &Drawn) -> Result<(), AllocError> {
+        let history = self.history;
+        self.add_queue()?;
         for lane in &history.initiators {
             self.add_initiator(lane)?;
         }
-        self.add_names(history)?;
+        for lane in &history.writers.lanes {
+            self.add_writer(lane)?;
+        }
+        self.add_names(drawn)?;
         for lane in &history.volumes {
             self.add_volume(lane)?;
         }
         Ok(())
     }
 
-    fn add_tick(&self, sheet: &mut Sheet, event: u32, bottom: u32) -> Result<(), AllocError> {
-        let across = part(
-            self.scale.width,
-            u64::from(event),
-            u64::from(self.scale.events),
-        );
-        let x = self.left.saturating_add(across);
+    fn add_tick(&self, sheet: &mut Sheet, event: u32) -> Result<(), AllocError> {
+        let x = self.left.saturating_add(self.axis.before(event));
         let above = Point { x, y: TOP - 14 };
-        sheet.line(Short::new(b"grid"), above, Point { x, y: bottom })?;
+        sheet.line(Short::new(b"grid"), above, Point { x, y: self.top })?;
         let mut number = Telling::empty(self.alloc, 20);
         number.push_number(u64::from(event))?;
         sheet.owned_text(
@@ -41,24 +43,49 @@ impl Canvas {
         )
     }
 
-    /// The events' numbers, and a line down from each.
-    fn add_axis(&mut self, bottom: u32) -> Result<(), AllocError> {
+    /// The events' numbers, and a line down from each, below all lanes.
+    fn add_axis(&mut self) -> Result<(), AllocError> {
         let mut sheet = Sheet::empty(self.alloc);
         let label = Point {
             x: self.left.saturating_sub(8),
             y: TOP - 18,
         };
         sheet.text(Short::new(b"label"), label, b"events")?;
-        let between = self.scale.between_ticks();
-        let mut event: u32 = 0;
-        for _ in 0..40 {
-            if event > self.scale.events {
-                break;
-            }
-            self.add_tick(&mut sheet, event, bottom)?;
-            event = event.saturating_add(between);
+        let ticks = self.axis.ticks(self.alloc)?;
+        for event in &ticks {
+            self.add_tick(&mut sheet, *event)?;
         }
-        self.groups.push(sheet.into_group(Short::new(b"axis")))
+        self.groups
+            .push_front(sheet.into_group(Short::new(b"axis")))
+    }
+
+    /// The mark of a row that is cut, in its middle.
+    fn add_cut(&self, sheet: &mut Sheet, row: &Still, x: u32) -> Result<(), AllocError> {
+        let at = Point {
+            x: x.saturating_sub(3),
+            y: TOP - 4,
+        };
+        let size = Size {
+            width: 6,
+            height: self.top.saturating_sub(TOP),
+        };
+        let title = still_title(self.alloc, row)?;
+        sheet.rectangle(Short::new(b"cut"), at, size, Some(title))?;
+        sheet.text(Short::new(b"tick"), Point { x, y: TOP - 6 }, b"//")
+    }
+
+    /// The rows of events that are cut, over all lanes.
+    fn add_cuts(&mut self) -> Result<(), AllocError> {
+        let mut sheet = Sheet::empty(self.alloc);
+        let mut free: u32 = 0;
+        for row in &self.history.stills.rows {
+            let before = self.axis.before(row.from.saturating_add(1));
+            if is_cut(row) && before >= free {
+                self.add_cut(&mut sheet, row, self.left.saturating_add(before))?;
+                free = before.saturating_add(12);
+            }
+        }
+        self.groups.push(sheet.into_group(Short::new(b"cuts")))
     }
 
     /// The heading, and the legend behind all lanes.
@@ -66,7 +93,7 @@ impl Canvas {
         let mut sheet = Sheet::empty(self.alloc);
         let mut heading = Telling::empty(self.alloc, 80);
         heading.push(b"A session of ")?;
-        heading.push_number(u64::from(self.scale.events))?;
+        heading.push_number(u64::from(self.axis.events))?;
         heading.push(b" events")?;
         sheet.owned_text(
             Short::new(b"heading"),
@@ -82,34 +109,30 @@ impl Canvas {
     }
 }
 
-/// The pixels above the end of all lanes.
-fn bottom_of(history: &History) -> u32 {
-    let others = if history.names.others.runs.is_empty() {
-        0
-    } else {
-        1
-    };
-    let lanes = history
-        .initiators
-        .len()
-        .saturating_add(history.names.lanes.len())
-        .saturating_add(others);
-    let lanes = to_u32(lanes).saturating_mul(LANE + GAP);
-    let volumes = to_u32(history.volumes.len()).saturating_mul(VOLUME + GAP);
-    TOP.saturating_add(lanes).saturating_add(volumes)
+/// What is told of a row that is cut.
+fn still_title(alloc: Global, row: &Still) -> Result<Text, AllocError> {
+    let mut title = Telling::empty(alloc, 80);
+    title.push(b"events ")?;
+    title.push_number(u64::from(row.from.saturating_add(1)))?;
+    title.push(b" to ")?;
+    title.push_number(u64::from(row.to))?;
+    title.push(b" do nothing")?;
+    Ok(title.into_text())
 }
 
 /// The picture of what is kept of a session: its lanes, the numbers of its events, and a legend. An `Err` is want of memory.
 pub fn picture_of(alloc: Global, history: &History) -> Result<Picture, AllocError> {
-    let mut canvas = Canvas::new(alloc, history);
+    let drawn = Drawn::of(alloc, &history.names)?;
+    let mut canvas = Canvas::new(alloc, history, &drawn)?;
     let width = canvas
         .left
-        .saturating_add(canvas.scale.width)
+        .saturating_add(canvas.axis.scale.width)
         .saturating_add(RIGHT)
         .max(LEAST_WIDTH);
+    canvas.add_lanes(&drawn)?;
+    canvas.add_axis()?;
+    canvas.add_cuts()?;
     add_patterns(alloc, &mut canvas.groups)?;
-    canvas.add_axis(bottom_of(history))?;
-    canvas.add_lanes(history)?;
     canvas.add_words(width)?;
     let title = Text::copy_of(alloc, b"A session, event by event")?;
     let style = Text::copy_of(alloc, STYLE)?;

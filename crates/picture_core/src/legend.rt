@@ -1,6 +1,6 @@
 //! The legend: what each mark means.
 use crate::sheet::Sheet;
-use crate::style::{OF_INITIATORS, OF_NAMES, OF_VOLUMES, class_of, word_of};
+use crate::style::{OF_INITIATORS, OF_NAMES, OF_QUEUE, OF_VOLUMES, OF_WRITERS, class_of, word_of};
 use history_core::look::Look;
 use plain::short::Short;
 use std::alloc::AllocError;
@@ -24,9 +24,18 @@ fn beside(at: Point, right: u32, down: u32) -> Point {
 /// Puts the legend into this many pixels across, from a place on. The pixels above its end.
 pub(crate) fn add_legend(sheet: &mut Sheet, place: Point, width: u32) -> Result<u32, AllocError> {
     let mut at = place;
+    at.y = add_part(sheet, at, width, b"Queue", &OF_QUEUE)?;
     at.y = add_part(sheet, at, width, b"Initiators", &OF_INITIATORS)?;
+    at.y = add_part(sheet, at, width, b"Writers", &OF_WRITERS)?;
     at.y = add_part(sheet, at, width, b"Names", &OF_NAMES)?;
-    add_part(sheet, at, width, b"Volumes", &OF_VOLUMES)
+    at.y = add_part(sheet, at, width, b"Volumes", &OF_VOLUMES)?;
+    sheet.text(Short::new(b"legend"), beside(at, 0, 11), b"Axis")?;
+    sheet.text(
+        Short::new(b"legend"),
+        beside(at, HEAD, 11),
+        b"// stands for events that do nothing",
+    )?;
+    Ok(at.y.saturating_add(LINE))
 }
 
 /// A part of the legend, of lines that begin with a word. The pixels above its end.
@@ -54,7 +63,7 @@ fn add_part(
 /// The size of a sample.
 fn size_of(look: Look) -> Size {
     let (width, height) = match look {
-        Look::Abend | Look::Fault => (11, 14),
+        Look::Abend | Look::Fault | Look::Cancel | Look::Rejected => (11, 14),
         Look::Busy => (28, 5),
         _ => (28, 14),
     };

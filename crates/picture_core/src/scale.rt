@@ -1,4 +1,4 @@
-//! Events, columns and pixels.
+//! Places of events, columns and pixels.
 ghost use Rattle.std.specs.Prelude.{◌≡◌};
 ghost use Rattle.picture_core.specs.Scales.{column_in, last_column};
 
@@ -6,7 +6,7 @@ ghost use Rattle.picture_core.specs.Scales.{column_in, last_column};
 const MOST_WIDTH: u32 = 1_600;
 
 /// The most pixels of one event.
-const MOST_EVENT: u32 = 24;
+const MOST_EVENT: u32 = 40;
 
 /// The fewest pixels of a column that holds more than one event.
 const LEAST_COLUMN: u32 = 4;
@@ -17,6 +17,7 @@ const MOST_SHAPES: u32 = 16_000;
 /// How many columns there are, how many events are in each, and how wide all of them are.
 #[derive(Clone, Copy)]
 pub(crate) struct Scale {
+    /// The places of events, of which each has one in this file.
     pub(crate) events: u32,
     /// At least 1.
     pub(crate) each: u32,

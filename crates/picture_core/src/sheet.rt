@@ -82,6 +82,8 @@ impl Sheet {
         match look {
             Look::Abend => self.text(Short::new(b"letter"), middle, b"A"),
             Look::Fault => self.text(Short::new(b"inked"), middle, b"F"),
+            Look::Cancel => self.text(Short::new(b"inked"), middle, b"C"),
+            Look::Rejected => self.text(Short::new(b"inked"), middle, b"R"),
             _ => Ok(()),
         }
     }

@@ -7,6 +7,11 @@ use svg_text::shape::{Form, Group, Head, Mark, Name, Point, Size};
 
 pub(crate) fn class_of(look: Look) -> Name {
     match look {
+        Look::Queued => Short::new(b"queued"),
+        Look::Together => Short::new(b"together"),
+        Look::Writes => Short::new(b"writes"),
+        Look::Cancel => Short::new(b"cancel"),
+        Look::Rejected => Short::new(b"rejected"),
         Look::Selected => Short::new(b"selected"),
         Look::Waits => Short::new(b"waits"),
         Look::Admitted => Short::new(b"admitted"),
@@ -25,17 +30,24 @@ pub(crate) fn class_of(look: Look) -> Name {
     }
 }
 
-/// Whether a job's number can be read on it.
-pub(crate) fn has_room(look: Look) -> bool {
+/// Words on a pattern have a white rim.
+pub(crate) fn words_on(look: Look) -> Name {
     match look {
-        Look::Selected | Look::Admitted | Look::Runs | Look::Alone | Look::Shared => true,
-        _ => false,
+        Look::Waits | Look::Device | Look::Bypassed | Look::Flushed | Look::Several => {
+            Short::new(b"rimmed")
+        }
+        _ => Short::new(b"inner"),
     }
 }
 
 /// What it is, in a title and in the legend.
 pub(crate) fn word_of(look: Look) -> &'static [u8] {
     match look {
+        Look::Queued => b"waits in the queue",
+        Look::Together => b"held by a job, other names",
+        Look::Writes => b"has its lines written",
+        Look::Cancel => b"CANCEL",
+        Look::Rejected => b"REJECTED",
         Look::Selected => b"selected",
         Look::Waits => b"waits for names or space",
         Look::Admitted => b"admitted",
@@ -54,8 +66,12 @@ pub(crate) fn word_of(look: Look) -> &'static [u8] {
     }
 }
 
-/// What the legend shows of initiators, of names, and of volumes.
-pub(crate) const OF_INITIATORS: [Look; 9] = [
+/// What the legend shows of the queue, of initiators, of writers, of names, and of volumes.
+pub(crate) const OF_QUEUE: [Look; 2] = [Look::Queued, Look::Rejected];
+
+pub(crate) const OF_WRITERS: [Look; 1] = [Look::Writes];
+
+pub(crate) const OF_INITIATORS: [Look; 10] = [
     Look::Selected,
     Look::Waits,
     Look::Admitted,
@@ -65,9 +81,10 @@ pub(crate) const OF_INITIATORS: [Look; 9] = [
     Look::Flushed,
     Look::Abend,
     Look::Fault,
+    Look::Cancel,
 ];
 
-pub(crate) const OF_NAMES: [Look; 3] = [Look::Alone, Look::Shared, Look::Several];
+pub(crate) const OF_NAMES: [Look; 4] = [Look::Alone, Look::Shared, Look::Together, Look::Several];
 
 pub(crate) const OF_VOLUMES: [Look; 3] = [Look::Free, Look::Kept, Look::Busy];
 
@@ -82,6 +99,14 @@ text{fill:#000}
 .tick{text-anchor:middle}
 .lane{fill:#fafafa;stroke:#ddd}
 .inner{font-size:10px;pointer-events:none}
+.rimmed{font-size:10px;pointer-events:none;stroke:#fff;stroke-width:5;paint-order:stroke}
+.note{font-size:10px}
+.queued{fill:#eee}
+.writes{fill:#eee}
+.together{fill:#ddd}
+.cut{fill:#fff;stroke:#000;stroke-dasharray:1 3}
+.cancel{fill:#fff;stroke-width:2}
+.rejected{fill:#fff;stroke-width:2}
 .selected{fill:#fff;stroke-dasharray:3 2}
 .waits{fill:url(#hatching)}
 .admitted{fill:#fff}

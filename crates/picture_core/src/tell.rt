@@ -1,6 +1,7 @@
 //! What is told where the pointer is on a shape.
 use crate::cut::Piece;
 use crate::style::word_of;
+use history_core::jobs::Jobs;
 use history_core::lane::{Run, What};
 use history_core::look::Look;
 use plain::text::Text;
@@ -75,35 +76,65 @@ impl Telling {
         self.push_number(u64::from(to))
     }
 
+    /// A job's number and name.
+    fn push_named(&mut self, job: u16, jobs: &Jobs) -> Result<(), AllocError> {
+        self.push(b"job ")?;
+        self.push_job(job)?;
+        let name = jobs.name_of(job);
+        if name.is_empty() {
+            return Ok(());
+        }
+        self.push(b" ")?;
+        self.push(name)
+    }
+
+    /// How a name is held.
+    fn push_held(&mut self, what: What, jobs: &Jobs) -> Result<(), AllocError> {
+        self.push(word_of(what.look))?;
+        self.push(b", ")?;
+        self.push_named(what.job, jobs)?;
+        if what.number > 1 {
+            self.push(b" the first of ")?;
+            self.push_number(what.number as u64)?;
+        }
+        Ok(())
+    }
+
+    /// What a job does.
+    fn push_doing(&mut self, run: &Run, jobs: &Jobs) -> Result<(), AllocError> {
+        self.push_named(run.what.job, jobs)?;
+        if run.what.number > 0 {
+            self.push(b" step ")?;
+            self.push_number(run.what.number as u64)?;
+            self.push(b" ")?;
+            self.push(run.step.as_slice())?;
+        }
+        self.push(b" ")?;
+        self.push(word_of(run.what.look))
+    }
+
     /// What a run is.
-    fn push_what(&mut self, what: What) -> Result<(), AllocError> {
+    fn push_what(&mut self, run: &Run, jobs: &Jobs) -> Result<(), AllocError> {
+        let what = run.what;
         match what.look {
             Look::Busy => self.push(word_of(what.look)),
             Look::Several => {
                 self.push_number(what.number as u64)?;
-                self.push(b" holds of other names")
+                self.push(b" more jobs wait")
             }
-            Look::Alone | Look::Shared => {
-                self.push(word_of(what.look))?;
-                self.push(b", job ")?;
-                self.push_job(what.job)?;
-                if what.number > 1 {
-                    self.push(b" the first of ")?;
-                    self.push_number(what.number as u64)?;
-                }
-                Ok(())
+            Look::Alone | Look::Shared => self.push_held(what, jobs),
+            Look::Together => {
+                self.push_named(what.job, jobs)?;
+                self.push(b" holds ")?;
+                self.push_number(what.number as u64)?;
+                self.push(b" of the other names")
             }
-            _ => {
-                self.push(b"job ")?;
-                self.push_job(what.job)?;
-                if what.number > 0 {
-                    self.push(b" step ")?;
-                    self.push_number(what.number as u64)?;
-                }
-                self.push(b" ")?;
-                self.push(word_of(what.look))
-            }
+            _ => self.push_doing(run, jobs),
         }
+    }
+
+    pub(crate) fn as_slice(&self) -> &[u8] {
+        self.bytes.as_slice()
     }
 
     pub(crate) fn into_text(self) -> Text {
@@ -121,9 +152,15 @@ fn end_of(runs: &[Run], events: u32) -> u32 {
 }
 
 /// The title of a run.
-fn run_title(alloc: Global, run: &Run, events: u32, limit: usize) -> Result<Text, AllocError> {
+fn run_title(
+    alloc: Global,
+    jobs: &Jobs,
+    run: &Run,
+    events: u32,
+    limit: usize,
+) -> Result<Text, AllocError> {
     let mut telling = Telling::empty(alloc, limit);
-    telling.push_what(run.what)?;
+    telling.push_what(run, jobs)?;
     telling.push_events(run.from, run.to.min(events))?;
     telling.push(b"\n")?;
     telling.push(run.lines.as_slice())?;
@@ -156,12 +193,13 @@ pub(crate) fn runs_in<'a>(piece: &Piece, runs: &'a [Run]) -> &'a [Run] {
 /// The title of a piece.
 pub(crate) fn piece_title(
     alloc: Global,
+    jobs: &Jobs,
     runs: &[Run],
     events: u32,
     limit: usize,
 ) -> Result<Text, AllocError> {
     match runs {
-        [run] => run_title(alloc, run, events, limit),
+        [run] => run_title(alloc, jobs, run, events, limit),
         _ => runs_title(alloc, runs, events, limit),
     }
 }

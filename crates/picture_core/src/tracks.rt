@@ -12,7 +12,7 @@ use plain::text::Text;
 use std::alloc::AllocError;
 use svg_text::shape::Point;
 
-impl Canvas {
+impl Canvas<'_> {
     /// The place of a number of tracks in a volume's lane.
     pub(crate) fn level_at(&self, column: u32, tracks: usize, most: usize) -> Point {
         let height = part(VOLUME.saturating_sub(14), tracks as u64, most as u64);
@@ -29,7 +29,7 @@ impl Canvas {
         let mut points = Listed::empty(self.alloc);
         let mut before: Option<u32> = None;
         for (place, level) in levels.iter().enumerate() {
-            let column = self.scale.column_of(level.from);
+            let column = self.axis.column_of(level.from);
             if self.is_followed(levels, place, column) {
                 continue;
             }
@@ -42,7 +42,7 @@ impl Canvas {
         }
         if let Some(y) = before {
             points.push(Point {
-                x: self.left.saturating_add(self.scale.width),
+                x: self.left.saturating_add(self.axis.scale.width),
                 y,
             })?;
         }
@@ -52,7 +52,7 @@ impl Canvas {
     /// Whether the level behind a place is in this column too.
     pub(crate) fn is_followed(&self, levels: &[Level], place: usize, column: u32) -> bool {
         match levels.get(place.saturating_add(1)) {
-            Some(next) => self.scale.column_of(next.from) == column,
+            Some(next) => self.axis.column_of(next.from) == column,
             None => false,
         }
     }
@@ -63,7 +63,7 @@ impl Canvas {
         lane: &VolumeLane,
         look: Look,
     ) -> Result<(), AllocError> {
-        let points = self.steps(lane.levels.as_slice(), look, lane.most)?;
+        let points = self.steps(lane.levels.as_slice(), look, lane.size)?;
         let title = Text::copy_of(self.alloc, word_of(look))?;
         sheet.polyline(class_of(look), points, Some(title))
     }
@@ -71,15 +71,14 @@ impl Canvas {
     pub(crate) fn add_volume(&mut self, lane: &VolumeLane) -> Result<(), AllocError> {
         let mut sheet = Sheet::empty(self.alloc);
         self.add_ground(&mut sheet, lane.serial.as_slice(), VOLUME)?;
-        let mut most = Telling::empty(self.alloc, 40);
-        most.push(b"of ")?;
-        most.push_number(lane.most as u64)?;
-        most.push(b" tracks")?;
+        let mut size = Telling::empty(self.alloc, 40);
+        size.push_number(lane.size as u64)?;
+        size.push(b" tracks")?;
         let below = Point {
             x: self.left.saturating_sub(8),
             y: self.top.saturating_add(32),
         };
-        sheet.owned_text(Short::new(b"label"), below, most.into_text())?;
+        sheet.owned_text(Short::new(b"label"), below, size.into_text())?;
         self.add_steps(&mut sheet, lane, Look::Kept)?;
         self.add_steps(&mut sheet, lane, Look::Free)?;
         self.add_runs(&mut sheet, &lane.busy, VOLUME.saturating_sub(6), 5)?;
