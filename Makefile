@@ -22,7 +22,7 @@ help:
 	@echo 'make install [PREFIX=DIR]  copies the programs that make mvt and make tools built, with a manual page for each, to DIR (/usr/local)'
 	@echo 'make test-install         installs them to a folder of its own, and looks at what is there'
 	@echo 'make test-check           compares the sessions of tests/check/ with ./mvt-check'
-	@echo 'make pictures             draws each session of examples/ with ./mvt-picture and reads the pictures as XML'
+	@echo 'make pictures             draws each session of examples/ with ./mvt-picture, and compares the pictures with the listings'
 	@echo 'make test-play            compares the sessions of tests/play/ with ./mvt-play and ./mvt'
 	@echo 'make examples             runs each session of examples/ with ./mvt and compares the listings'
 	@echo 'make documents            compares README.md and docs/ with ./mvt: what examples print, how refusals are reported; and looks for'

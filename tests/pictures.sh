@@ -1,5 +1,6 @@
 #!/bin/sh
-# Draws each session of examples/ with the program that is given, and reads the pictures as XML.
+# Draws each session of examples/ with the program that is given, reads the pictures as XML, and compares what their words say with the listing
+# beside the session: tests/pictures.py says how. A picture that stands beside its session has to be the same to the byte.
 # Usage: tests/pictures.sh PROGRAM
 
 program=$1
@@ -13,9 +14,12 @@ for session in $(find examples -name '*.session' | sort); do
         echo "$session: status $ended"
         status=1
     fi
-    if ! python3 -c 'import sys, xml.dom.minidom; xml.dom.minidom.parse(sys.argv[1])' "$picture" 2>/dev/null; then
-        echo "$session: the picture is not well-formed"
+    python3 tests/pictures.py "$picture" "$session" || status=1
+    drawn=${session%.session}.svg
+    if [ -e "$drawn" ] && ! cmp -s "$picture" "$drawn"; then
+        echo "$session: the picture is not that of $drawn"
         status=1
     fi
 done
+python3 tests/pictures.py --made "$program" || status=1
 exit $status
