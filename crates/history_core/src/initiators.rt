@@ -130,6 +130,27 @@ impl InitiatorLane {
         }
     }
 
+    /// What its job waits for behind a line: a name, or the device of a volume.
+    fn add_wait(
+        &mut self,
+        alloc: Global,
+        event: u32,
+        line: &JobLine,
+        jobs: &Jobs,
+        draft: &mut Draft,
+    ) -> Result<(), AllocError> {
+        match line {
+            JobLine::WaitNames { holder, name } => {
+                wait_text(*holder, *name, jobs, draft)?;
+                self.lane.note(alloc, event, true, draft.kept())
+            }
+            JobLine::GetStart { serial, .. } | JobLine::PutStart { serial, .. } => {
+                self.lane.note(alloc, event, false, serial.as_slice())
+            }
+            _ => Ok(()),
+        }
+    }
+
     /// A line of its job.
     fn add_own(
         &mut self,
@@ -144,11 +165,7 @@ impl InitiatorLane {
                 self.take_names(line, draft)?;
                 text_of(entry, draft)?;
                 self.add_line(alloc, event, line, draft.kept())?;
-                if let JobLine::WaitNames { holder, name } = line {
-                    wait_text(*holder, *name, jobs, draft)?;
-                    self.lane.note(alloc, event, true, draft.kept())?;
-                }
-                Ok(())
+                self.add_wait(alloc, event, line, jobs, draft)
             }
             Entry::Cancel(_) => {
                 text_of(entry, draft)?;
