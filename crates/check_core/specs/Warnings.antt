@@ -1,16 +1,41 @@
 -- Warnings of the cards of a deck, as text. Lines of the session count from 1, cards from 0. (This profile)
-use Rattle.std.specs.Prelude.{ℕ, ◌+◌, nat_lt, Bool, false, List, [], ◌∷◌, ◌++◌, length, take_while, Option, None, Some, codes, decimal}
+use Rattle.std.specs.Prelude.{ℕ, ◌+◌, ◌==◌, nat_lt, Bool, false, not, ◌&&◌, ◌||◌, List, [], ◌∷◌, ◌++◌, length, take_while, Option, None, Some, codes, decimal, if◌then◌else◌}
+use Rattle.std.specs.List.{list_any}
+use Rattle.std.specs.Option.{option_map}
+use Rattle.card_warnings.specs.Warnings.{warning_of, words_of}
+use Rattle.check_core.specs.declared.report.Checked.{Checked}
+use Rattle.check_core.specs.declared.report.Checked.TheVariants.{Refused, Taken}
+use Rattle.check_core.specs.declared.report.Report.{Report}
 use Rattle.check_core.specs.declared.warnings.Warned.{Warned}
-use Rattle.check_core.specs.declared.warnings.Warning.{Warning}
-use Rattle.check_core.specs.declared.warnings.Warning.TheVariants.{Comment, Cut, JobLibrary, OneSlash, Swallowed}
 
--- what is said of a card
-abbrev pub words_of : Warning → List ℕ
-words_of Swallowed = codes "a ./ line is a card of this deck: a ./ END is missing before it"
-words_of Cut = codes "the text is cut behind column 71"
-words_of Comment = codes "a blank ends the operand: what looks like a keyword behind it is a comment"
-words_of JobLibrary = codes "JOBLIB is dropped: programs are those of ./ PROGRAM"
-words_of OneSlash = codes "with one slash it is a card of data; a statement begins with two"
+-- a report has a sentence for its card, and is at this one
+abbrev pub hint_at : ℕ → Option ℕ → List ℕ → Bool
+hint_at n None hint = false
+hint_at n (Some card) hint = card == n && not (length hint == 0)
+
+abbrev pub tells_hint : ℕ → Report → Bool
+tells_hint n report = hint_at n report.spot.card report.hint
+
+-- a refusal at this card tells already of what the card warns of
+abbrev pub is_told : Checked → ℕ → Bool
+is_told (Taken plan) n = false
+is_told (Refused first later) n = tells_hint n first || list_any (tells_hint n) later.items
+
+-- what a card of a deck warns of, of which this is told
+abbrev pub warned_at : Checked → ℕ → List ℕ → Option Warned
+warned_at checked n line = if is_told checked n then None else option_map (λ warning. record { card = n; warning = warning }) (warning_of line)
+
+abbrev pub listed : Option Warned → List Warned
+listed None = []
+listed (Some w) = w ∷ []
+
+-- what the cards from this one on warn of, and those of a whole deck
+abbrev pub warned_from : Checked → ℕ → List (List ℕ) → List Warned
+warned_from checked n [] = []
+warned_from checked n (line ∷ lines) = listed (warned_at checked n line) ++ warned_from checked (n + 1) lines
+
+abbrev pub warned_of : Checked → List (List ℕ) → List Warned
+warned_of checked lines = warned_from checked 0 lines
 
 -- a warning on this line of the session
 abbrev pub warning_text : ℕ → List ℕ → List ℕ

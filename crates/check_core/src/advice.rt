@@ -1,13 +1,12 @@
 //! What is said beside a refusal of a deck.
-use crate::guess::{
-    is_keyword, is_keyword_of, nearest_keyword, nearest_value, procedure_at, word_at,
-};
+use crate::guess::{is_keyword, nearest_keyword, nearest_value, procedure_at, word_at};
 use crate::hint::{push_hint, push_sentence, seems_to_continue, value_of, wrong_word};
 use crate::mended::{Mended, card_at};
 use crate::report::{Inside, Spot};
 use card_core::card::{Kind, card_of, kind_of};
 use card_core::field::fields_of;
 use card_core::statement::DataCard;
+use card_warnings::keywords::is_keyword_of;
 use jcl_plan::fault::{Cause, StatementFault};
 use plain::text::Text;
 use std::alloc::{AllocError, Global};

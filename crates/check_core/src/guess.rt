@@ -6,32 +6,13 @@ use crate::report::Spot;
 use card_core::card::{Kind, card_of, kind_of};
 use card_core::field::fields_of;
 use card_core::statement::DataCard;
+use card_warnings::keywords::keywords_of;
 use jcl_plan::fault::{Cause, StatementFault};
 use jname_core::name8::{Name8, is_name_character};
 use plain::lent::Lent;
 use plain::text::Text;
 use std::alloc::{AllocError, Global};
 use strsim::generic_levenshtein;
-
-static JOB_KEYWORDS: [&[u8]; 8] = [
-    b"CLASS",
-    b"PRTY",
-    b"MSGCLASS",
-    b"COND",
-    b"MSGLEVEL",
-    b"NOTIFY",
-    b"REGION",
-    b"TIME",
-];
-
-static EXEC_KEYWORDS: [&[u8]; 7] = [
-    b"PGM", b"PROC", b"COND", b"PARM", b"REGION", b"TIME", b"ACCT",
-];
-
-static DD_KEYWORDS: [&[u8]; 15] = [
-    b"DSNAME", b"DSN", b"DISP", b"UNIT", b"VOLUME", b"VOL", b"SPACE", b"SYSOUT", b"DDNAME",
-    b"LABEL", b"DCB", b"UCS", b"FCB", b"OUTLIM", b"DUMMY",
-];
 
 static OPERATIONS: [&[u8]; 5] = [b"JOB", b"EXEC", b"DD", b"PROC", b"PEND"];
 
@@ -252,24 +233,6 @@ fn operand_of(text: &[u8]) -> &[u8] {
     let len = text.iter().take_while(|c| **c != b' ').count();
     let (operand, _) = text.split_at(len);
     operand
-}
-
-fn keywords_of(operation: &[u8]) -> &'static [&'static [u8]] {
-    if operation == b"JOB".as_slice() {
-        JOB_KEYWORDS.as_slice()
-    } else if operation == b"EXEC".as_slice() {
-        EXEC_KEYWORDS.as_slice()
-    } else {
-        DD_KEYWORDS.as_slice()
-    }
-}
-
-/// Whether a word is a keyword of statements with this operation.
-pub(crate) fn is_keyword_of(operation: &[u8], word: &[u8]) -> bool {
-    let known = operation == b"JOB".as_slice()
-        || operation == b"EXEC".as_slice()
-        || operation == b"DD".as_slice();
-    known && keywords_of(operation).iter().any(|other| *other == word)
 }
 
 /// The operation of the statement that a card belongs to: its own, or that of the last card before it that has a name field or an operation.

@@ -1,9 +1,10 @@
 //! What is said beside a refusal: the form of a value, and a mistake that looks like another one.
-use crate::guess::is_keyword_of;
-use crate::warnings::is_cut;
+
 use card_core::card::{Kind, kind_of};
 use card_core::field::fields_of;
 use card_core::statement::DataCard;
+use card_warnings::keywords::is_keyword_of;
+use card_warnings::warning::is_cut;
 use jcl_plan::fault::{Cause, StatementFault};
 use jname_core::name8::{is_first, is_name_character};
 use std::alloc::AllocError;

@@ -2,10 +2,10 @@
 ghost use Rattle.std.specs.Prelude.{◌≡◌, ℕ, ◌++◌, ◌∷◌, List, IfOk, OnOk, Some, decimal, map, replicate, take};
 ghost use Rattle.jcl_plan.specs.Texts.{cause_text};
 ghost use Rattle.check_core.specs.Texts.{AddsToldText, TellsPlace, card_text, column_count, cut_mark, has_text, head, inside_text, is_cut, line_of, mark_text, marked_text, of_session_text, shown, spot_text};
-ghost use Rattle.check_core.specs.Warnings.{count_before, warnings_text};
+ghost use Rattle.check_core.specs.Warnings.{count_before, warned_of, warnings_text};
 
 use crate::report::{Checked, Inside, Report, Spot};
-use crate::warnings::{Warned, count_before, push_warned};
+use crate::warnings::{Warned, count_before, push_warned, warnings_of};
 use card_core::statement::Card;
 use itoa::Buffer;
 use jcl_plan::fault::Cause;
@@ -360,7 +360,7 @@ fn push_refused(
 
 /// Puts what is told of a deck that is refused behind a text, and among that what its cards warn of. The deck's first card stands on this line of the
 /// session, which counts from 1. Of a deck that denotes a job nothing is put.
-pub fn push_checked(
+fn push_checked(
     text: &mut Vec<u8>,
     first_line: usize,
     lines: &[Card<'_>],
@@ -375,4 +375,20 @@ pub fn push_checked(
             push_refused(text, first_line, lines, first, later.as_slice(), warned)
         }
     }
+}
+
+/// The same, with what the cards of the deck warn of, which is answered.
+pub fn push_found(
+    alloc: Global,
+    text: &mut Vec<u8>,
+    first_line: usize,
+    lines: &[Card<'_>],
+    checked: &Checked,
+) -> Result<Vec<Warned>, AllocError>
+    ensures told { OnOk result (AddsToldText first_line lines.now checked.now (warned_of checked.now lines.now) text.old.items text.new.items) }
+    ensures warned { IfOk result (λ warned. warned.items ≡ warned_of checked.now lines.now) }
+{
+    let warned = warnings_of(alloc, lines, checked)?;
+    push_checked(text, first_line, lines, checked, warned.as_slice())?;
+    Ok(warned)
 }

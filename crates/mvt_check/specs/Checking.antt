@@ -12,7 +12,7 @@ use Rattle.check_core.specs.declared.report.Checked.{Checked}
 use Rattle.check_core.specs.declared.report.Checked.TheVariants.{Refused, Taken}
 use Rattle.check_core.specs.Reports.{AreTold}
 use Rattle.check_core.specs.Texts.{AddsToldText}
-use Rattle.check_core.specs.declared.warnings.Warned.{Warned}
+use Rattle.check_core.specs.Warnings.{warned_of}
 use Rattle.config_core.specs.Configs.{unit_names}
 use Rattle.session_input.specs.declared.event.Event.{Event}
 use Rattle.session_input.specs.declared.event.Event.TheVariants as event
@@ -55,9 +55,8 @@ GoesOn old new = (more : List ℕ) × (new ≡ old ++ more)
 
 -- Behind a text comes what is found of a deck, whose first card stands on this line, with what its cards warn of; and behind that, what is told of its job.
 pub record AddsFound (first : ℕ) (lines : List (List ℕ)) (checked : Checked) (old new : List ℕ) : Type 0 where
-  pub warned : List Warned
   pub between : List ℕ
-  pub added : AddsToldText first lines checked warned old between
+  pub added : AddsToldText first lines checked (warned_of checked lines) old between
   pub on : GoesOn between new
 
 -- so of what is found of it with these units and procedures

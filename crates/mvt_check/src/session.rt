@@ -17,8 +17,8 @@ use crate::brief::count_warnings;
 use crate::known::{Known, Site, rooms_of, trials_of, turns_of};
 use check_core::deck::{Sources, check_deck};
 use check_core::report::Checked;
-use check_core::text::push_checked;
-use check_core::warnings::{Warned, push_warned, warnings_of};
+use check_core::text::push_found;
+use check_core::warnings::{Warned, push_warned};
 use itoa::Buffer;
 use plain::lent::Lent;
 use plain::text::Text;
@@ -277,10 +277,8 @@ fn tell_deck(
     ensures refused { IfOk result (λ refused. refused ≡ is_refused_so checked.now) }
     ensures added { OnOk result (AddsFound first lines.now checked.now text.old.items text.new.items) }
 {
-    let warned = warnings_of(alloc, lines, checked)?;
-    let warned = warned.as_slice();
-    let asides = asides_of(alloc, known, first, lines, checked, warned, deck)?;
-    push_checked(text, first, lines, checked, warned)?;
+    let warned = push_found(alloc, text, first, lines, checked)?;
+    let asides = asides_of(alloc, known, first, lines, checked, warned.as_slice(), deck)?;
     text.extend_from_slice(asides.as_slice())?;
     Ok(is_refused(checked))
 }
