@@ -5,15 +5,16 @@
     python3 bench/plans.py --rows
 
 PROGRAM is the proved program that compares tables, crates/worked_rows/out/worked_rows where none is given; with WORDs only the cases in
-whose description one of them stands. It prints a row a case: the instructions of the whole process, those with half the views, those with half the steps,
-the most memory, and the instructions as a multiple of those of a plain program. With --rows it prints the rows that are measured.
+whose description one of them stands. It prints a row a case: the instructions of the whole process, those with half the views, those with
+half the steps, the most memory, and the instructions as a multiple of those of a plain program. With --rows it prints the rows that are
+measured.
 """
 
 import os
-import re
-import subprocess
 import sys
 import tempfile
+
+import measure
 
 PROGRAM = "crates/worked_rows/out/worked_rows"
 # Instructions, in millions, of a plain program without proofs on sessions whose jobs have such plans: it reads and analyses them, and
@@ -81,41 +82,26 @@ def both_ways(steps, tests):
 CASES = [(subsets, 9, 8), (chain, 504, 248), (chain_and_one, 248, 120), (both_ways, 16, 8)]
 
 
-def written(folder, name, text):
-    path = os.path.join(folder, name)
-    with open(path, "w", encoding="ascii") as file:
+def on(program, text, measured):
+    """What a measure says of the program on this plan."""
+    with tempfile.NamedTemporaryFile("w", encoding="ascii", suffix=".rows") as file:
         file.write("A plan for a measurement.\n\n" + text)
-    return path
+        file.flush()
+        return measured([program, "paths", file.name])
 
 
-def instructions(program, text):
-    """The instructions of one run, in whole."""
-    with tempfile.TemporaryDirectory() as folder:
-        command = ["valgrind", "--tool=callgrind", f"--callgrind-out-file={folder}/counts", program, "paths", written(folder, "plan.rows", text)]
-        ran = subprocess.run(command, stdout=subprocess.DEVNULL, stderr=subprocess.PIPE, check=False)
-        found = re.search(rb"Collected : (\d+)", ran.stderr)
-        if ran.returncode or not found:
-            raise SystemExit(ran.stderr.decode(errors="replace"))
-        return int(found[1])
-
-
-def memory(program, text):
-    """The most memory of a run without callgrind, in bytes."""
-    with tempfile.TemporaryDirectory() as folder:
-        child = subprocess.Popen([program, "paths", written(folder, "plan.rows", text)], stdout=subprocess.DEVNULL)
-        used = os.wait4(child.pid, 0)[2]
-        child.returncode = 0
-        return used.ru_maxrss * 1024
+def description(make, tests):
+    return make.__doc__.format(steps=STEPS, tests=tests)
 
 
 def measured(program, make, tests, half):
     """The row of a case."""
-    whole = instructions(program, make(STEPS, tests))
-    views, steps = instructions(program, make(STEPS, half)), instructions(program, make(STEPS // 2, tests))
-    most = memory(program, make(STEPS, tests)) / 1e6
-    name = " ".join(make.__doc__.format(steps=STEPS, tests=tests).split())
-    ratio = whole / (PLAIN[make.__name__] * 1e6)
-    counts = " | ".join(f"{count / 1e6:,.0f} M" for count in (whole, views, steps))
+    plans = make(STEPS, tests), make(STEPS, half), make(STEPS // 2, tests)
+    whole, views, steps = (on(program, text, measure.instructions) for text in plans)
+    most = on(program, plans[0], measure.lines_and_memory)[1]
+    name = description(make, tests)
+    ratio = whole / PLAIN[make.__name__]
+    counts = " | ".join(f"{count:,.0f} M" for count in (whole, views, steps))
     return f"| {name} | {counts} | {most:.1f} MB | {ratio:.1f} |"
 
 
@@ -125,9 +111,13 @@ def main():
         return
     program = os.path.abspath(sys.argv[1] if len(sys.argv) > 1 else PROGRAM)
     words = sys.argv[2:]
+    unknown = [word for word in words if not any(word in description(make, tests) for make, tests, _ in CASES)]
+    if unknown or not os.access(program, os.X_OK):
+        print(f"No case has in its description: {', '.join(unknown)}" if unknown else f"{program} is no program", file=sys.stderr)
+        raise SystemExit(2)
     print("| Plan | Instructions | Half the views | Half the steps | Memory | To the plain program |\n|---|---|---|---|---|---|")
     for make, tests, half in CASES:
-        if not words or any(word in make.__doc__ for word in words):
+        if not words or any(word in description(make, tests) for word in words):
             print(measured(program, make, tests, half), flush=True)
 
 
