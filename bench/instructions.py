@@ -1,181 +1,170 @@
 #!/usr/bin/env python3
-"""Instructions of the program on the sessions of bench/sessions.py and bench/growth.py, by valgrind's callgrind.
+"""Instructions and memory of the program on the sessions of bench/table.py, by valgrind's callgrind.
 
-    python3 bench/instructions.py [PROGRAM [WORD..]]
-
-PROGRAM is ./mvt by default; with WORDs only the sessions in whose description one of them stands. It prints a row a session: the lines
-of its listing, the instructions of the whole process, those at half the size and how often the one has the other, the most memory, and
-the instructions and the memory as multiples of those of a plain program, where PLAIN has them. A line after the table names each row that
-takes over a twentieth more instructions than bench/README.md says. Callgrind takes some fifty times the program's own time.
+A row a session: the lines of its listing, the instructions of the whole process, those at half the size and how often the one has the
+other, the instructions as a multiple of those of a plain program, where the table has them, and so the most memory, which is measured
+without valgrind. Callgrind takes some fifty times the program's own time.
 """
 
+import argparse
+import concurrent.futures
+import math
 import os
 import re
-import subprocess
 import sys
-import tempfile
-import textwrap
+from typing import NamedTuple
 
-import growth
-import sessions
+import measure
+import table
 
-# What a plain program without proofs takes that writes the same listings, for the very same session: millions of instructions, and the
-# most memory in MB. It is not in this repository.
-PLAIN = {
-    "blocked": (32.9, 4.5),
-    "calls": (15.2, 3.5),
-    "cards": (12.3, 4.2),
-    "catalogued": (341.2, 12.9),
-    "deleted": (338.4, 5.5),
-    "events": (10.0, 1.9),
-    "idle": (45.1, 3.4),
-    "initiators": (240.5, 6.1),
-    "jobs": (157.3, 5.5),
-    "line_feeds": (27.8, 3.0),
-    "many_steps": (58.0, 3.3),
-    "many_writers": (130.6, 4.2),
-    "most_dds": (10.9, 3.3),
-    "names": (292.9, 4.9),
-    "one_step": (72.6, 3.1),
-    "one_writer": (130.7, 4.4),
-    "past": (405.9, 2.4),
-    "procedures": (42.2, 7.5),
-    "refused": (405.9, 2.2),
-    "rejected": (28.2, 3.1),
-    "requests": (35.6, 3.6),
-    "turns": (73.0, 3.4),
-    "unnamed": (410.7, 5.0),
-    "waiting": (48.4, 3.3),
-    "procedure_called_often": (24.6, 3.5),
-    "long_procedure": (6.9, 3.2),
-    "calls_with_symbols": (7.2, 2.6),
-    "blank_cards": (109.4, 115.3),
-    "data_and_turns": (54.5, 58.1),
-    "blank_procedure": (55.1, 19.3),
-    "long_unit": (161.8, 2.5),
-    "blank_sets": (87.1, 22.6),
-    "set_records": (27.1, 10.4),
-    "longest_programs": (37.6, 8.0),
-    "groups": (83.4, 12.3),
-    "sets": (87.4, 16.8),
-    "units": (93.1, 8.2),
-    "displays": (294.5, 2.9),
-    "puts_to_output": (29.7, 4.5),
-    "generations": (905.8, 3.7),
-    "places": (18.9, 3.9),
-    "scratched": (91.0, 5.3),
-    "uncatalogued": (89.5, 5.4),
-    "simple_wait_for_space": (26.0, 2.7),
-    "long_wait_for_space": (166.6, 2.4),
-    "wait_with_views": (7.2, 2.5),
-    "waits_for_space": (173.7, 2.9),
-    "waits_for_a_name": (28.3, 3.9),
-    "waits_for_the_last_name": (84.8, 3.7),
-    "waits_beside_shared_names": (146.7, 5.1),
-    "longest_wait_for_space": (24.2, 2.6),
-    "many_classes": (6.4, 2.2),
-    "opposite_tests": (365.9, 4.2),
-    "views_of_old_sets": (476.9, 3.8),
-    "views_of_no_sets": (431.1, 3.5),
-    "views_of_unnamed_sets": (473.9, 3.8),
-    "views_of_both": (478.2, 3.7),
-    "views_of_few_dds": (868.7, 3.7),
-    "largest_jobs": (144.2, 5.1),
-    "five_scenes": (39.3, 3.3),
-    "seven_scenes": (92.9, 3.2),
-    "nine_scenes": (260.8, 3.2),
-    "passed_scenes": (128.0, 3.2),
-    "touched_scenes": (37.7, 3.2),
-    "groups_of_two_pairs": (76.8, 8.8),
-    "groups_of_four_pairs": (83.2, 8.6),
-}
 README = os.path.join(os.path.dirname(os.path.abspath(__file__)), "README.md")
+# Between these marks the page has the table.
+FIRST, LAST = "<!-- The table is written by bench/instructions.py --write. -->\n", "<!-- Its end. -->\n"
+HEAD = "| Session | Lines | Instructions | Of half | Ratio | To plain | Memory | To plain |\n|---|---|---|---|---|---|---|---|\n"
+# The cells of a row that was never counted.
+NONE = ["-"] * 7
+# The status where a row has grown; misuse has 2.
+GROWN = 3
 
 
-def empty():
-    """An empty session."""
-    return b""
+class Counted(NamedTuple):
+    """What one run takes: millions of instructions at whole and at half size, the lines of the listing, and the most memory in MB."""
+
+    whole: float
+    half: float | None
+    listed: int
+    memory: float
 
 
-def instructions(program, text):
-    """The instructions of one run, in whole."""
-    with tempfile.NamedTemporaryFile() as counts:
-        command = ["valgrind", "--tool=callgrind", f"--callgrind-out-file={counts.name}", program]
-        ran = subprocess.run(command, stdin=held_at(text), stdout=subprocess.DEVNULL, stderr=subprocess.PIPE, check=False)
-        found = re.search(rb"Collected : (\d+)", ran.stderr)
-        if not found:
-            raise SystemExit(ran.stderr.decode(errors="replace"))
-        return int(found[1])
+def begun(pool, program, row):
+    """What tells what a row takes: each of its runs is a piece of work of its own."""
+    whole = pool.submit(lambda: measure.instructions([program], row.text()))
+    half = pool.submit(lambda: measure.instructions([program], row.half())) if row.size else None
+    once = pool.submit(lambda: measure.lines_and_memory([program], row.text()))
+    return lambda: Counted(whole.result(), half and half.result(), *once.result())
 
 
-def held_at(text):
-    """A file with this text, at its beginning."""
-    file = sessions.held(text)
-    file.seek(0)
-    return file
+def counted_rows(program, rows, jobs, said):
+    """Each row with what it takes. Where several run side by side, those that the page says to be long begin first."""
+    def length(row):
+        return number_of(said.get(row.words, NONE)[1], "M") or (0, 0)
 
-
-def run_once(program, text):
-    """The lines of the listing, and the most memory that was seen while it ran, in bytes: it is looked at again and again."""
-    most = 0
-    with tempfile.TemporaryFile() as taken:
-        child = subprocess.Popen([program], stdin=held_at(text), stdout=taken, stderr=subprocess.DEVNULL)
-        while child.poll() is None:
-            with open(f"/proc/{child.pid}/status", "rb") as status:
-                found = re.search(rb"VmHWM:\s+(\d+) kB", status.read())
-                most = max(most, int(found[1]) * 1024) if found else most
-        taken.seek(0)
-        return sum(1 for _ in taken), most
+    pool = concurrent.futures.ThreadPoolExecutor(jobs)
+    try:
+        order = sorted(rows, key=length, reverse=True) if 1 < jobs else rows
+        asked_of = {row.name: begun(pool, program, row) for row in order}
+        for row in rows:
+            yield row, asked_of[row.name]()
+    finally:
+        pool.shutdown(cancel_futures=True)
 
 
 def millions(count):
-    return f"{count / 1e6:,.1f} M" if count < 1e8 else f"{count / 1e6:,.0f} M"
+    return f"{count:,.1f} M" if count < 100 else f"{count:,.0f} M"
 
 
-def row(program, make, size):
-    """The row of a session, of a given size or of none, with its name and its instructions."""
-    text = make() if size is None else make(size)
-    name = make.__doc__.rstrip(".") if size is None else make.__doc__.rstrip(".").format(size)
-    name = textwrap.shorten(name, 56, placeholder="..")
-    listed, memory = run_once(program, text)
-    whole = instructions(program, text)
-    half, ratio = "-", "-"
-    if size is not None:
-        at_half = instructions(program, make(size // 2))
-        half, ratio = millions(at_half), f"{whole / at_half:.1f}"
-    plain, plain_memory = PLAIN.get(make.__name__, (None, None))
-    beside = f"{whole / (plain * 1e6):.1f}" if plain else "-"
-    beside_memory = f"{memory / (plain_memory * 1e6):.1f}" if plain else "-"
-    cells = [name, f"{listed:,}", millions(whole), half, ratio, beside, f"{memory / 1e6:.1f} MB", beside_memory]
-    return f"| {' | '.join(cells)} |", name, whole
+def cells_of(row, it):
+    """The cells of a row behind its description."""
+    half = [millions(it.half), f"{it.whole / it.half:.1f}"] if it.half else ["-", "-"]
+    beside = [f"{it.whole / row.plain:.1f}" if row.plain else "-"]
+    beside_memory = [f"{it.memory / row.plain_memory:.1f}" if row.plain_memory else "-"]
+    return [f"{it.listed:,}", millions(it.whole), *half, *beside, f"{it.memory:.1f} MB", *beside_memory]
 
 
-def told_before():
-    """The instructions that the page says, by the descriptions of its rows."""
-    found = {}
+def line_of(row, cells):
+    return f"| {row.words} | {' | '.join(cells)} |\n"
+
+
+def parts_of_page():
+    """What stands before the table of the page, its rows by their descriptions, and what stands behind it."""
     with open(README, encoding="utf-8") as page:
-        for line in page:
-            cells = [cell.strip() for cell in line.strip().strip("|").split("|")]
-            count = re.fullmatch(r"([\d,.]+) M", cells[2]) if len(cells) == 8 else None
-            if count:
-                found[cells[0]] = float(count[1].replace(",", "")) * 1e6
-    return found
+        before, rest = page.read().split(FIRST)
+    inside, after = rest.split(LAST)
+    rows = [[cell.strip() for cell in line.strip("|").split("|")] for line in inside.splitlines()[2:]]
+    return before, {row[0]: row[1:] for row in rows}, after
+
+
+def number_of(cell, unit):
+    """The number that a cell says, and by how much it may have been rounded."""
+    found = re.fullmatch(rf"([\d,]+(?:\.(\d+))?) {unit}", cell)
+    return found and (float(found[1].replace(",", "")), 0.5 * 10.0 ** -len(found[2] or ""))
+
+
+def over(cell, unit, count, least=0.0):
+    """Whether a count is over a twentieth more than a cell says, by more than the cell was rounded and more than the least that counts."""
+    said = sum(number_of(cell, unit) or (math.inf, 0))
+    return count > 1.05 * said and count > said + least
+
+
+def growth_of(row, it, said):
+    """The lines that tell what of a row has grown, beside what the page says of it."""
+    told = []
+    if over(said[1], "M", it.whole):
+        told.append(f"{row.words}: {millions(it.whole)}, before {said[1]}")
+    if it.half and over(said[2], "M", it.half):
+        told.append(f"{row.words}, half of it: {millions(it.half)}, before {said[2]}")
+    if over(said[5], "MB", it.memory, 0.5):
+        told.append(f"{row.words}: {it.memory:.1f} MB, before {said[5]}")
+    return told
+
+
+def write_page(new):
+    """The page with these rows; the others stay as they are, and one that was never counted has no figures."""
+    before, said, after = parts_of_page()
+    rows = [line_of(row, new.get(row.words) or said.get(row.words) or NONE) for row in table.ROWS]
+    with open(README, "w", encoding="utf-8") as page:
+        page.write(before + FIRST + HEAD + "".join(rows) + LAST + after)
+
+
+def asked():
+    parser = argparse.ArgumentParser(description=__doc__, formatter_class=argparse.RawDescriptionHelpFormatter)
+    parser.add_argument("program", metavar="PROGRAM", nargs="?", default="./mvt", help="the program, ./mvt where none is given")
+    parser.add_argument("words", metavar="WORD", nargs="*", help="only the sessions that have one of the words in name or description")
+    parser.add_argument("--jobs", metavar="N", type=int, default=1, help="so many runs side by side (1)")
+    parser.add_argument("--compare", action="store_true",
+                        help=f"name what takes over a twentieth more than bench/README.md says; the status is {GROWN} if anything does")
+    parser.add_argument("--write", action="store_true", help="put the rows that were counted in bench/README.md")
+    parser.add_argument("--list", action="store_true", help="name the sessions, with what they are made of, and count nothing")
+    parser.add_argument("--print", metavar="NAME", dest="shown", help="write the session of this name, and count nothing")
+    told = parser.parse_intermixed_args()
+    if told.jobs < 1:
+        parser.error("--jobs takes a number from 1")
+    if told.shown and told.shown not in [row.name for row in table.ROWS]:
+        parser.error(f"there is no session {told.shown}: --list names them")
+    unknown = table.unknown(told.words)
+    if unknown:
+        parser.error(f"no session has in its name or description: {', '.join(unknown)}; --list names them")
+    if told.list or told.shown:
+        return told
+    if not os.access(told.program, os.X_OK) or os.path.isdir(told.program):
+        parser.error(f"{told.program} is no program")
+    if measure.missing():
+        parser.error(f"it needs {' and '.join(measure.missing())}")
+    return told
 
 
 def main():
-    program = os.path.abspath(sys.argv[1] if len(sys.argv) > 1 else "./mvt")
-    words = sys.argv[2:]
-    wanted = [(empty, None)] + [(make, None) for make in sessions.SESSIONS] + sessions.SIZED + growth.GROWING
-    before, grown = told_before(), []
-    print("| Session | Lines | Instructions | Of half | Ratio | To plain | Memory | To plain |\n|---|---|---|---|---|---|---|---|")
-    for make, size in wanted:
-        if not words or any(word in make.__doc__ for word in words):
-            cells, name, whole = row(program, make, size)
-            print(cells, flush=True)
-            if name in before and whole > 1.05 * before[name]:
-                grown.append(f"{name}: {millions(whole)}, before {millions(before[name])}")
-    print("\n".join(["", "Over a twentieth more instructions than bench/README.md says:", *(grown or ["none"])]))
+    told = asked()
+    if told.list:
+        for row in table.rows_of(told.words, slow=True):
+            print(f"{row.name}: {row.about}")
+        return 0
+    if told.shown:
+        sys.stdout.buffer.write(next(row for row in table.ROWS if row.name == told.shown).text())
+        return 0
+
+    said, new, grown = parts_of_page()[1], {}, []
+    print(HEAD, end="", flush=True)
+    for row, it in counted_rows(os.path.abspath(told.program), table.rows_of(told.words), told.jobs, said):
+        new[row.words] = cells_of(row, it)
+        print(line_of(row, new[row.words]), end="", flush=True)
+        grown += growth_of(row, it, said.get(row.words, NONE))
+    if told.compare:
+        print("\n".join(["", "Over a twentieth more than bench/README.md says:", *(grown or ["nothing"])]))
+    if told.write:
+        write_page(new)
+    return GROWN if told.compare and grown else 0
 
 
 if __name__ == "__main__":
-    main()
+    sys.exit(main())
