@@ -401,6 +401,22 @@ def job_of_classes(plain, n):
     return INITIATOR + deck(steps, b"C JOB") + turns_of(1, 600)
 
 
+def most_classes(n):
+    """A job of {:,} steps, a quarter with eight tests
+
+    The last ones have the tests, and each test is of another code.
+    """
+    return job_of_classes(n - n // 4, n)
+
+
+def longest_views(n):
+    """Two jobs of 1,023 views and {:,} steps of six sets
+
+    Each third set is a temporary one.
+    """
+    return kept_sets(6) + jobs_with_views(old_or_temporary(6), 6, 2, n)
+
+
 def many_classes(n):
     """A job of {:,} steps of eight tests each
 

@@ -1,6 +1,6 @@
 """Sessions at the limits of the program, and sessions of a machine at work. bench/table.py has their sizes."""
 
-from pieces import INITIATOR, block, deck, initiators_of, lines, turns_of, volumes
+from pieces import EVENTS, INITIATOR, LIMIT, block, deck, fitting, initiators_of, lines, turns_of, volumes
 
 STEP = b"// EXEC PGM=IEFBR14\n"
 NAMED_STEP = b"//S EXEC PGM=IEFBR14\n"
@@ -224,6 +224,32 @@ def catalogued(n):
     return volumes(3) + initiators_of(15) + ran
 
 
+def small_jobs(n):
+    """{:,} jobs of classes under fifteen initiators
+
+    Each makes and catalogues a set while the session has room for one; at last the initiators have all events that are left.
+    """
+    room, left = LIMIT * (n + 1) // 10_000 - 3968, (EVENTS + 1) * (n + 1) // 10_000 - 1 - n
+    some_turns = lines(b"./ TURN %d*5", range(1, 16))
+    parts = [lines(b"./ VOLUME VOL%d 4000", range(3)), b"./ UNIT SYSDA VOL0,VOL1,VOL2\n"]
+    parts += [b"./ INIT %d %s\n" % (i, b"AB" if i % 2 else b"BA") for i in range(1, 16)]
+    size = sum(len(part) for part in parts)
+    for k in range(n):
+        made = b"//D DD DSN=A.B%d,DISP=(,CATLG),SPACE=(TRK,1)\n" % k
+        job = b"J%d JOB CLASS=%c" % (k, b"AB"[k % 2])
+        fits = size + len(deck(NAMED_STEP + made, job)) + 70 * (n - k - 1) <= room
+        parts.append(deck(NAMED_STEP + made * fits, job) + some_turns * (k % 15 == 14))
+        size += len(parts[-1])
+    left -= 75 * (n // 15)
+    last = [b"./ TURN %d*%d\n" % (i + 1, min(600, left - 600 * i)) for i in range(15) if 600 * i < left]
+    return b"".join(parts + last)
+
+
+def broken_up(first, last, step):
+    """A volume on which each so manyth track is used, from the first to the last."""
+    return b"./ VOLUME VOL001 4000 USED " + b",".join(b"%d" % k for k in range(first, last + 1, step)) + b"\n"
+
+
 def unnamed(n):
     """{:,} jobs of 64 unnamed sets, three side by side
 
@@ -233,6 +259,18 @@ def unnamed(n):
     job = deck(STEP + b"//D DD SPACE=(TRK,1)\n" * 64)
     rounds = lines(b"./ TURN %d*67", range(1, 4)) * 2
     return b"./ VOLUME V 4000 USED " + used + b"\n" + initiators_of(3) + (job * 3 + rounds) * (n // 3)
+
+
+def fragments(n):
+    """{:,} jobs of 64 sets of one to five tracks
+
+    Three run side by side, on a volume of 2,000 free extents of one track.
+    """
+    def job(k):
+        return deck(NAMED_STEP + b"".join(b"//A%d DD SPACE=(TRK,%d)\n" % (i, (2 * i + k) % 5 + 1) for i in range(64)), b"F%d JOB" % k)
+
+    rounds = lines(b"./ TURN %d*15", range(1, 4)) * 9
+    return broken_up(1, 3999, 2) + initiators_of(3) + b"".join(job(k) + job(k + 1) + job(k + 2) + rounds for k in range(0, n, 3))
 
 
 def deleted(n):
@@ -252,6 +290,26 @@ def deleted(n):
     return head + b"".join(both(k) for k in range(n // 2))
 
 
+def long_extents(n):
+    """Jobs of 20 sets, which are deleted: {:,} bytes
+
+    The sets have up to eight tracks, and the volume has free extents of three. Of three jobs two delete the sets that they make; the
+    third catalogues them for a job that deletes them.
+    """
+    def job(k, more, operands):
+        names = b"".join(b"//A%d DD DSN=K%d.S%d,%s\n" % (i, k, i, operands(i)) for i in range(20))
+        return deck(NAMED_STEP + names, b"L%d%s JOB" % (k, more)) + turns_of(1, 47)
+
+    def both(k):
+        word = b"DELETE" if k % 3 else b"CATLG"
+        yield job(k, b"", lambda i: b"DISP=(,%s),SPACE=(TRK,%d)" % (word, (k + 3 * i) % 9))
+        if k % 3 == 0:
+            yield job(k, b"X", lambda i: b"DISP=(OLD,DELETE)")
+
+    head = broken_up(1, 3989, 4) + INITIATOR
+    return head + fitting((job for k in range(n) for job in both(k)), n - len(head))
+
+
 # Names
 
 
@@ -263,6 +321,17 @@ def names(n):
     old = lines(b"./ SET N%d V 1 CAT\n./ END", range(255))
     cards = b"".join(NAMED_STEP + lines(b"//D DD DSN=N%d,DISP=SHR", range(k, min(k + 64, 255))) for k in range(0, 255, 64))
     return b"./ VOLUME V 4000\n" + old + INITIATOR + run(cards, 3 + 4 * 2 + 2 * 255 + 1) * n
+
+
+def long_names(n):
+    """Jobs of 255 longer names, in turn: {:,} bytes
+
+    Each of fifteen initiators runs a job to its end in its turn.
+    """
+    old = lines(b"./ SET LONG.NAME.N%d VOL001 0 CAT\n./ END", range(255))
+    cards = b"".join(NAMED_STEP + lines(b"//D%d DD DSN=LONG.NAME.N%d,DISP=SHR", range(k, min(k + 64, 255))) for k in range(0, 255, 64))
+    head = b"./ VOLUME VOL001 100\n" + old + initiators_of(15)
+    return head + fitting((deck(cards, b"N%d JOB" % k) + turns_of(k % 15 + 1, 522) for k in range(n)), n - len(head))
 
 
 def blocked(n):
@@ -289,3 +358,25 @@ def requests(n):
     cards = b"//S EXEC PGM=RW\n//IN DD DSN=OLD,DISP=SHR\n//OUT DD SPACE=(TRK,125)\n"
     job = deck(cards) + b"./ TURN 1*7\n" + b"./ DEV V\n./ TURN 1*2\n" * n + b"./ TURN 1*4\n"
     return b"./ VOLUME V 4000\n" + INITIATOR + old + program + job * 3 + b"./ WRITE A*%d\n" % n * 5
+
+
+def three_programs(n):
+    """{:,} PUTs to a set, GETs, and PUTs to SYSOUT each
+
+    The PUTs to a set run twice, once on a set that grows. Each turn and each device's end is a statement, and idle turns end the session.
+    """
+    programs = [(b"PUTS", lines(b"PUT OUT record number %d", range(n))),
+                (b"SPOOLS", lines(b"PUT LIST line %d", range(n))),
+                (b"GETS", b"GET IN\n" * n)]
+    jobs = [(1, b"P JOB", b"PUTS", b"OUT DD DSN=A.B,DISP=(NEW,CATLG),SPACE=(TRK,(1,1))"),
+            (1, b"Q JOB", b"PUTS", b"OUT DD DSN=A.C,DISP=(NEW,CATLG),SPACE=(TRK,200)"),
+            (2, b"G JOB", b"GETS", b"IN DD DSN=A.C,DISP=SHR")]
+    text = b"./ VOLUME VOL001 4000\n" + initiators_of(3)
+    text += b"".join(block(b"./ PROGRAM " + name, body + b"CODE 0\n") for name, body in programs)
+    for i, job, program, dd in jobs:
+        each = b"./ TURN %d*1\n./ DEV VOL001\n./ TURN %d*1\n" % (i, i)
+        text += deck(b"//S EXEC PGM=%s\n//%s\n" % (program, dd), job) + turns_of(i, 5) + each * n + turns_of(i, 10)
+    text += deck(b"//S EXEC PGM=SPOOLS\n//LIST DD SYSOUT=C\n", b"R JOB MSGCLASS=B") + turns_of(3, n + 20)
+    text += b"./ WRITE C*9999\n./ WRITE B*9999\n"
+    left = (EVENTS + 1) * n // 4000 - 1 - (10 * n + 20_067)
+    return text + (turns_of(1, left) if 0 < left else b"")
