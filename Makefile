@@ -8,6 +8,9 @@ PREFIX ?= /usr/local
 # The session that `make run`, `make check`, `make play` and `make picture` read.
 SESSION ?= examples/first.session
 
+# How many runs `make bench` has side by side.
+JOBS ?= 1
+
 # What the program is made from.
 SOURCES = crates.txt $(wildcard crates/*/src/*.rt crates/*/src/*/*.rt)
 
@@ -29,7 +32,8 @@ help:
 	@echo '                          what they cite'
 	@echo 'make rows                 compares the worked rows that are texts with ./mvt, and their tables with worked_rows'
 	@echo 'make hostile              refuses each allocation in turn and runs mutated sessions, after make test'
-	@echo 'make bench                counts the instructions of ./mvt on the sessions of bench/, by callgrind: ten minutes'
+	@echo 'make bench [JOBS=N]       counts the instructions of ./mvt on the sessions of bench/, by callgrind, N side by side (1), and'
+	@echo '                          names what takes over a twentieth more than bench/README.md says: MINUTES'
 	@echo 'make test                 the gate: every proof from nothing, the edits that must fail, the tests, the programs'
 
 # Runs the program on a session. Nothing is proved. What it needs is looked for before it is built.
@@ -131,9 +135,10 @@ hostile: mvt
 	@for it in 'tests/refused_memory.sh' 'tests/hostile.sh $(REFERENCE)'; do \
 		start=$$(date +%s); $$it || exit 1; echo "$$it: $$(($$(date +%s) - start)) s"; done
 
-# Instructions of the proved program on the sessions of bench/, each beside half its size.
+# Instructions and memory of the proved program on the sessions of bench/, each beside half its size, so many runs side by side. It fails
+# where something takes over a twentieth more than bench/README.md says.
 bench: mvt
-	python3 bench/instructions.py ./mvt
+	python3 bench/instructions.py --jobs $(JOBS) --compare ./mvt
 
 # The gate, with the number of processors in front, and on the stream of errors its time behind: that of the clock, and of all processors.
 test:
