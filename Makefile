@@ -33,7 +33,7 @@ help:
 	@echo 'make rows                 compares the worked rows that are texts with ./mvt, and their tables with worked_rows'
 	@echo 'make hostile              refuses each allocation in turn and runs mutated sessions, after make test'
 	@echo 'make bench [JOBS=N]       counts the instructions of ./mvt on the sessions of bench/, by callgrind, N side by side (1), and'
-	@echo '                          names what takes over a twentieth more than bench/README.md says: MINUTES'
+	@echo '                          names what takes over a twentieth more than bench/README.md says: twenty minutes, or seven with JOBS=3'
 	@echo 'make test                 the gate: every proof from nothing, the edits that must fail, the tests, the programs'
 
 # Runs the program on a session. Nothing is proved. What it needs is looked for before it is built.
