@@ -36,25 +36,24 @@ class Counted(NamedTuple):
     memory: float
 
 
-def begun(pool, program, row):
-    """What tells what a row takes: each of its runs is a piece of work of its own."""
-    whole = pool.submit(lambda: measure.instructions([program], row.text()))
-    half = pool.submit(lambda: measure.instructions([program], row.half())) if row.size else None
-    once = pool.submit(lambda: measure.lines_and_memory([program], row.text()))
-    return lambda: Counted(whole.result(), half and half.result(), *once.result())
+def counted(program, row):
+    """What a row takes."""
+    whole = measure.instructions([program], row.text())
+    half = measure.instructions([program], row.half()) if row.size else None
+    return Counted(whole, half, *measure.lines_and_memory([program], row.text()))
 
 
 def counted_rows(program, rows, jobs, said):
-    """Each row with what it takes. Where several run side by side, those that the page says to be long begin first."""
+    """Each row with what it takes, when it is counted. Where several run side by side, those that the page says to be long begin first."""
     def length(row):
         return number_of(said.get(row.words, NONE)[1], "M") or (0, 0)
 
     pool = concurrent.futures.ThreadPoolExecutor(jobs)
     try:
         order = sorted(rows, key=length, reverse=True) if 1 < jobs else rows
-        asked_of = {row.name: begun(pool, program, row) for row in order}
-        for row in rows:
-            yield row, asked_of[row.name]()
+        counts = {pool.submit(counted, program, row): row for row in order}
+        for count in concurrent.futures.as_completed(counts):
+            yield counts[count], count.result()
     finally:
         pool.shutdown(cancel_futures=True)
 
@@ -123,7 +122,7 @@ def asked():
     parser.add_argument("--jobs", metavar="N", type=int, default=1, help="so many runs side by side (1)")
     parser.add_argument("--compare", action="store_true",
                         help=f"name what takes over a twentieth more than bench/README.md says; the status is {GROWN} if anything does")
-    parser.add_argument("--write", action="store_true", help="put the rows that were counted in bench/README.md")
+    parser.add_argument("--write", action="store_true", help="write each row that is counted into bench/README.md")
     parser.add_argument("--list", action="store_true", help="name the sessions, with what they are made of, and count nothing")
     parser.add_argument("--print", metavar="NAME", dest="shown", help="write the session of this name, and count nothing")
     told = parser.parse_intermixed_args()
@@ -159,10 +158,10 @@ def main():
         new[row.words] = cells_of(row, it)
         print(line_of(row, new[row.words]), end="", flush=True)
         grown += growth_of(row, it, said.get(row.words, NONE))
+        if told.write:
+            write_page(new)
     if told.compare:
         print("\n".join(["", "Over a twentieth more than bench/README.md says:", *(grown or ["nothing"])]))
-    if told.write:
-        write_page(new)
     return GROWN if told.compare and grown else 0
 
 
