@@ -1,13 +1,16 @@
 //! Text that is written in parts.
-ghost use Rattle.std.specs.Prelude.{◌≡◌, ◌∷◌, [], ◌++◌, IfOk, OnErr, OnOk, length};
+ghost use Rattle.std.specs.Prelude.{◌≡◌, ◌≤◌, ◌+◌, ◌∷◌, [], ◌++◌, IfOk, OnErr, OnOk, length, take};
 
 use std::alloc::{AllocError, Global};
 use std::marker::Model;
 
-/// Text that is kept, and behind it text that is begun, which is kept whole or not at all.
+/// Text that is kept, and after it text that is begun, which is kept whole or not at all.
 #[derive(Drop)]
 pub struct Draft {
+    /// The text, and room after it.
     bytes: Vec<u8>,
+    /// How many of them are the text.
+    len: usize,
     /// How many of them are kept.
     kept: usize,
 }
@@ -18,9 +21,44 @@ impl Model for Draft {
 
     ghost Value = { Drafted };
 
-    ghost view = { λ d. record { kept = take d.kept d.bytes.items; begun = drop d.kept d.bytes.items } };
+    ghost view = { λ d. record { kept = take d.kept (take d.len d.bytes.items); begun = drop d.kept (take d.len d.bytes.items) } };
 
-    ghost invariant = { λ d. d.kept ≤ length d.bytes.items };
+    ghost invariant = { λ d. (d.kept ≤ d.len) × (d.len ≤ length d.bytes.items) };
+}
+
+/// More room after the first bytes, which stay.
+fn grow(bytes: &mut Vec<u8>, len: usize, more: usize) -> Result<(), AllocError>
+    requires { len ≤ length bytes.old.items }
+    ensures stay { take len bytes.new.items ≡ take len bytes.old.items }
+    ensures within { len ≤ length bytes.new.items }
+    ensures ok { OnOk result (len + more ≤ length bytes.new.items) }
+{
+    bytes.truncate(len);
+    bytes.reserve(more)?;
+    let room = bytes.capacity();
+    bytes.resize(room, 0)
+}
+
+/// Room for so many bytes after the first ones, which stay.
+fn make_room(bytes: &mut Vec<u8>, len: usize, more: usize) -> Result<(), AllocError>
+    requires { len ≤ length bytes.old.items }
+    ensures stay { take len bytes.new.items ≡ take len bytes.old.items }
+    ensures within { len ≤ length bytes.new.items }
+    ensures ok { OnOk result (len + more ≤ length bytes.new.items) }
+{
+    if more <= bytes.len() - len {
+        return Ok(());
+    }
+    grow(bytes, len, more)
+}
+
+/// Writes a text after the first bytes, where there is room for it.
+fn write_at(bytes: &mut Vec<u8>, len: usize, text: &[u8])
+    requires { len + length text.now ≤ length bytes.old.items }
+    ensures text { take (len + length text.now) bytes.new.items ≡ take len bytes.old.items ++ text.now }
+    ensures room { length bytes.new.items ≡ length bytes.old.items }
+{
+    bytes[len..len + text.len()].copy_from_slice(text);
 }
 
 impl Draft {
@@ -31,6 +69,7 @@ impl Draft {
     {
         Draft {
             bytes: Vec::new(alloc),
+            len: 0,
             kept: 0,
         }
     }
@@ -40,25 +79,34 @@ impl Draft {
         ensures { IfOk result (λ d. d ≡ record { kept = []; begun = [] }) }
     {
         let bytes = Vec::with_capacity(alloc, bytes)?;
-        Ok(Draft { bytes, kept: 0 })
+        Ok(Draft {
+            bytes,
+            len: 0,
+            kept: 0,
+        })
     }
 
-    /// Puts a text behind what is begun. An `Err` changes nothing.
+    /// Puts a text after what is begun. An `Err` changes nothing.
     pub fn push(&mut self, text: &[u8]) -> Result<(), AllocError>
         ensures kept { self.new.kept ≡ self.old.kept }
         ensures ok { OnOk result (self.new.begun ≡ self.old.begun ++ text.now) }
         ensures err { OnErr result (self.new.begun ≡ self.old.begun) }
     {
-        self.bytes.extend_from_slice(text)
+        make_room(&mut self.bytes, self.len, text.len())?;
+        write_at(&mut self.bytes, self.len, text);
+        self.len += text.len();
+        Ok(())
     }
 
-    /// Puts a byte behind what is begun. An `Err` changes nothing.
+    /// Puts a byte after what is begun. An `Err` changes nothing.
     pub fn push_byte(&mut self, byte: u8) -> Result<(), AllocError>
         ensures kept { self.new.kept ≡ self.old.kept }
         ensures ok { OnOk result (self.new.begun ≡ self.old.begun ++ byte ∷ []) }
         ensures err { OnErr result (self.new.begun ≡ self.old.begun) }
     {
-        self.bytes.push(byte)?;
+        make_room(&mut self.bytes, self.len, 1)?;
+        self.bytes[self.len] = byte;
+        self.len += 1;
         Ok(())
     }
 
@@ -67,7 +115,7 @@ impl Draft {
         ensures kept { self.new.kept ≡ self.old.kept ++ self.old.begun }
         ensures begun { self.new.begun ≡ [] }
     {
-        self.kept = self.bytes.len();
+        self.kept = self.len;
     }
 
     /// Takes away what is begun.
@@ -75,7 +123,7 @@ impl Draft {
         ensures kept { self.new.kept ≡ self.old.kept }
         ensures begun { self.new.begun ≡ [] }
     {
-        self.bytes.truncate(self.kept);
+        self.len = self.kept;
     }
 
     /// Takes all away.
@@ -83,7 +131,7 @@ impl Draft {
         ensures kept { self.new.kept ≡ [] }
         ensures begun { self.new.begun ≡ [] }
     {
-        self.bytes.clear();
+        self.len = 0;
         self.kept = 0;
     }
 
@@ -91,8 +139,7 @@ impl Draft {
     pub fn kept(&self) -> &[u8]
         ensures { result.now ≡ self.now.kept }
     {
-        let (kept, _) = self.bytes.as_slice().split_at(self.kept);
-        kept
+        &self.bytes[..self.kept]
     }
 
     /// How many bytes are kept.
