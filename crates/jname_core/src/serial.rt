@@ -68,5 +68,5 @@ impl Serial {
 pub fn is_among(serials: &[Serial], serial: Serial) -> bool
     ensures { result ≡ list_any (bytes_eq serial) serials.now }
 {
-    serials.iter().any(|s| serial.as_slice() == s.as_slice())
+    serials.iter().any(|s| *s == serial)
 }

@@ -166,24 +166,24 @@ padded (x ∷ xs) (y ∷ ys) p q e =
 
 -- ---- the same, of what is left of two texts
 
-two_words : (i : ℕ) (a b : List ℕ) → slice_cmp nat_cmp (drop i a) (drop i b) ≡ slice_cmp nat_cmp (take 8 (drop i a) ++ drop 8 (drop i a)) (take 8 (drop i b) ++ drop 8 (drop i b))
-two_words i a b = λ k. slice_cmp nat_cmp (sym (take-append-drop 8 (drop i a)) k) (sym (take-append-drop 8 (drop i b)) k)
+two_words : (w i : ℕ) (a b : List ℕ) → slice_cmp nat_cmp (drop i a) (drop i b) ≡ slice_cmp nat_cmp (take w (drop i a) ++ drop w (drop i a)) (take w (drop i b) ++ drop w (drop i b))
+two_words w i a b = λ k. slice_cmp nat_cmp (sym (take-append-drop w (drop i a)) k) (sym (take-append-drop w (drop i b)) k)
 
-as_long_words : (i : ℕ) (a b : List ℕ) → i + 8 ≤ length a → length a ≡ length b → length (take 8 (drop i a)) ≡ length (take 8 (drop i b))
-as_long_words i a b h e =
-    let in_a : 8 ≤ length (drop i a) = simp length-drop (omega arith) in
-    let in_b : 8 ≤ length (drop i b) = simp length-drop (omega arith) in
-    length-take-le 8 (drop i a) in_a ∙ sym (length-take-le 8 (drop i b) in_b)
+as_long_words : (w i : ℕ) (a b : List ℕ) → i + w ≤ length a → length a ≡ length b → length (take w (drop i a)) ≡ length (take w (drop i b))
+as_long_words w i a b h e =
+    let in_a : w ≤ length (drop i a) = simp length-drop (omega arith) in
+    let in_b : w ≤ length (drop i b) = simp length-drop (omega arith) in
+    length-take-le w (drop i a) in_a ∙ sym (length-take-le w (drop i b) in_b)
 
-pub word_decides_at : (i : ℕ) (a b : List ℕ) → i + 8 ≤ length a → length a ≡ length b → AreBytes a → AreBytes b → worth (take 8 (drop i a)) ≢ worth (take 8 (drop i b)) →
-    slice_cmp nat_cmp (drop i a) (drop i b) ≡ nat_cmp (worth (take 8 (drop i a))) (worth (take 8 (drop i b)))
-word_decides_at i a b h e f g apart =
-    two_words i a b
-    ∙ word_decides (take 8 (drop i a)) (take 8 (drop i b)) (drop 8 (drop i a)) (drop 8 (drop i b)) (as_long_words i a b h e) (bytes_within 8 i a f) (bytes_within 8 i b g) apart
+pub word_decides_at : (w i : ℕ) (a b : List ℕ) → i + w ≤ length a → length a ≡ length b → AreBytes a → AreBytes b → worth (take w (drop i a)) ≢ worth (take w (drop i b)) →
+    slice_cmp nat_cmp (drop i a) (drop i b) ≡ nat_cmp (worth (take w (drop i a))) (worth (take w (drop i b)))
+word_decides_at w i a b h e f g apart =
+    two_words w i a b
+    ∙ word_decides (take w (drop i a)) (take w (drop i b)) (drop w (drop i a)) (drop w (drop i b)) (as_long_words w i a b h e) (bytes_within w i a f) (bytes_within w i b g) apart
 
-pub word_passes_at : (i : ℕ) (a b : List ℕ) → i + 8 ≤ length a → length a ≡ length b → AreBytes a → AreBytes b → worth (take 8 (drop i a)) ≡ worth (take 8 (drop i b)) →
-    slice_cmp nat_cmp (drop i a) (drop i b) ≡ slice_cmp nat_cmp (drop (i + 8) a) (drop (i + 8) b)
-word_passes_at i a b h e f g same =
-    two_words i a b
-    ∙ word_passes (take 8 (drop i a)) (take 8 (drop i b)) (drop 8 (drop i a)) (drop 8 (drop i b)) (as_long_words i a b h e) (bytes_within 8 i a f) (bytes_within 8 i b g) same
-    ∙ (λ k. slice_cmp nat_cmp (drop-drop 8 i a k) (drop-drop 8 i b k))
+pub word_passes_at : (w i : ℕ) (a b : List ℕ) → i + w ≤ length a → length a ≡ length b → AreBytes a → AreBytes b → worth (take w (drop i a)) ≡ worth (take w (drop i b)) →
+    slice_cmp nat_cmp (drop i a) (drop i b) ≡ slice_cmp nat_cmp (drop (i + w) a) (drop (i + w) b)
+word_passes_at w i a b h e f g same =
+    two_words w i a b
+    ∙ word_passes (take w (drop i a)) (take w (drop i b)) (drop w (drop i a)) (drop w (drop i b)) (as_long_words w i a b h e) (bytes_within w i a f) (bytes_within w i b g) same
+    ∙ (λ k. slice_cmp nat_cmp (drop-drop w i a k) (drop-drop w i b k))
