@@ -149,6 +149,20 @@ impl ListStore {
             None => false,
         }
     }
+
+    /// A record before one that is not a job's, from which on up to that one none is the job's.
+    fn passed(&self, low: u32, n: u32, owner: u16) -> u32
+        requires before { low < n }
+        requires other { owner_at self.now n ≢ owner }
+        ensures lower { result < n }
+        ensures none { HasNoneBetween self.now owner result n }
+    {
+        let from = n.saturating_sub(BLOCK).max(low);
+        if self.has_none(from, n, owner) {
+            return from;
+        }
+        n - 1
+    }
 }
 
 impl RecordStore for ListStore {
@@ -215,14 +229,11 @@ impl RecordStore for ListStore {
         let span = self.span(owner);
         let mut n = span.high;
         while n > span.low {
-            let low = n.saturating_sub(BLOCK).max(span.low);
-            if self.has_none(low, n, owner) {
-                n = low;
-            } else {
-                if self.owner(n) == owner {
-                    self.give_back(n);
-                }
+            if self.owner(n) == owner {
+                self.give_back(n);
                 n -= 1;
+            } else {
+                n = self.passed(span.low, n, owner);
             }
         }
     }
