@@ -7,5 +7,4 @@ pub mod Beside
 pub mod Shown
 pub mod TestBits
 pub mod Told
-pub mod Walked
 pub mod Walking

@@ -1,5 +1,5 @@
 -- A step's takes, its end and its dispositions on a scene, put together.
-use Rattle.std.proofs.Common.{◌≡◌, ◌+◌, ◌-◌, ◌++◌, ◌∷◌, ℕ, suc, false, List, [], Option, Some, None, length, refl, sym, ap, ◌∙◌, subst, append_assoc, add-one, arith}
+use Rattle.std.proofs.Common.{◌≡◌, ◌+◌, ◌-◌, ◌++◌, ◌∷◌, ℕ, suc, false, List, [], Option, Some, None, Result, Ok, Err, length, refl, sym, ap, ◌∙◌, subst, append_assoc, add-one, arith}
 use Rattle.std.proofs.lemmas.List.{append-nil, length-append}
 use Rattle.jcl_plan.specs.declared.outcome.Outcome.{Outcome}
 use Rattle.jcl_plan.specs.declared.plan.DdPlan.{DdPlan}
@@ -20,7 +20,7 @@ use Rattle.view_domain.specs.declared.crossed.Stop.{Stop}
 use Rattle.view_core.specs.declared.scene.Scene.{Scene}
 use Rattle.view_core.specs.declared.walk.Under.{Under}
 use Rattle.view_core.specs.Scenes.{state_on}
-use Rattle.view_core.specs.Walks.{DisposesAll, LeavesScene, MeetsAt, RanTo, StopsAt, StopsIn, TakesAll, state_of}
+use Rattle.view_core.specs.Walks.{DisposesAll, EndsFrom, EndsIn, LeavesScene, MeetsAt, RanTo, StopsAt, StopsIn, TakesAll, state_of}
 use Rattle.view_core.proofs.Runs.{end_makes, length-takes, made_append, meets_before, meets_behind, run_append, run_one}
 
 -- where a fault is met, told by its stop
@@ -121,6 +121,27 @@ module _ (fixed : Fixed) (n : ℕ) (step : StepPlan) (scene : Scene) (u : Under)
             volumes = ap (λ (s : State). s.own.volumes) ran.state;
           }
 
+    -- so what it comes to is what its actions come to
+    pub ends : (o : Outcome) (end : Result Scene Stop) → EndsFrom fixed n step.dds v o end → EndsIn fixed n step (start (o ∷ [])) end
+    ends o (Err stop) h = stops o h.0 h.1 stop h.2.0 h.2.1
+    ends o (Ok seen) h =
+        subst (LeavesScene (run fixed (behind_start n step) (start (o ∷ [])))) (sym h.2.1.1) (leaves o h.0 h.1 h.2.0 h.2.1.0)
+
+-- a step under way and its copy
+pub taken_again : (fixed : Fixed) (n : ℕ) (ds : List DdPlan) (u v w : Under) (made : List Place) → w.store ≡ v.store → w.course.own ≡ v.course.own →
+    TakesAll fixed n ds u [] None v made → TakesAll fixed n ds u [] None w made
+taken_again fixed n ds u v w made store own h = (
+  h.0,
+  h.1,
+  λ answers granted.
+      let ran : RanTo (run fixed (takes_from n 1 ds) (state_of u answers)) (state_of v answers) h.0 = h.2 answers granted in
+      record {
+        faults = ran.faults;
+        state = ran.state ∙ (λ i. record { store = store_of (sym store i); own = sym own i; answers = answers });
+        made = ran.made;
+      },
+)
+
 -- the same of what is known to be the same
 pub taken_as : (fixed : Fixed) (n : ℕ) (ds es : List DdPlan) (u v : Under) (old new made : List Place) (a b : Option Stop) → ds ≡ es → old ≡ new → a ≡ b →
     TakesAll fixed n ds u old a v made → TakesAll fixed n es u new b v made
@@ -132,3 +153,8 @@ pub disposed_as : (fixed : Fixed) (n : ℕ) (ds es : List DdPlan) (u v : Under) 
     DisposesAll fixed n ds u a v → DisposesAll fixed n es u b v
 disposed_as fixed n ds es u v a b p r h =
     subst (λ (x : Option Stop). DisposesAll fixed n es u x v) r (subst (λ (x : List DdPlan). DisposesAll fixed n x u a v) p h)
+
+pub ended_as : (fixed : Fixed) (n : ℕ) (ds es : List DdPlan) (v : Under) (o p : Outcome) (end : Result Scene Stop) → ds ≡ es → o ≡ p →
+    EndsFrom fixed n ds v o end → EndsFrom fixed n es v p end
+ended_as fixed n ds es v o p end dds outcomes h =
+    subst (λ (x : Outcome). EndsFrom fixed n es v x end) outcomes (subst (λ (x : List DdPlan). EndsFrom fixed n x v o end) dds h)

@@ -1,11 +1,14 @@
 -- The actions of a step carried out one after another, up to the first fault.
-use Rattle.std.specs.Prelude.{◌≡◌, ℕ, ◌+◌, ◌-◌, suc, true, List, [], ◌∷◌, ◌++◌, length, Option, Some, None, Result, Ok, Err}
+use Rattle.std.specs.Prelude.{◌≡◌, ℕ, ◌+◌, ◌-◌, suc, true, false, List, [], ◌∷◌, ◌++◌, length, Option, Some, None, Result, Ok, Err}
 use Rattle.jcl_plan.specs.declared.fault.Fault.{Fault}
 use Rattle.jcl_plan.specs.declared.outcome.Outcome.{Outcome}
 use Rattle.jcl_plan.specs.declared.plan.DdPlan.{DdPlan}
 use Rattle.jcl_plan.specs.declared.plan.StepPlan.{StepPlan}
 use Rattle.jcl_meaning.specs.declared.state.Place.{Place}
 use Rattle.jcl_meaning.specs.Acts.{act}
+use Rattle.jcl_meaning.specs.EndActs.{finished}
+use Rattle.disp_core.specs.Courses.{CarriedEnd}
+use Rattle.disp_core.specs.declared.course.Course.{Course}
 use Rattle.jcl_meaning.specs.Agendas.{Action, Dispose, Take, disposes_from, takes_from}
 use Rattle.jcl_meaning.specs.Solo.{Ran, run}
 use Rattle.jcl_meaning.specs.States.{Answers, Fixed, State}
@@ -15,8 +18,6 @@ use Rattle.path_laws.specs.Steps.{behind_start}
 use Rattle.view_domain.specs.declared.crossed.Stop.{Stop}
 use Rattle.view_core.specs.declared.scene.Scene.{Scene}
 use Rattle.view_core.specs.declared.walk.Under.{Under}
-use Rattle.view_core.specs.declared.walk.Walked.{Walked}
-use Rattle.view_core.specs.declared.walk.Walked.TheVariants as walked
 
 -- a part under way as the state of a job
 abbrev pub state_of : Under → Answers → State
@@ -74,9 +75,14 @@ abbrev pub EndsIn : Fixed → ℕ → StepPlan → State → Result Scene Stop �
 EndsIn fixed n step s (Err stop) = StopsIn fixed n step s stop
 EndsIn fixed n step s (Ok scene) = LeavesScene (run fixed (behind_start n step) s) scene
 
--- What a step did from its start on, by the outcomes that are given there: its takes and the sets that it makes are the same for all.
-abbrev pub WalksTo : Fixed → ℕ → StepPlan → (List Outcome → State) → Outcome → Walked → Type 0
-WalksTo fixed n step from outcome (walked.Refused stop) = (outcomes : List Outcome) → StopsIn fixed n step (from outcomes) stop
-WalksTo fixed n step from outcome (walked.Ended made end) =
-    ((outcomes : List Outcome) → (run fixed (behind_start n step) (from outcomes)).made ≡ made.items)
-    × EndsIn fixed n step (from (outcome ∷ [])) end
+-- the dispositions of a step that ended were done, and this scene is left, or one met a fault
+abbrev pub IsDisposed : Fixed → ℕ → List DdPlan → Under → Under → Result Scene Stop → Type 0
+IsDisposed fixed n dds shut w (Err stop) = DisposesAll fixed n dds shut (Some stop) w
+IsDisposed fixed n dds shut w (Ok scene) = DisposesAll fixed n dds shut None w
+    × (scene ≡ record { store = w.store; passed = w.course.own.passed; volumes = w.course.own.volumes })
+
+-- a step whose DDs are taken ended by this outcome, and came to that
+abbrev pub EndsFrom : Fixed → ℕ → List DdPlan → Under → Outcome → Result Scene Stop → Type 0
+EndsFrom fixed n dds v outcome end =
+    (c : Course) × CarriedEnd (λ s. finished n s) outcome false v.course c
+    × ((w : Under) × IsDisposed fixed n dds (record { store = v.store; course = c }) w end)

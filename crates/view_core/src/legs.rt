@@ -3,10 +3,11 @@ ghost use Rattle.std.specs.Prelude.{◌<◌, IfOk};
 ghost use Rattle.disp_core.specs.Courses.{fixed_by};
 ghost use Rattle.view_core.specs.Legs.{AreLegs, EndsJob};
 
+use crate::again::again;
 use crate::domain::PlainDomain;
 use crate::leave::{leave_all, lefts_of};
 use crate::scene::Scene;
-use crate::walk::{Walked, under_of, walk};
+use crate::walk::{end_by, take_all, under_of};
 use disp_core::course::Given;
 use jcl_meaning::state::Place;
 use jcl_plan::outcome::{Abend, Code, Outcome};
@@ -27,7 +28,7 @@ pub enum Legs {
     },
 }
 
-/// Carries out step n, which runs, twice on a scene: by code 0, and by an ABEND.
+/// Carries out step n, which runs, on a scene: its DDs are taken once, and then it ends by code 0, and by an ABEND.
 pub fn legs_of(
     alloc: Global,
     given: &Given<'_>,
@@ -39,16 +40,17 @@ pub fn legs_of(
     requires { 0 < n }
     ensures { IfOk result (AreLegs (fixed_by given.now) n step.now scene.now abended) }
 {
+    let dds = step.dds.as_slice();
+    let mut under = under_of(alloc, scene, abended, dds.len())?;
+    let mut made = Vec::new(alloc);
+    if let Some(stop) = take_all(alloc, given, n, dds, &mut under, &mut made)? {
+        return Ok(Legs::Refused(stop));
+    }
+    let other = again(alloc, &under, dds.len().saturating_add(1))?;
     let code = Outcome::Code(Code::zero());
-    let (made, by_code) = match walk(alloc, given, n, step, scene, abended, &code)? {
-        Walked::Refused(stop) => return Ok(Legs::Refused(stop)),
-        Walked::Ended { made, end } => (made, end),
-    };
+    let by_code = end_by(alloc, given, n, dds, under, &code)?;
     let abend = Outcome::Abend(Abend::User(Code::zero()));
-    let by_abend = match walk(alloc, given, n, step, scene, abended, &abend)? {
-        Walked::Refused(stop) => return Ok(Legs::Refused(stop)),
-        Walked::Ended { made: _, end } => end,
-    };
+    let by_abend = end_by(alloc, given, n, dds, other, &abend)?;
     Ok(Legs::Ended {
         made,
         by_code,
@@ -68,7 +70,7 @@ impl<'a> PlainDomain<'a> {
     {
         let steps = self.plan.steps.as_slice();
         let lefts = lefts_of(alloc, steps)?;
-        let mut under = under_of(alloc, scene, abended)?;
+        let mut under = under_of(alloc, scene, abended, 0)?;
         let stop = leave_all(&self.given, steps.len(), lefts.as_slice(), &mut under)?;
         Ok(stop)
     }

@@ -1,6 +1,7 @@
 //! A plain way to keep views: a view is a state that shows it, and views are kept in a list.
 #![tactic(auto)]
 
+mod again;
 pub mod bits;
 mod cross;
 pub mod domain;

@@ -49,8 +49,18 @@ fn ended_of(alloc: Global, abend: bool) -> Result<Listed<Ended>, AllocError>
     Ok(ended)
 }
 
-/// The own state of a job whose step begins to run on a scene, and no line.
-pub(crate) fn course_of(alloc: Global, scene: &Scene, abend: bool) -> Result<Course, AllocError>
+/// How many lines a step of so many DDs writes at most until it is over: a TAKE and a disposition of each, and its end.
+fn lines_of(dds: usize) -> usize {
+    dds.saturating_mul(2).saturating_add(1)
+}
+
+/// The own state of a job whose step of so many DDs begins to run on a scene, and no line.
+pub(crate) fn course_of(
+    alloc: Global,
+    scene: &Scene,
+    abend: bool,
+    dds: usize,
+) -> Result<Course, AllocError>
     ensures { IfOk result (λ course. IsBegun scene.now abend course.own) }
 {
     Ok(Course {
@@ -62,10 +72,10 @@ pub(crate) fn course_of(alloc: Global, scene: &Scene, abend: bool) -> Result<Cou
             outputs: Listed::empty(alloc),
             runs: true,
             over: None,
-            dds: Listed::empty(alloc),
+            dds: Listed::new(Vec::with_capacity(alloc, dds)?),
             due: None,
             lines: 0,
         },
-        lines: Listed::empty(alloc),
+        lines: Listed::new(Vec::with_capacity(alloc, lines_of(dds))?),
     })
 }

@@ -1,10 +1,9 @@
-//! A step carried out on a scene, from its start to its end.
+//! A step carried out on a scene, from its start to its end: its DDs are taken, and then it ends by an outcome.
 ghost use Rattle.std.specs.Prelude.{◌≡◌, ◌<◌, ◌++◌, IfOk, OnOk};
 ghost use Rattle.disp_core.specs.Courses.{fixed_by};
 ghost use Rattle.disp_core.specs.Grants.{made_of};
-ghost use Rattle.jcl_meaning.specs.declared.state.Own.{Own};
-ghost use Rattle.view_core.specs.Scenes.{IsBegun, state_on};
-ghost use Rattle.view_core.specs.Walks.{DisposesAll, TakesAll, WalksTo};
+ghost use Rattle.view_core.specs.Scenes.{IsBegun};
+ghost use Rattle.view_core.specs.Walks.{DisposesAll, EndsFrom, TakesAll};
 
 use crate::scene::{Scene, course_of};
 use disp_core::course::{Course, Given};
@@ -12,7 +11,7 @@ use disp_core::site::Site;
 use disp_core::{dispose, step, take};
 use jcl_meaning::state::Place;
 use jcl_plan::outcome::Outcome;
-use jcl_plan::plan::{DdPlan, StepPlan};
+use jcl_plan::plan::DdPlan;
 use job_text::texts::{disp_text, take_text};
 use seen_store::store::SeenStore;
 use std::alloc::{AllocError, Global};
@@ -21,18 +20,6 @@ use view_domain::crossed::Stop;
 /// The number of a job that has its store alone.
 pub(crate) const JOB: u16 = 1;
 
-/// What a step did on a scene.
-#[derive(Drop)]
-pub enum Walked {
-    /// A take meets this fault, however the step would have ended.
-    Refused(Stop),
-    /// It ended: where it made sets, and the scene that it leaves, or the fault that a disposition meets.
-    Ended {
-        made: Vec<Place>,
-        end: Result<Scene, Stop>,
-    },
-}
-
 /// A step under way.
 #[derive(Drop)]
 pub(crate) struct Under {
@@ -40,13 +27,18 @@ pub(crate) struct Under {
     pub(crate) course: Course,
 }
 
-/// A step that begins to run on a scene.
-pub(crate) fn under_of(alloc: Global, scene: &Scene, abend: bool) -> Result<Under, AllocError>
+/// A step of so many DDs that begins to run on a scene.
+pub(crate) fn under_of(
+    alloc: Global,
+    scene: &Scene,
+    abend: bool,
+    dds: usize,
+) -> Result<Under, AllocError>
     ensures { IfOk result (λ under. (under.store ≡ scene.now.store) × IsBegun scene.now abend under.course.own) }
 {
     Ok(Under {
         store: scene.store.copy_of()?,
-        course: course_of(alloc, scene, abend)?,
+        course: course_of(alloc, scene, abend, dds)?,
     })
 }
 
@@ -75,7 +67,7 @@ fn push_made(made: &mut Vec<Place>, taken: Option<Place>) -> Result<(), AllocErr
 }
 
 /// Takes the DDs of step n, and tells where sets are made, or the first fault.
-fn take_all(
+pub(crate) fn take_all(
     alloc: Global,
     given: &Given<'_>,
     n: usize,
@@ -146,34 +138,21 @@ fn dispose_all(
     Ok(None)
 }
 
-/// Carries out step n, which runs, on a scene, and ends it so.
-pub fn walk(
+/// Ends step n, whose DDs are taken, by this outcome: the scene that it leaves, or the fault that a disposition meets.
+pub(crate) fn end_by(
     alloc: Global,
     given: &Given<'_>,
     n: usize,
-    step: &StepPlan,
-    scene: &Scene,
-    abend: bool,
+    dds: &[DdPlan],
+    under: Under,
     outcome: &Outcome,
-) -> Result<Walked, AllocError>
-    requires { 0 < n }
-    ensures { IfOk result (λ walked. (own : Own) × IsBegun scene.now abend own × WalksTo (fixed_by given.now) n step.now (state_on scene.now own) outcome.now walked) }
+) -> Result<Result<Scene, Stop>, AllocError>
+    ensures { IfOk result (EndsFrom (fixed_by given.now) n dds.now under outcome.now) }
 {
-    let mut under = under_of(alloc, scene, abend)?;
-    let mut made = Vec::new(alloc);
-    let dds = step.dds.as_slice();
-    if let Some(stop) = take_all(alloc, given, n, dds, &mut under, &mut made)? {
-        return Ok(Walked::Refused(stop));
-    }
+    let mut under = under;
     step::finish(alloc, &mut under.course, n, outcome, false)?;
     match dispose_all(given, n, dds, &mut under)? {
-        Some(stop) => Ok(Walked::Ended {
-            made,
-            end: Err(stop),
-        }),
-        None => Ok(Walked::Ended {
-            made,
-            end: Ok(scene_of(under)),
-        }),
+        Some(stop) => Ok(Err(stop)),
+        None => Ok(Ok(scene_of(under))),
     }
 }
