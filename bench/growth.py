@@ -63,6 +63,17 @@ def long_unit(n):
     return b"./ VOLUME V 9\n" + unit + INITIATOR + deck(b"// EXEC PGM=IEFBR14\n" + b"//D DD UNIT=U,SPACE=(TRK,99)\n" * 20) + turns_of(1, 20)
 
 
+def unit_in_pieces(n):
+    """{:,} serials of a unit, of two volumes in pieces
+
+    Every second track of them is used: half of the tracks are free, and no five extents hold a set. Twenty sets are asked for at each of twenty turns.
+    """
+    used = b",".join(b"%d" % track for track in range(1, 400, 2))
+    configured = b"".join(b"./ VOLUME V%d 400 USED %s\n" % (volume, used) for volume in range(2))
+    unit = b"./ UNIT U " + b",".join(b"V%d" % (k % 2) for k in range(n)) + b"\n"
+    return configured + unit + INITIATOR + deck(b"// EXEC PGM=IEFBR14\n" + b"//D DD UNIT=U,SPACE=(TRK,99)\n" * 20) + turns_of(1, 20)
+
+
 # Configurations
 
 

@@ -89,6 +89,7 @@ ROWS = [
     Row(growth.data_and_turns, 520_000, 54.5, 58.1),
     Row(growth.blank_procedure, 1_048_500, 55.1, 19.3),
     Row(growth.long_unit, 20_000, 161.8, 2.5),
+    Row(growth.unit_in_pieces, 2_000),
     Row(growth.blank_sets, 9, 87.1, 22.6),
     Row(growth.set_records, 2, 27.1, 10.4),
     Row(growth.longest_programs, 40, 37.6, 8.0),

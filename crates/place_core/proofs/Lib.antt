@@ -1,6 +1,7 @@
 mod Changing
 mod Seats
 mod KeptAside
+mod Few
 mod Choosing
 mod Undoing
 mod Configured

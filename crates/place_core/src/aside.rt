@@ -1,5 +1,5 @@
 //! Tracks set aside on the volume of a serial, and given back.
-ghost use Rattle.std.specs.Prelude.{◌≡◌, ℕ, ◌<◌, None, true, IsErr, IfNone, IfOk, IfSome, OnErr, OnOk};
+ghost use Rattle.std.specs.Prelude.{◌≡◌, ℕ, ◌<◌, None, true, IsErr, IfNone, IfOk, IfSome, OnErr, OnOk, Some, false};
 ghost use Rattle.shared_core.specs.Rooms.{kept_place};
 ghost use Rattle.shared_core.specs.Shown.{kept_extents, mounted_in};
 ghost use Rattle.place_core.specs.Keepings.{keep_on};
@@ -22,6 +22,13 @@ fn place_of(volumes: &[Mounted], serial: Serial) -> Option<usize>
     position_of(volumes, serial)
 }
 
+/// Whether fewer tracks are free on a volume than are asked for, so that no look for extents is needed.
+fn has_too_few(m: &Mounted, tracks: u16) -> bool
+    ensures { result ≡ true → has_room tracks (Some m.now) ≡ false }
+{
+    m.volume().track_counts().free < usize::from(tracks)
+}
+
 /// Keeps tracks at a place on the volume of a serial if it has room for them, and tells whether it has. An `Err` changes nothing.
 pub(crate) fn keep_at(
     volumes: &mut [Mounted],
@@ -38,6 +45,9 @@ pub(crate) fn keep_at(
     let Some(place) = place_of(volumes, serial) else {
         return Ok(false);
     };
+    if has_too_few(&volumes[place], tracks) {
+        return Ok(false);
+    }
     match volumes[place].keep(at, tracks) {
         Ok(()) => Ok(true),
         Err(VolumeFault::NoSpace) => Ok(false),
