@@ -9,7 +9,7 @@ ghost use Rattle.deck_places.specs.Judging.{AreJudged, AreRead, Has};
 
 use crate::copies::copy_of;
 use crate::part::Part;
-use crate::refusing::{Sources, plan_part};
+use crate::refusing::{Sources, full_exec, plan_part};
 use crate::walk::walk_lines;
 use card_core::fault::CardFault;
 use card_core::read::{ReadError as CardError, read_statements};
@@ -84,12 +84,13 @@ fn judge_steps(
     requires { Has sources.now.library.now statements.now job expansion }
     ensures { IfOk result (AreJudged sources.now.units.now sources.now.library.now statements.now) }
 {
+    let full = full_exec(&expansion, statements);
     match plan_of(alloc, sources.units, job, expansion) {
         Ok(plan) => Ok(Judged::Taken(plan)),
         Err(ReadError::Refused(cause)) => {
             let number = plan_part(cause);
             let part = Part::Plan(number);
-            let near = sources.near_of(part, statements, reached);
+            let near = sources.near_of(part, statements, reached).or(full);
             let k = sources.bringer(alloc, part, statements, near)?;
             Ok(Judged::Refused(cause, At::Planned(number, k)))
         }

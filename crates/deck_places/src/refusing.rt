@@ -9,8 +9,9 @@ use jcl_deck::deck::Deck;
 use jcl_deck::operation::{Operation, operation_of};
 use jcl_deck::read::read_deck;
 use jcl_plan::fault::{Cause, StatementFault};
-use jcl_plan::plan::MOST_STEPS;
-use jcl_procs::expansion::{Reached, expand, is_over};
+use jcl_plan::plan::{MOST_DDS, MOST_STEPS};
+use jcl_procs::expansion::{Expansion, Reached, expand, is_over};
+use jcl_procs::step::FlatStep;
 use jcl_refs::plan::plan_of;
 use jcl_refs::units::UnitNames;
 use proc_library::library::ProcLibrary;
@@ -72,6 +73,26 @@ fn exec_of(statements: &[Statement], step: usize) -> Option<usize> {
         }
     }
     None
+}
+
+/// The first step of a deck, which counts from 1, by which a step has more DDs than one may have.
+fn first_full(steps: &[FlatStep]) -> Option<usize> {
+    let mut place: usize = 0;
+    for step in steps {
+        place = step.call.unwrap_or(place.saturating_add(1));
+        if step.dds.len() > MOST_DDS {
+            return Some(place);
+        }
+    }
+    None
+}
+
+/// The EXEC statement of that step: a refusal of the plan comes with it most likely.
+pub(crate) fn full_exec(expansion: &Expansion, statements: &[Statement]) -> Option<usize> {
+    let Expansion::Steps(steps) = expansion else {
+        return None;
+    };
+    exec_of(statements, first_full(steps.as_slice())?)
 }
 
 /// The first step of a deck with which there may be too many: where none was kept, the deck itself has more than there may be.
