@@ -60,14 +60,15 @@ def answers_in(listing):
     return answers
 
 
-def names_in(path):
-    """The steps of a path by their numbers, as words call them."""
-    names = {}
+def names_in(path, said):
+    """The steps of a path by their numbers, as words call them: a name that several steps have is followed by the step's number."""
+    names, several = {}, set(re.findall(r"(\S+) \(\d+\)", said))
     for line in path:
         found = re.match(r"STEP (\d+) (\S+) ", line)
         if found:
+            several |= {found[2]} & set(names.values()) - {"-"}
             names[int(found[1])] = found[2]
-    return names
+    return {step: "%s (%d)" % (name, step) if name in several else name for step, name in names.items()}
 
 
 def subject(names, step):
@@ -136,8 +137,8 @@ def check_risk(said, answer, path):
     if not found:
         return "the listing has %r" % answer
     fault, step, dd, outcomes = found[1], int(found[2]), int(found[3]), found[4]
-    names = names_in(path)
-    place = re.match(r"step (\S+), DD (\S+): (.*) \((F\d+)\)(.*)$", said)
+    names = names_in(path, said)
+    place = re.match(r"step (\S+(?: \(\d+\))?), DD (\S+): (.*) \((F\d+)\)(.*)$", said)
     if not place:
         return "the words are not understood"
     if place[4] != fault:

@@ -1,5 +1,5 @@
 //! What was done last with a data set, on the way to a fault.
-use crate::answers::names::{key_at, push_subject};
+use crate::answers::names::{Shown, key_at, push_subject};
 use jcl_plan::entry::JobLine;
 use jcl_plan::fault::Fault;
 use jcl_plan::plan::JobPlan;
@@ -218,10 +218,14 @@ fn words_of(deed: Deed) -> &'static [u8] {
 }
 
 /// What was done with a data set, and by whom.
-pub(crate) fn push_done(text: &mut Vec<u8>, plan: &JobPlan, done: &Done) -> Result<(), AllocError> {
+pub(crate) fn push_done(
+    text: &mut Vec<u8>,
+    shown: Shown<'_, '_>,
+    done: &Done,
+) -> Result<(), AllocError> {
     text.extend_from_slice(b"; ")?;
     match done.doer {
-        Doer::Step(number) => push_subject(text, plan, number)?,
+        Doer::Step(number) => push_subject(text, shown, number)?,
         Doer::JobEnd => text.extend_from_slice(b"the job's end")?,
     }
     text.extend_from_slice(words_of(done.deed))

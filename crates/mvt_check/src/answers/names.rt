@@ -2,6 +2,7 @@
 ghost use Rattle.std.specs.Prelude.{◌≡◌, ◌++◌, OnOk, decimal};
 
 use itoa::Buffer;
+use jcl_plan::entry::JobLine;
 use jcl_plan::plan::{DdKind, DdPlan, JobPlan, SetPlan, StepPlan};
 use jname_core::key::{Key, Sign};
 use jname_core::name8::Name8;
@@ -59,51 +60,118 @@ fn push_shown(text: &mut Vec<u8>, name: &Option<Name8>) -> Result<(), AllocError
     Ok(())
 }
 
-/// The name of a step as the listing shows it, or its number where it has none.
-fn push_step_name(text: &mut Vec<u8>, plan: &JobPlan, number: usize) -> Result<(), AllocError> {
-    let Some(step) = step_at(plan, number) else {
-        return push_number(text, number as u64);
-    };
-    match (&step.name, &step.procedure_step) {
-        (None, None) => push_number(text, number as u64),
-        (name, None) => push_shown(text, name),
-        (name, Some(procedure_step)) => {
-            push_shown(text, name)?;
-            text.push(b'.')?;
-            text.extend_from_slice(procedure_step.as_slice())?;
-            Ok(())
-        }
+/// A job as its steps are named: by the lines that it writes on a path, which have the names of its records, and for steps without a line there by its deck.
+#[derive(Clone, Copy)]
+pub(crate) struct Shown<'a, 'b> {
+    pub(crate) plan: &'a JobPlan,
+    pub(crate) lines: &'b [JobLine],
+}
+
+/// The names of a step: its own, and that of its step in a procedure.
+#[derive(Clone, Copy, PartialEq, Eq)]
+struct StepNames {
+    own: Option<Name8>,
+    procedure_step: Option<Name8>,
+}
+
+impl StepNames {
+    fn is_empty(&self) -> bool {
+        self.own.is_none() && self.procedure_step.is_none()
     }
 }
 
-/// Whether the step has a name.
-fn has_name(plan: &JobPlan, number: usize) -> bool {
-    match step_at(plan, number) {
-        Some(step) => step.name.is_some() || step.procedure_step.is_some(),
-        None => false,
+/// What the deck names a step.
+fn named_by(step: &StepPlan) -> StepNames {
+    StepNames {
+        own: step.name,
+        procedure_step: step.procedure_step,
     }
+}
+
+/// What a line names the step of this number, if it begins that step.
+fn named_on(line: &JobLine, number: usize) -> Option<StepNames> {
+    match line {
+        JobLine::Step {
+            step,
+            name,
+            procedure_step,
+            fate: _,
+        } if *step == number => Some(StepNames {
+            own: *name,
+            procedure_step: *procedure_step,
+        }),
+        _ => None,
+    }
+}
+
+impl<'a, 'b> Shown<'a, 'b> {
+    /// The names of the step of this number, which counts from 1. A step that is not there has none.
+    fn names_of(&self, number: usize) -> StepNames {
+        for line in self.lines {
+            if let Some(names) = named_on(line, number) {
+                return names;
+            }
+        }
+        match step_at(self.plan, number) {
+            Some(step) => named_by(step),
+            None => StepNames {
+                own: None,
+                procedure_step: None,
+            },
+        }
+    }
+
+    /// Whether more than one step has these names.
+    fn are_of_several(&self, names: StepNames) -> bool {
+        let steps = self.plan.steps.as_slice();
+        steps.iter().filter(|step| named_by(step) == names).count() > 1
+    }
+}
+
+/// The name of a step as the listing shows it, with its number after it where others have that name too; or its number where it has none.
+fn push_step_name(
+    text: &mut Vec<u8>,
+    shown: Shown<'_, '_>,
+    names: StepNames,
+    number: usize,
+) -> Result<(), AllocError> {
+    if names.is_empty() {
+        return push_number(text, number as u64);
+    }
+    push_shown(text, &names.own)?;
+    if let Some(procedure_step) = &names.procedure_step {
+        text.push(b'.')?;
+        text.extend_from_slice(procedure_step.as_slice())?;
+    }
+    if shown.are_of_several(names) {
+        text.extend_from_slice(b" (")?;
+        push_number(text, number as u64)?;
+        text.push(b')')?;
+    }
+    Ok(())
 }
 
 /// A step, as the subject of a sentence: `S1`, `CALL.S1`, `step 3`.
 pub(crate) fn push_subject(
     text: &mut Vec<u8>,
-    plan: &JobPlan,
+    shown: Shown<'_, '_>,
     number: usize,
 ) -> Result<(), AllocError> {
-    if !has_name(plan, number) {
+    let names = shown.names_of(number);
+    if names.is_empty() {
         text.extend_from_slice(b"step ")?;
     }
-    push_step_name(text, plan, number)
+    push_step_name(text, shown, names, number)
 }
 
 /// A step: `step S1`, `step CALL.S1`, `step 3`.
 pub(crate) fn push_step(
     text: &mut Vec<u8>,
-    plan: &JobPlan,
+    shown: Shown<'_, '_>,
     number: usize,
 ) -> Result<(), AllocError> {
     text.extend_from_slice(b"step ")?;
-    push_step_name(text, plan, number)
+    push_step_name(text, shown, shown.names_of(number), number)
 }
 
 /// A name, or a number in the place of one.

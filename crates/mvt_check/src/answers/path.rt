@@ -1,7 +1,6 @@
 //! How the steps end that lead to a fault.
-use crate::answers::names::{push_number, push_subject};
+use crate::answers::names::{Shown, push_number, push_subject};
 use jcl_plan::outcome::Outcome;
-use jcl_plan::plan::JobPlan;
 use std::alloc::AllocError;
 
 /// What stands before the outcome at this place, of so many.
@@ -49,11 +48,11 @@ fn are_all_zero(path: &[Outcome]) -> bool {
 }
 
 /// The outcomes of the steps, each by itself.
-fn push_each(text: &mut Vec<u8>, plan: &JobPlan, path: &[Outcome]) -> Result<(), AllocError> {
+fn push_each(text: &mut Vec<u8>, shown: Shown<'_, '_>, path: &[Outcome]) -> Result<(), AllocError> {
     let mut behind_end = false;
     for (place, outcome) in path.iter().enumerate() {
         text.extend_from_slice(joint_at(place, path.len()))?;
-        push_subject(text, plan, place.saturating_add(1))?;
+        push_subject(text, shown, place.saturating_add(1))?;
         push_outcome(text, outcome, behind_end)?;
         behind_end = is_ended(outcome);
     }
@@ -63,7 +62,7 @@ fn push_each(text: &mut Vec<u8>, plan: &JobPlan, path: &[Outcome]) -> Result<(),
 /// The outcomes of the steps, from the first on; nothing where there are none.
 pub(crate) fn push_path(
     text: &mut Vec<u8>,
-    plan: &JobPlan,
+    shown: Shown<'_, '_>,
     path: &[Outcome],
 ) -> Result<(), AllocError> {
     if are_all_zero(path) {
@@ -71,5 +70,5 @@ pub(crate) fn push_path(
         push_number(text, path.len() as u64)?;
         return text.extend_from_slice(b" steps before it end with code 0");
     }
-    push_each(text, plan, path)
+    push_each(text, shown, path)
 }

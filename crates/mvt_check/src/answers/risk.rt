@@ -1,7 +1,7 @@
 //! The fault that a job may meet.
 use crate::answers::cause::{Deed, Done, explains, last_done, push_done, volume_of};
 use crate::answers::names::{
-    push_data_set, push_dd, push_named_set, push_number, push_step, set_at,
+    Shown, push_data_set, push_dd, push_named_set, push_number, push_step, set_at,
 };
 use crate::answers::path::push_path;
 use jcl_plan::entry::JobLine;
@@ -55,6 +55,18 @@ pub(crate) struct Met<'a> {
     pub(crate) dd: usize,
     pub(crate) path: &'a [Outcome],
     pub(crate) lines: &'a [JobLine],
+    /// The lines that name its steps: those, or none where they are of a deck that was made for a trial.
+    pub(crate) naming: &'a [JobLine],
+}
+
+impl<'a> Met<'a> {
+    /// The job as its steps are named on that way.
+    fn shown<'p>(&self, plan: &'p JobPlan) -> Shown<'p, 'a> {
+        Shown {
+            plan,
+            lines: self.naming,
+        }
+    }
 }
 
 /// What the fault of a DD is about.
@@ -103,7 +115,7 @@ fn push_fault_number(text: &mut Vec<u8>, fault: Fault) -> Result<(), AllocError>
 
 /// The DD of the fault, and where it stands: `step S3, DD T: `.
 fn push_place(text: &mut Vec<u8>, plan: &JobPlan, met: &Met<'_>) -> Result<(), AllocError> {
-    push_step(text, plan, met.step)?;
+    push_step(text, met.shown(plan), met.step)?;
     text.extend_from_slice(b", ")?;
     push_dd(text, plan, met.step, met.dd)?;
     text.extend_from_slice(b": ")
@@ -145,8 +157,8 @@ fn push_uncataloged(
 ) -> Result<(), AllocError> {
     text.extend_from_slice(b" is not in the catalog")?;
     push_fault_number(text, met.fault)?;
-    push_path(text, plan, met.path)?;
-    push_done(text, plan, done)?;
+    push_path(text, met.shown(plan), met.path)?;
+    push_done(text, met.shown(plan), done)?;
     text.extend_from_slice(b" on ")?;
     text.extend_from_slice(volume.as_slice())?;
     text.extend_from_slice(if done.deed == Deed::Makes {
@@ -175,9 +187,9 @@ fn push_wrong(
         _ => {}
     }
     push_fault_number(text, met.fault)?;
-    push_path(text, plan, met.path)?;
+    push_path(text, met.shown(plan), met.path)?;
     match done {
-        Some(done) if explains(done.deed, met.fault) => push_done(text, plan, done)?,
+        Some(done) if explains(done.deed, met.fault) => push_done(text, met.shown(plan), done)?,
         _ => {}
     }
     push_cure(text, met.fault)
@@ -213,7 +225,7 @@ fn push_reference(
         (Subject::OfDd(step, dd), _) => {
             push_dd(text, plan, *step, *dd)?;
             text.extend_from_slice(b" of ")?;
-            push_step(text, plan, *step)?;
+            push_step(text, met.shown(plan), *step)?;
             text.extend_from_slice(b", whose data set was not taken")?;
         }
         (_, VolumePlan::OfName(name)) => {
@@ -223,7 +235,7 @@ fn push_reference(
         _ => text.extend_from_slice(b"nothing")?,
     }
     push_fault_number(text, met.fault)?;
-    push_path(text, plan, met.path)?;
+    push_path(text, met.shown(plan), met.path)?;
     text.extend_from_slice(b"\n    name a set that is there, or code VOL=SER")
 }
 
@@ -238,7 +250,7 @@ pub(crate) fn push_risk(
         text.extend_from_slice(b"the data set")?;
         text.extend_from_slice(wrong_of(met.fault))?;
         push_fault_number(text, met.fault)?;
-        return push_path(text, plan, met.path);
+        return push_path(text, met.shown(plan), met.path);
     };
     let subject = subject_of(met.fault, set, met.lines);
     match &subject {

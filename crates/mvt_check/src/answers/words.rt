@@ -3,8 +3,9 @@ ghost use Rattle.std.specs.Prelude.{◌≡◌, ℕ, ◌++◌, List, OnOk, codes,
 ghost use Rattle.mvt_check.specs.Words.{beginning, number_text, verdict_text};
 
 use crate::answers::answer::Answer;
-use crate::answers::names::{push_count, push_number, push_step};
+use crate::answers::names::{Shown, push_count, push_number, push_step};
 use crate::answers::risk::{Met, push_risk};
+use jcl_plan::entry::JobLine;
 use jcl_plan::plan::JobPlan;
 use std::alloc::{AllocError, Global};
 
@@ -27,11 +28,17 @@ fn verdict_of(answer: Option<&Answer>) -> &'static [u8]
     }
 }
 
-/// What is said of an answer.
+/// The lines that name steps: these, or none where a trial wrote them.
+fn naming_of(lines: &[JobLine], tried: bool) -> &[JobLine] {
+    if tried { &[] } else { lines }
+}
+
+/// What is said of an answer, which was given in a trial or in the session.
 fn push_said(
     text: &mut Vec<u8>,
     plan: &JobPlan,
     answer: Option<&Answer>,
+    tried: bool,
 ) -> Result<(), AllocError> {
     match answer {
         Some(Answer::Assured { tracks, actions }) => {
@@ -58,11 +65,12 @@ fn push_said(
                 dd: *dd,
                 path: path.as_slice(),
                 lines: lines.as_slice(),
+                naming: naming_of(lines.as_slice(), tried),
             },
         ),
         Some(Answer::TooMany(step)) => {
             text.extend_from_slice(b"after ")?;
-            push_step(text, plan, *step)?;
+            push_step(text, Shown { plan, lines: &[] }, *step)?;
             text.extend_from_slice(b" more views than --views allows; up to there nothing fails")
         }
         Some(Answer::SpaceWait(serial)) => {
@@ -77,9 +85,14 @@ fn push_said(
 }
 
 /// What is said of an answer, with the line's end.
-fn said_of(alloc: Global, plan: &JobPlan, answer: Option<&Answer>) -> Result<Vec<u8>, AllocError> {
+fn said_of(
+    alloc: Global,
+    plan: &JobPlan,
+    answer: Option<&Answer>,
+    tried: bool,
+) -> Result<Vec<u8>, AllocError> {
     let mut text = Vec::new(alloc);
-    push_said(&mut text, plan, answer)?;
+    push_said(&mut text, plan, answer, tried)?;
     text.push(b'\n')?;
     Ok(text)
 }
@@ -98,7 +111,7 @@ pub(crate) fn push_verdict(
             text.extend_from_slice(b"\n")
         }
         _ => {
-            let said = said_of(*text.allocator(), plan, Some(answer))?;
+            let said = said_of(*text.allocator(), plan, Some(answer), true)?;
             text.extend_from_slice(verdict_of(Some(answer)))?;
             text.extend_from_slice(said.as_slice())
         }
@@ -129,7 +142,7 @@ pub fn push_answer(
     ensures verdict { OnOk result ((rest : List ℕ) ×
         (text.new.items ≡ text.old.items ++ beginning line job plan.now.name (option_map (λ a. a.now) answer.entry) ++ rest)) }
 {
-    let said = said_of(*text.allocator(), plan, answer)?;
+    let said = said_of(*text.allocator(), plan, answer, false)?;
     text.extend_from_slice(b"line ")?;
     push_number(text, line as u64)?;
     text.extend_from_slice(b": job ")?;

@@ -104,6 +104,7 @@ fn push_met(text: &mut Vec<u8>, plan: &JobPlan, lines: &[JobLine]) -> Result<(),
             dd: told.dd,
             path: &[],
             lines: front,
+            naming: &[],
         },
     )?;
     text.extend_from_slice(b": ")?;
