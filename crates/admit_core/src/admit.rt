@@ -146,7 +146,7 @@ fn tell_risk(
 }
 
 /// Admits a job whose names are held, on a date: places its sets, finds what may become of it so, and keeps the primary of each set that some path makes.
-/// The line of what is answered goes behind its listing. Nothing is kept unless the job is ASSURED. Where memory is wanting the job is given back, and
+/// The line of what is answered goes behind its listing. Nothing is kept unless the job is ASSURED. Where memory is missing the job is given back, and
 /// nothing has changed.
 pub fn admit(
     alloc: Global,

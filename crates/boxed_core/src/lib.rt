@@ -1,4 +1,4 @@
-//! Values of which there are few, behind a pointer, so that those of which there are many stay small.
+//! Values of which there are few, kept by a pointer, so that those of which there are many stay small.
 #![tactic(auto)]
 
 ghost use Rattle.std.specs.Prelude.{◌≡◌, IfOk};
@@ -6,7 +6,7 @@ ghost use Rattle.std.specs.Prelude.{◌≡◌, IfOk};
 use std::alloc::{AllocError, Global};
 use std::marker::Model;
 
-/// A value behind a pointer that a contract sees as the value itself.
+/// A value kept by a pointer that a contract sees as the value itself.
 #[derive(Drop)]
 pub struct Boxed<T> {
     place: Box<T>,

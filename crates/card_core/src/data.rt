@@ -102,7 +102,7 @@ pub fn data_of(
     }
 }
 
-/// Whether data stand before the first EXEC statement.
+/// Whether data are before the first EXEC statement.
 pub fn is_early(called: bool, found: &Option<Listed<DataCard>>) -> bool
     ensures { result ≡ is_early called found.now }
 {

@@ -19,7 +19,7 @@ pub enum CardFault {
     OpenApostrophe,
     #[error("a statement has a name and no operation")]
     NoOperation,
-    #[error("data cards stand before the first EXEC statement")]
+    #[error("there are data cards before the first EXEC statement")]
     DataBeforeExec,
 }
 

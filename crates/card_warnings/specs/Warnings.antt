@@ -15,8 +15,8 @@ use Rattle.card_warnings.specs.Keywords.{is_keyword_of}
 -- what is said of a card
 abbrev pub words_of : Warning → List ℕ
 words_of Swallowed = codes "a ./ line is a card of this deck: a ./ END is missing before it"
-words_of Cut = codes "the text is cut behind column 71"
-words_of Comment = codes "a blank ends the operand: what looks like a keyword behind it is a comment"
+words_of Cut = codes "the text is cut after column 71"
+words_of Comment = codes "a blank ends the operand: what looks like a keyword after it is a comment"
 words_of JobLibrary = codes "JOBLIB is dropped: programs are those of ./ PROGRAM"
 words_of OneSlash = codes "with one slash it is a card of data; a statement begins with two"
 

@@ -36,9 +36,9 @@ pub fn words_of(warning: Warning) -> &'static [u8]
 {
     match warning {
         Warning::Swallowed => b"a ./ line is a card of this deck: a ./ END is missing before it",
-        Warning::Cut => b"the text is cut behind column 71",
+        Warning::Cut => b"the text is cut after column 71",
         Warning::Comment =>
-            b"a blank ends the operand: what looks like a keyword behind it is a comment",
+            b"a blank ends the operand: what looks like a keyword after it is a comment",
         Warning::JobLibrary => b"JOBLIB is dropped: programs are those of ./ PROGRAM",
         Warning::OneSlash => b"with one slash it is a card of data; a statement begins with two",
     }

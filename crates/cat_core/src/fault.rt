@@ -17,7 +17,7 @@ pub enum CatFault {
     NoGeneration,
     #[error("a generation's number would be above 9999")]
     TooHigh,
-    #[error("memory is wanting")]
+    #[error("memory is missing")]
     Memory,
 }
 

@@ -16,7 +16,7 @@ use walk_laws::faultless_denotes;
 pub enum ReadFault {
     #[error("the records have the fault B{0}")]
     Broken(u8),
-    #[error("memory is wanting")]
+    #[error("memory is missing")]
     Memory,
 }
 

@@ -32,10 +32,7 @@ fn push_of_next(sentences: &mut Vec<u8>, mended: &Mended, next: usize) -> Result
         return Ok(());
     };
     match kind_of(&card) {
-        Kind::Comment => push_sentence(
-            sentences,
-            "a comment card does not stand within a statement",
-        ),
+        Kind::Comment => push_sentence(sentences, "a comment card cannot be within a statement"),
         Kind::Jcl if seems_to_continue(&card) => {
             push_sentence(
                 sentences,
@@ -62,7 +59,7 @@ fn push_of_deck(
         }
         Cause::P(StatementFault::NoStep) if has_open_procedure(mended) => push_sentence(
             sentences,
-            "a procedure has no // PEND: the steps behind its PROC statement are its own",
+            "a procedure has no // PEND: the steps after its PROC statement are its own",
         ),
         Cause::P(StatementFault::NoSuchProcedure)
             if procedure_at(card, column) == b"IEFBR14".as_slice() => {

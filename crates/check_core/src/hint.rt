@@ -304,7 +304,7 @@ pub(crate) fn push_hint(
         _ => {}
     }
     if is_cut(card) && kind_of(card) == Kind::Jcl {
-        push_sentence(sentences, "the text behind column 71 is not read")?;
+        push_sentence(sentences, "the text after column 71 is not read")?;
     }
     Ok(())
 }

@@ -59,7 +59,7 @@ pub(crate) fn command<'a>(alloc: Global, program: &Program<'a>) -> Result<Comman
         .value_name("N")
         .value_parser(ValueParser::signed(1, 1024))
         .default_value("1024")
-        .help("Answer TOOMANY for a job that has more than N views behind a step, 1 to 1024");
+        .help("Answer TOOMANY for a job that has more than N views after a step, 1 to 1024");
     let explain = Arg::new(alloc, "explain")
         .long("explain")
         .action(ArgAction::SetTrue)

@@ -21,7 +21,7 @@ pub const SESSION_FAULT: u8 = 1;
 /// The status of a command line that cannot be used, or that asks for help or for the version.
 pub const MISUSE: u8 = 2;
 
-/// The status where memory is wanting.
+/// The status where memory is missing.
 pub const WANT_OF_MEMORY: u8 = 3;
 
 /// How the program ended.
@@ -42,7 +42,7 @@ pub fn misuse_status(kind: ErrorKind) -> u8
     }
 }
 
-/// Says that memory is wanting.
+/// Says that memory is missing.
 pub fn end_out_of_memory<E: Write>(errors: &mut E) -> Ended
     ensures status { result.status ≡ 3 }
     ensures said { OnTrue result.said (Appends (E.contents errors.old) (E.contents errors.new) said_of_memory) }
@@ -62,7 +62,7 @@ fn say_wrong<E: Write>(errors: &mut E, usage: &str, wrong: &str) -> bool {
     .is_ok()
 }
 
-/// Says in a line why the command line is not taken, and behind it the usage. Where memory is wanting for that line, the error's own text is told.
+/// Says in a line why the command line is not taken, and behind it the usage. Where memory is missing for that line, the error's own text is told.
 fn say_misuse<E: Write>(alloc: Global, errors: &mut E, usage: &str, error: &Error) -> bool {
     match one_line(alloc, error) {
         Ok(wrong) => say_wrong(errors, usage, wrong.as_str()),

@@ -49,7 +49,7 @@ fn is_turned_away(refuses: bool, admitted: &AdmittedJob) -> bool
     refuses && !admitted.is_assured()
 }
 
-/// A turn of a job whose names are held. Where memory is wanting the job is given back as it was, and nothing has changed.
+/// A turn of a job whose names are held. Where memory is missing the job is given back as it was, and nothing has changed.
 pub(crate) fn admit_job<Q: RecordStore>(
     alloc: Global,
     parts: &mut Parts<Q>,

@@ -15,7 +15,7 @@ use std::alloc::{AllocError, Global};
 use turn_core::laws::ends_advance;
 
 /// A turn of a job by which it may leave its place: it is read, is to be admitted, or its END is due. It leaves the job, where it is not over, with what it
-/// was answered or the lines that it wrote. Where memory is wanting the job is given back as it was, and the parts are as they were.
+/// was answered or the lines that it wrote. Where memory is missing the job is given back as it was, and the parts are as they were.
 pub fn go_on<Q: RecordStore>(
     alloc: Global,
     parts: &mut Parts<Q>,

@@ -67,7 +67,7 @@ fn unread(job: u16, walk: Walk, first: u32, plan: JobPlan, wants: Listed<Want>) 
     selected(job, walk, first)
 }
 
-/// A selected job's turn. Where memory is wanting the job is given back as it was, and nothing has changed.
+/// A selected job's turn. Where memory is missing the job is given back as it was, and nothing has changed.
 pub(crate) fn read<Q: RecordStore>(
     alloc: Global,
     parts: &mut Parts<Q>,

@@ -45,7 +45,7 @@ is_given NotGiven = false
 is_given Nullified = false
 is_given (Value a) = true
 
--- a keyword stands twice; two spellings of one keyword are one
+-- a keyword is given twice; two spellings of one keyword are one
 abbrev pub stands_twice : (List ℕ → List ℕ) → List Keyword → Bool
 stands_twice spelled [] = false
 stands_twice spelled (k ∷ keywords) =

@@ -72,7 +72,7 @@ pub(crate) fn has_spelled(spelling: Spelling, keywords: &[Keyword<'_>], key: &[u
         .any(|keyword| is_key(spelling, keyword.key(), key))
 }
 
-/// Whether a keyword stands twice.
+/// Whether a keyword is given twice.
 fn stands_twice(spelling: Spelling, keywords: &[Keyword<'_>]) -> bool
     ensures { result ≡ stands_twice (spelled_by spelling) keywords.now }
 {

@@ -1,4 +1,4 @@
--- An answer that is put where the caller has room for it, or the fault that is told, or memory is wanting.
+-- An answer that is put where the caller has room for it, or the fault that is told, or memory is missing.
 use Rattle.std.specs.Prelude.{◌≡◌, Result, Ok, Err}
 use Rattle.jcl_plan.specs.declared.fault.Cause.{Cause}
 use Rattle.value_core.specs.declared.refusal.ReadError.{ReadError}

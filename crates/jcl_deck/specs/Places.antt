@@ -23,7 +23,7 @@ denoted place = record {
   steps = place.steps.items;
 }
 
--- the place is changed to the one that is meant, or the fault that is told is answered, or memory is wanting
+-- the place is changed to the one that is meant, or the fault that is told is answered, or memory is missing
 abbrev pub Moves : Result (Unit {0}) ReadError → code.Place → Result Place Cause → Type 0
 Moves (Ok done) place moved = moved ≡ Ok (denoted place)
 Moves (Err (Refused fault)) place moved = moved ≡ Err fault

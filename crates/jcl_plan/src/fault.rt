@@ -40,7 +40,7 @@ pub enum StatementFault {
     UnknownOperation,
     #[error("a keyword is unknown on its statement")]
     UnknownKeyword,
-    #[error("a keyword stands twice")]
+    #[error("a keyword is given twice")]
     KeywordTwice,
     #[error("a value has the wrong form or is out of its range")]
     BadValue,
@@ -48,13 +48,13 @@ pub enum StatementFault {
     ExcludeOneAnother,
     #[error("parentheses are not balanced")]
     UnbalancedParentheses,
-    #[error("there are too many positional operands, or one stands behind a keyword")]
+    #[error("there are too many positional operands, or one follows a keyword")]
     TooManyPositional,
     #[error("an EXEC statement has neither a program nor a procedure, or both")]
     NotOneProgram,
     #[error("the job has no step")]
     NoStep,
-    #[error("a DD statement other than JOBLIB stands before the first EXEC statement")]
+    #[error("a DD statement other than JOBLIB is before the first EXEC statement")]
     DdBeforeExec,
     #[error("there are more than 8 tests")]
     TooManyTests,
@@ -66,7 +66,7 @@ pub enum StatementFault {
     UnknownUnit,
     #[error("there is more than one serial")]
     SeveralSerials,
-    #[error("a data set has the name of a member behind it")]
+    #[error("a data set has the name of a member after it")]
     MemberName,
     #[error("a keyword or a form is left out of this profile")]
     LeftOut,
@@ -76,7 +76,7 @@ pub enum StatementFault {
     ProcedureCallsProcedure,
     #[error("a procedure in the stream has no PEND statement")]
     MissingPend,
-    #[error("an override stands out of order")]
+    #[error("an override is out of order")]
     OverrideOutOfOrder,
     #[error("there is no such step of a procedure")]
     NoSuchProcedureStep,

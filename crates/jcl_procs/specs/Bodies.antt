@@ -22,7 +22,7 @@ statements_by (Ok statements) = Ok statements
 abbrev pub denoted : code.Body → Body
 denoted body = record { symbols = body.symbols; statements = body.statements.now }
 
--- the body that is meant is found, or the fault that is told is answered, or memory is wanting
+-- the body that is meant is found, or the fault that is told is answered, or memory is missing
 abbrev pub Finds : Result code.Body ReadError → Result Body Cause → Type 0
 Finds (Ok body) found = found ≡ Ok (denoted body)
 Finds (Err (Refused fault)) found = found ≡ Err fault

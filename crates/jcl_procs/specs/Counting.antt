@@ -41,7 +41,7 @@ abbrev pub IsLeft : ℕ → ℕ → Option ℕ → Type 0
 IsLeft most count (Some left) = count + left ≡ most
 IsLeft most count None = most < count
 
--- what is told of a step of a deck: how many steps it brings, or for what it is refused; or memory is wanting
+-- what is told of a step of a deck: how many steps it brings, or for what it is refused; or memory is missing
 abbrev pub Tells : Result ℕ ReadError → Result (List FlatStep) Cause → Type 0
 Tells (Ok count) steps = (found : List FlatStep) × (steps ≡ Ok found) × (length found ≡ count)
 Tells (Err (Refused fault)) steps = steps ≡ Err fault

@@ -1,4 +1,4 @@
-//! Worked values, operands, statements and decks: what they read as, or the fault that is told. All of it is laws that are computed.
+//! Worked values, operands, statements and decks: what they read as, or the fault that is reported. All of it is laws that are computed.
 #![tactic(auto)]
 
 pub mod cards;

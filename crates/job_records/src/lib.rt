@@ -1,4 +1,4 @@
-//! A job that is read where it stands: each field from its record, and no name read anew. (This profile)
+//! A job that is read in its records: each field from its record, and no name read anew. (This profile)
 #![tactic(auto)]
 
 mod cards;

@@ -1,4 +1,4 @@
-//! A job as its actions read it: by numbers and by value, wherever it stands. (This profile)
+//! A job as its actions read it: by numbers and by value, wherever it is kept. (This profile)
 #![tactic(auto)]
 
 mod dds;

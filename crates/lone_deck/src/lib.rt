@@ -1,4 +1,4 @@
-//! A session behind which a deck stands alone, and the text that is looked at then. (This profile)
+//! A session after which a deck comes alone, and the text that is looked at then. (This profile)
 #![tactic(auto)]
 
 ghost use Rattle.std.specs.Prelude.{◌≡◌, ◌≤◌, ◌<◌, ◌+◌, length, Some, IfOk, IfSome, true};

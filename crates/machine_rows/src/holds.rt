@@ -51,7 +51,7 @@ fn wants_in(alloc: Global, line: &mut Line<'_>) -> Vec<Want> {
     wants
 }
 
-/// Keeps what a job holds until it is released, or gives it free at once where memory is wanting.
+/// Keeps what a job holds until it is released, or gives it free at once where memory is missing.
 fn keep(table: &mut EnqTable, held: &mut Vec<Held>, own: Held, told: &mut Told) {
     if let Err(AllocFailed { value }) = held.push(own) {
         table.release(value);

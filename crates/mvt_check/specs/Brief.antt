@@ -98,8 +98,8 @@ pub record Shortens : Type 0 where
       ∷ codes "8:12: P40 a reference is to no DD of the job, or to SYSOUT or cards"
       ∷ codes "9:16: P16 the session has no unit of the name" ∷ [])
   pub marked : brief_of (text_of unknown_keyword) ≡ codes "7:18: P4 a keyword is unknown on this statement\n"
-  pub unmarked : brief_of (text_of (codes "line 1: session fault S2; nothing of the session behind it is run (docs/SESSION.md)" ∷ []))
-      ≡ codes "1:1: session fault S2; nothing of the session behind it is run (docs/SESSION.md)\n"
+  pub unmarked : brief_of (text_of (codes "line 1: session fault S2; nothing of the session after it is run (docs/SESSION.md)" ∷ []))
+      ≡ codes "1:1: session fault S2; nothing of the session after it is run (docs/SESSION.md)\n"
   pub second_marked : brief_of (text_of (failing_job ++ unknown_reference))
       ≡ text_of (codes "7:1: job 1 PAY fails: step S1, DD OUT: the data set PAY.DATA is on the volume already (F2)"
       ∷ codes "8:12: P40 a reference is to no DD of the job, or to SYSOUT or cards" ∷ [])

@@ -113,7 +113,7 @@ abbrev pub fault_text : Option (Fault × ℕ) → List ℕ
 fault_text None = []
 fault_text (Some (fault, line)) =
     codes "line " ++ decimal line ++ codes ": session fault S" ++ decimal (number_of fault)
-    ++ codes "; nothing of the session behind it is run (docs/SESSION.md)\n"
+    ++ codes "; nothing of the session after it is run (docs/SESSION.md)\n"
 
 -- the fault of a session of these statements
 abbrev pub fault_of : List Statement → Option (Fault × ℕ)
@@ -164,7 +164,7 @@ pub record IsUnopened (above : ℕ) (statements : List Statement) (found : Found
   pub refused : found.refused ≡ true
   pub calm : found.at_risk ≡ false
 
--- what is found of a session that stops at a fault before its first event; of one for which memory is wanting nothing is
+-- what is found of a session that stops at a fault before its first event; of one for which memory is missing nothing is
 abbrev pub TellsStop : ℕ → SessionFault → Found → Type 0
 TellsStop above (Stopped fault line) found =
     TellsFault above (Some (fault, line)) found.text.items × (found.refused ≡ true) × (found.at_risk ≡ false)

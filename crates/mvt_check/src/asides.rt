@@ -87,8 +87,8 @@ fn warn_of_class(
     };
     if known.site.has_turns() && !has_turn_behind(known, class, place) {
         let mut words =
-            *b"no ./ TURN behind the deck is of an initiator that takes class ?: mvt does not start the job";
-        words[63] = class;
+            *b"no ./ TURN after the deck is of an initiator that takes class ?: mvt does not start the job";
+        words[62] = class;
         put_aside(asides, warning_at(alloc, deck.first, 0, words.as_slice())?)?;
     }
     Ok(())

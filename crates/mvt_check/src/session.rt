@@ -79,7 +79,7 @@ fn fault_line(alloc: Global, fault: Fault, line: usize) -> Result<Vec<u8>, Alloc
     push_number(&mut text, line as u64)?;
     text.extend_from_slice(b": session fault S")?;
     push_number(&mut text, u64::from(fault.number()))?;
-    text.extend_from_slice(b"; nothing of the session behind it is run (docs/SESSION.md)\n")?;
+    text.extend_from_slice(b"; nothing of the session after it is run (docs/SESSION.md)\n")?;
     Ok(text)
 }
 

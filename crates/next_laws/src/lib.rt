@@ -1,4 +1,4 @@
-//! Laws of the volumes behind an event. They have no code: a law is a function that does nothing, and its contract is the law.
+//! Laws of the volumes after an event. They have no code: a law is a function that does nothing, and its contract is the law.
 #![tactic(auto)]
 
 ghost use Rattle.next_laws.specs.Next.{NextStoreIsDecided, NextVolumeIsDecided};

@@ -19,7 +19,7 @@ abbrev pub value_of : List ℕ → List Keyword → Option (List ℕ)
 value_of key [] = None
 value_of key (keyword ∷ keywords) = if bytes_eq keyword.key key then keyword.value else value_of key keywords
 
--- a keyword stands twice, those that are not supported apart
+-- a keyword is given twice, those that are not supported apart
 abbrev pub has_twice : (List ℕ → Bool) → List Keyword → Bool
 has_twice unsupported [] = false
 has_twice unsupported (keyword ∷ keywords) = (not (unsupported keyword.key) && has_key keyword.key keywords) || has_twice unsupported keywords

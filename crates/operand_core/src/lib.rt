@@ -1,4 +1,4 @@
-//! The operand of a statement: its parts, its keywords and their values, and the fault that is told of it. (GC28-6704: positional and keyword parameters)
+//! The operand of a statement: its parts, its keywords and their values, and the fault that is reported of it. (GC28-6704: positional and keyword parameters)
 #![tactic(auto)]
 
 pub mod fault;

@@ -1,4 +1,4 @@
-//! What may become of a job that starts in a store, and whether a path that is told leads to its fault.
+//! What may become of a job that starts in a store, and whether a path that is reported leads to its fault.
 #![tactic(auto)]
 
 pub mod analyse;

@@ -1,5 +1,5 @@
 //! Laws of a job's paths: of all outcomes that its steps may have, of what the job sees between two parts of its path, of a path part by part, and of a
-//! step by its pieces; and that what is told of a job before it runs is the only answer. They have no code: a law is a function that does nothing, and its
+//! step by its pieces; and that what is reported of a job before it runs is the only answer. They have no code: a law is a function that does nothing, and its
 //! contract is the law.
 #![tactic(auto)]
 

@@ -1,4 +1,4 @@
-//! The paths of a job: definitions of what may become of it along all outcomes of its steps, and of what is told of it before it runs.
+//! The paths of a job: definitions of what may become of it along all outcomes of its steps, and of what is reported of it before it runs.
 #![tactic(auto)]
 
 ghost use Rattle.path_meaning.specs.Verdicts.{IsNeverTwo};

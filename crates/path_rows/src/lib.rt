@@ -1,4 +1,4 @@
-//! Worked jobs before they run: what is told of each, and whether paths that are told lead to their faults. The tables say which commands there are.
+//! Worked jobs before they run: what is reported of each, and whether paths that are reported lead to their faults. The tables say which commands there are.
 #![tactic(auto)]
 
 mod case;

@@ -61,7 +61,7 @@ IsNoted job (Err fault) stay more go gone = (more ≡ stay) × (gone ≡ go ++ r
 abbrev pub IsTakenOver : List ℕ → List WaitingJob → Type 0
 IsTakenOver image jobs = (length image ≡ IMAGE_BYTES) × (are_job_numbers (map (λ w. w.job) jobs) ≡ true)
 
--- M1: the image has another size; M2: a number is none of a job, or given twice; memory is wanting last
+-- M1: the image has another size; M2: a number is none of a job, or given twice; memory is missing last
 abbrev pub IsRefused : List ℕ → List WaitingJob → MigrateFault → Type 0
 IsRefused image jobs Size = length image ≢ IMAGE_BYTES
 IsRefused image jobs Numbers = (length image ≡ IMAGE_BYTES) × (are_job_numbers (map (λ w. w.job) jobs) ≡ false)

@@ -16,7 +16,7 @@ static ROWS: [Row; 64] = [
         letter: b'C',
         number: 1,
         wrong: "a card has over 80 columns",
-        to_do: "shorten it; an operand goes on behind a comma, on a card with // and blanks",
+        to_do: "shorten it; an operand goes on after a comma, on a card with // and blanks",
     },
     Row {
         letter: b'C',
@@ -33,7 +33,7 @@ static ROWS: [Row; 64] = [
     Row {
         letter: b'C',
         number: 4,
-        wrong: "a continuation begins before column 4 or behind column 16",
+        wrong: "a continuation begins before column 4 or after column 16",
         to_do: "begin it in columns 4 to 16",
     },
     Row {
@@ -46,13 +46,13 @@ static ROWS: [Row; 64] = [
         letter: b'C',
         number: 6,
         wrong: "a card has a name and no operation",
-        to_do: "put JOB, EXEC or DD behind the name",
+        to_do: "put JOB, EXEC or DD after the name",
     },
     Row {
         letter: b'C',
         number: 7,
-        wrong: "data stand before the first EXEC statement",
-        to_do: "move them behind the step that reads them",
+        wrong: "data are before the first EXEC statement",
+        to_do: "move them after the step that reads them",
     },
     Row {
         letter: b'N',
@@ -105,7 +105,7 @@ static ROWS: [Row; 64] = [
     Row {
         letter: b'P',
         number: 5,
-        wrong: "a keyword stands twice, DSN and DSNAME being one, VOL and VOLUME too",
+        wrong: "a keyword is given twice, DSN and DSNAME being one, VOL and VOLUME too",
         to_do: "drop one",
     },
     Row {
@@ -129,7 +129,7 @@ static ROWS: [Row; 64] = [
     Row {
         letter: b'P',
         number: 9,
-        wrong: "too many positional operands, or one behind a keyword",
+        wrong: "too many positional operands, or one after a keyword",
         to_do: "JOB has two, DD one, EXEC one, PROC none",
     },
     Row {
@@ -147,8 +147,8 @@ static ROWS: [Row; 64] = [
     Row {
         letter: b'P',
         number: 12,
-        wrong: "a DD statement other than JOBLIB stands before the first EXEC",
-        to_do: "move it behind its EXEC",
+        wrong: "a DD statement other than JOBLIB is before the first EXEC",
+        to_do: "move it after its EXEC",
     },
     Row {
         letter: b'P',
@@ -159,8 +159,8 @@ static ROWS: [Row; 64] = [
     Row {
         letter: b'P',
         number: 14,
-        wrong: "a procedure has cards of data, behind DD *, DATA or loose",
-        to_do: "give them behind the call: //procstep.dd DD *",
+        wrong: "a procedure has cards of data, after DD *, DATA or loose",
+        to_do: "give them after the call: //procstep.dd DD *",
     },
     Row {
         letter: b'P',

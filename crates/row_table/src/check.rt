@@ -11,7 +11,7 @@ pub trait Subject {
     fn answer(&self, alloc: Global, input: &[u8], told: &mut Told);
 }
 
-/// What is told of an input; where memory is wanting it is told anew.
+/// What is told of an input; where memory is missing it is told anew.
 fn told_of<S: Subject>(alloc: Global, subject: &S, input: &[u8]) -> Result<Told, AllocError> {
     for _ in 0..2u8 {
         let mut told = Told::new(alloc);

@@ -28,7 +28,7 @@ Answers (Ok lines) old new does = LeadsTo (does lines) new
 Answers (Err (Refused cause)) old new does = does (entry.Refused cause ∷ []) old × (new ≡ old)
 Answers (Err Memory) old new does = new ≡ old
 
--- what the machine refuses is refused, and told as that, whether or not memory is wanting
+-- what the machine refuses is refused, and told as that, whether or not memory is missing
 abbrev pub RefusesFirst : Result (List Entry) ApplyFault → (List Entry → World → Type 0) → Type 0
 RefusesFirst result does = (cause : Cause) (new : World) → does (entry.Refused cause ∷ []) new → result ≡ Err (Refused cause)
 

@@ -107,7 +107,7 @@ impl<'c, Q: RecordStore> System<'c, Q> {
     }
 
     /// The machine of a configuration that was taken apart, before its first event, with a queue in which jobs wait: these, of which nothing was written yet.
-    /// The numbers of the jobs that are read go on behind the last. Where memory is wanting the queue is given back.
+    /// The numbers of the jobs that are read go on behind the last. Where memory is missing the queue is given back.
     pub fn open_queue(
         alloc: Global,
         store: SharedStore,

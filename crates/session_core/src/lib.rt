@@ -52,7 +52,7 @@ pub enum SessionFault {
     /// The first line of the statement whose lines were written.
     #[error("line {0}: the listing cannot be written further")]
     WriteFailed(usize),
-    #[error("memory is wanting")]
+    #[error("memory is missing")]
     Memory,
 }
 

@@ -21,7 +21,7 @@ pub enum Fault {
     ReadFailed,
     #[error("the listing cannot be written further")]
     WriteFailed,
-    #[error("configuration stands behind the first event")]
+    #[error("configuration comes after the first event")]
     LateConfiguration,
 }
 

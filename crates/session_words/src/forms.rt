@@ -31,7 +31,7 @@ impl Value {
             Value::Serial => "the serial",
             Value::Tracks | Value::SetTracks => "the number of tracks",
             Value::Used => "USED",
-            Value::UsedTracks => "the list behind USED",
+            Value::UsedTracks => "the list after USED",
             Value::UnitName => "the unit's name",
             Value::Serials => "the list of serials",
             Value::Base => "the group's base",

@@ -88,7 +88,7 @@ fn range_fault(text: &[u8], from: u32, tracks: u32) -> Option<Wrong> {
         let reason = "a range rises, as 10-19";
         Some(Wrong { at, reason })
     } else if number_of(first) < from {
-        let reason = "the list rises, and no track stands in it twice";
+        let reason = "the list rises, and no track is in it twice";
         Some(Wrong { at: 0, reason })
     } else if tracks <= number_of(last) {
         let reason = "the volume has no such track: tracks count from 0";
@@ -120,11 +120,11 @@ pub(crate) fn classes_fault(text: &[u8]) -> Option<Wrong> {
         let reason = if at == 8 {
             "an initiator has at most eight classes"
         } else if *c == b',' {
-            "classes stand side by side, with no comma"
+            "classes are written side by side, with no comma"
         } else if !(b'A' <= *c && *c <= b'O') {
             reason_at(*c, "a class is A to O")
         } else if before.contains(c) {
-            "each class stands once"
+            "each class is given once"
         } else {
             continue;
         };

@@ -37,7 +37,7 @@ fn value_fault(line: &[u8], value: Value, text: &[u8]) -> Option<Wrong> {
         Value::Used => word_fault(
             value,
             text,
-            "behind the tracks stands nothing, or USED and a list",
+            "after the tracks comes nothing, or USED and a list",
         ),
         Value::UsedTracks => used_fault(text, tracks_of(line)),
         Value::UnitName => name_fault(&UNIT_NAME, text),
@@ -48,14 +48,14 @@ fn value_fault(line: &[u8], value: Value, text: &[u8]) -> Option<Wrong> {
             "a group's base has at most 35 characters",
         ),
         Value::Limit => number_fault(&LIMIT, text),
-        Value::Scratch => word_fault(value, text, "behind the limit stands nothing, or SCRATCH"),
+        Value::Scratch => word_fault(value, text, "after the limit comes nothing, or SCRATCH"),
         Value::SetName => set_name_fault(
             text,
             MOST_OF_A_NAME,
             "a data set name has at most 44 characters",
         ),
         Value::SetTracks => number_fault(&SET_TRACKS, text),
-        Value::Cat => word_fault(value, text, "behind the tracks stands nothing, or CAT"),
+        Value::Cat => word_fault(value, text, "after the tracks comes nothing, or CAT"),
         Value::Name => name_fault(&NAME, text),
         Value::Initiator => number_fault(&INITIATOR, text),
         Value::Classes => classes_fault(text),
@@ -69,9 +69,9 @@ fn value_fault(line: &[u8], value: Value, text: &[u8]) -> Option<Wrong> {
 /// What is said of a blank beside the character that joins a field's parts.
 fn joint_reason(joint: u8) -> &'static str {
     if joint == b',' {
-        "no blank stands before or behind a comma"
+        "no blank is before or after a comma"
     } else {
-        "no blank stands before or behind *"
+        "no blank is before or after *"
     }
 }
 

@@ -29,9 +29,9 @@ fn unmarked_reason(line: &[u8], first: Field<'_>) -> (usize, &'static str) {
         let reason = "a card outside a block: put a deck between ./ READ and ./ END";
         (column, reason)
     } else if is_indented(line) {
-        (0, "./ stands in columns 1 and 2: drop what is before it")
+        (0, "./ is in columns 1 and 2: drop what is before it")
     } else if bytes == b"./".as_slice() {
-        (3, "a word is missing behind ./")
+        (3, "a word is missing after ./")
     } else if bytes.starts_with(b"./\t") {
         (2, TAB)
     } else if bytes.starts_with(b"./") {

@@ -37,7 +37,7 @@ pub(crate) static SERIAL: NameForm = NameForm {
     most: 6,
     may_begin_with_digit: true,
     has_hyphens: true,
-    empty: "a serial is missing before or behind a comma",
+    empty: "a serial is missing before or after a comma",
     long: "a serial has at most 6 characters",
     other: "a serial has letters, digits, #, @, $ and hyphens",
 };
@@ -65,7 +65,7 @@ pub(crate) static PART: NameForm = NameForm {
     most: 8,
     may_begin_with_digit: false,
     has_hyphens: true,
-    empty: "a part of the data set name is missing before or behind a period",
+    empty: "a part of the data set name is missing before or after a period",
     long: "a part of a data set name has at most 8 characters",
     other: "a part of a data set name has letters, digits, #, @, $ and hyphens, no digit or hyphen first",
 };
@@ -158,7 +158,7 @@ pub(crate) static INITIATOR: NumberForm = NumberForm {
 pub(crate) static COUNT: NumberForm = NumberForm {
     low: 1,
     high: 9_999,
-    range: "a count behind * is 1 to 9999",
+    range: "a count after * is 1 to 9999",
 };
 
 pub(crate) static JOB: NumberForm = NumberForm {

@@ -1,4 +1,4 @@
-//! Laws of a job that sees the same of two stores as it starts: the same is told of it before it runs. They have no code: a law is a function that
+//! Laws of a job that sees the same of two stores as it starts: the same is reported of it before it runs. They have no code: a law is a function that
 //! does nothing, and its contract is the law.
 #![tactic(auto)]
 

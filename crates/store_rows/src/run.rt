@@ -1,4 +1,4 @@
-//! A job carried out over a store, action by action. Where memory is wanting for an action, nothing that the job sees has changed, and the
+//! A job carried out over a store, action by action. Where memory is missing for an action, nothing that the job sees has changed, and the
 //! action is carried out again.
 use crate::kept::Known;
 use crate::shown::{tell_lines, tell_outputs, tell_seen};
@@ -259,7 +259,7 @@ fn look<S: JobStore>(way: &Way<'_>, store: &S) -> Run {
     Run { shown, alone }
 }
 
-/// Carries an action out, a second time where memory is wanting.
+/// Carries an action out, a second time where memory is missing.
 fn act_twice<S: Growths>(way: &mut Way<'_>, store: &mut S, at: At<'_>, action: Action<'_>) {
     let before = look(&*way, &*store).shown;
     if way.act(store, at, action).is_ok() {

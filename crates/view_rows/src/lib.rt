@@ -1,4 +1,4 @@
-//! Views, fates and classes of worked examples: what a run sees behind each step, what becomes of a step, and which codes its tests tell apart.
+//! Views, fates and classes of worked examples: what a run sees after each step, what becomes of a step, and which codes its tests tell apart.
 #![tactic(auto)]
 
 pub mod classes;

@@ -31,7 +31,7 @@ const VERBS: [(&str, Verb); 9] = [
     ("FULL", Verb::Full),
 ];
 
-/// Appends so many records. One for which memory is wanting is appended again.
+/// Appends so many records. One for which memory is missing is appended again.
 fn fill(records: &mut Records, count: u16, byte: u8, told: &mut Told) {
     for _ in 0..count {
         if records.append([byte; 80]).is_err() {

@@ -15,7 +15,7 @@ pub enum VolumeFault {
     NoSpace,
     #[error("a set would have more than sixteen extents")]
     TooManyExtents,
-    #[error("memory is wanting")]
+    #[error("memory is missing")]
     Memory,
 }
 

@@ -1,4 +1,4 @@
-//! A volume's tracks and its table of contents: which tracks are free, which sets stand on it and where. (GC28-6704, "SPACE parameter";
+//! A volume's tracks and its table of contents: which tracks are free, which sets are on it and where. (GC28-6704, "SPACE parameter";
 //! which extents are taken is this profile's rule)
 #![tactic(auto)]
 

@@ -283,7 +283,7 @@ impl Volume {
         contents::append(&mut self.sets, key, columns)
     }
 
-    /// Puts a record in place of all of a set's. A refusal changes nothing, and memory is wanting only where the set had no record.
+    /// Puts a record in place of all of a set's. A refusal changes nothing, and memory is missing only where the set had no record.
     pub fn write_first(&mut self, key: &SetKey, columns: DataRecord) -> Result<(), VolumeFault>
         ensures ok { OnOk result (self.new ≡ record self.old { sets = changed self.old.sets key.now (with_records (λ _. columns ∷ [])) }) }
         ensures answer { AnswersWrite result (map.get self.old.sets key.now) }

@@ -1,4 +1,4 @@
-//! Laws of strict reading: it tells a fault exactly where the records denote no job. They have no code: a law is a function that does nothing, and
+//! Laws of strict reading: it reports a fault exactly where the records denote no job. They have no code: a law is a function that does nothing, and
 //! its contract is the law.
 #![tactic(auto)]
 

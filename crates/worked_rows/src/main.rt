@@ -19,7 +19,7 @@ fn main(rt: HostRuntime) -> io::Result<ExitCode> {
             (Some(named), _) => topic = Some(named),
             (None, Some(topic)) => holds &= check_file(&rt, &topic, word.as_str())?,
             (None, None) => {
-                eprintln!(rt; "{word}: what this table is about has to stand ahead of it")?;
+                eprintln!(rt; "{word}: what this table is about has to come before it")?;
                 holds = false;
             }
         }

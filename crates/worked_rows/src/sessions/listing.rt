@@ -31,7 +31,7 @@ fn is_beginning(text: &[u8], whole: &[u8]) -> bool {
     whole.starts_with(text) && (text.is_empty() || text.ends_with(b"\n"))
 }
 
-/// Runs a session. Where memory is wanting, whole lines of its listing were written, which is told if it is not so, and it is run again.
+/// Runs a session. Where memory is missing, whole lines of its listing were written, which is told if it is not so, and it is run again.
 fn run_whole(alloc: Global, asked: &Asked, text: &[u8], told: &mut Told) -> Option<Outcome> {
     let first = run_once(alloc, asked, text, told)?;
     if first.end != Err(SessionFault::Memory) {

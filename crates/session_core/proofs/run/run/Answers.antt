@@ -5,7 +5,7 @@ use Rattle.session_core.proofs.Started.{IsFirst, same_options}
 use Rattle.session_core.proofs.Streams.{appended_none}
 use Rattle.session_core.proofs.run.run.Goals as goal
 
--- the session stops, or memory is wanting, before the first event
+-- the session stops, or memory is missing, before the first event
 pub returns-in-Err-clause-outcome : goal.returns-in-Err-clause-outcome
 returns-in-Err-clause-outcome g c = record { written = []; appended = appended_none _; outcome = c.in-Err.ensures.err c.args.options }
 
