@@ -2,6 +2,7 @@ mod Changing
 mod Seats
 mod KeptAside
 mod Few
+mod Tried
 mod Choosing
 mod Undoing
 mod Configured

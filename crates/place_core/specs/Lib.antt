@@ -1,3 +1,4 @@
 pub mod Volumes
 pub mod Placings
 pub mod Keepings
+pub mod Vain

@@ -4,6 +4,7 @@ ghost use Rattle.shared_core.specs.Rooms.{kept_place};
 ghost use Rattle.shared_core.specs.Shown.{kept_extents, mounted_in};
 ghost use Rattle.place_core.specs.Keepings.{keep_on};
 ghost use Rattle.place_core.specs.Placings.{chosen};
+ghost use Rattle.place_core.specs.Vain.{AreVain, LacksRoom};
 ghost use Rattle.place_core.specs.Volumes.{IsClear, IsMissing, StandsAt, all_back, aside_at, aside_on, back_on, changed_on, has_room};
 
 use jcl_meaning::state::Place;
@@ -72,7 +73,58 @@ fn set_aside(
     keep_at(volumes, serial, at, tracks)
 }
 
-/// Sets tracks aside on the first of these volumes that has room for them, and tells which that is, or else the first. An `Err` changes nothing.
+/// How many volumes are noted: as many as a session has.
+const MOST_TRIED: usize = 16;
+
+/// Which volumes have no room for so many tracks, as far as that was tried.
+#[derive(Drop)]
+struct Vain {
+    /// The serial that was tried last.
+    last: Option<Serial>,
+    /// Which of the first volumes were tried.
+    tried: [bool; MOST_TRIED],
+}
+
+/// Whether a serial is the one that was tried last.
+fn is_last(last: &Option<Serial>, serial: Serial) -> bool
+    ensures { result ≡ true → last.now ≡ Some serial }
+{
+    match last {
+        Some(last) => *last == serial,
+        None => false,
+    }
+}
+
+/// Whether it is known that the volume of a serial has no room for so many tracks.
+fn is_vain(volumes: &[Mounted], vain: &Vain, serial: Serial, tracks: u16) -> bool
+    requires { AreVain volumes.now tracks vain.now }
+    ensures { result ≡ true → LacksRoom volumes.now tracks serial }
+{
+    if is_last(&vain.last, serial) {
+        return true;
+    }
+    match place_of(volumes, serial) {
+        Some(place) => place < MOST_TRIED && vain.tried[place],
+        None => true,
+    }
+}
+
+/// Notes that the volume of a serial has no room for so many tracks.
+fn note_vain(volumes: &[Mounted], vain: &mut Vain, serial: Serial, tracks: u16)
+    requires vain { AreVain volumes.now tracks vain.old }
+    requires lacks { LacksRoom volumes.now tracks serial }
+    ensures { AreVain volumes.now tracks vain.new }
+{
+    vain.last = Some(serial);
+    if let Some(place) = place_of(volumes, serial) {
+        if place < MOST_TRIED {
+            vain.tried[place] = true;
+        }
+    }
+}
+
+/// Sets tracks aside on the first of these volumes that has room for them, and tells which that is, or else the first. An `Err` changes nothing. No volume is
+/// tried twice.
 pub(crate) fn aside_among(
     volumes: &mut [Mounted],
     among: &[Serial],
@@ -87,9 +139,16 @@ pub(crate) fn aside_among(
     if tracks == 0 {
         return Ok(among.first().copied());
     }
+    let mut vain = Vain {
+        last: None,
+        tried: [false; MOST_TRIED],
+    };
     for serial in among {
-        if set_aside(volumes, *serial, at, tracks)? {
-            return Ok(Some(*serial));
+        if !is_vain(&*volumes, &vain, *serial, tracks) {
+            if set_aside(volumes, *serial, at, tracks)? {
+                return Ok(Some(*serial));
+            }
+            note_vain(&*volumes, &mut vain, *serial, tracks);
         }
     }
     Ok(among.first().copied())
