@@ -50,6 +50,7 @@ fn is_turned_away(refuses: bool, admitted: &AdmittedJob) -> bool
 }
 
 /// A turn of a job whose names are held. Where memory is missing the job is given back as it was, and nothing has changed.
+#[inline(never)]
 pub(crate) fn admit_job<Q: RecordStore>(
     alloc: Global,
     parts: &mut Parts<Q>,

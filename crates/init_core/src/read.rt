@@ -68,6 +68,7 @@ fn unread(job: u16, walk: Walk, first: u32, plan: JobPlan, wants: Listed<Want>) 
 }
 
 /// A selected job's turn. Where memory is missing the job is given back as it was, and nothing has changed.
+#[inline(never)]
 pub(crate) fn read<Q: RecordStore>(
     alloc: Global,
     parts: &mut Parts<Q>,

@@ -79,6 +79,7 @@ fn running(job: u16, walk: Walk, admitted: AdmittedJob) -> Running
 }
 
 /// END: the writers have what the job wrote, and what it held is given back. Where memory is missing the job is given back as it was, and nothing has changed.
+#[inline(never)]
 pub(crate) fn end<Q: RecordStore>(
     parts: &mut Parts<Q>,
     job: u16,
