@@ -1,5 +1,5 @@
 //! Text that is written in parts.
-ghost use Rattle.std.specs.Prelude.{◌≡◌, ◌≤◌, ◌+◌, ◌∷◌, [], ◌++◌, IfOk, OnErr, OnOk, length, take};
+ghost use Rattle.std.specs.Prelude.{◌≡◌, ◌∷◌, [], ◌++◌, IfOk, OnErr, OnOk, length};
 
 use std::alloc::{AllocError, Global};
 use std::marker::Model;
@@ -7,10 +7,7 @@ use std::marker::Model;
 /// Text that is kept, and after it text that is begun, which is kept whole or not at all.
 #[derive(Drop)]
 pub struct Draft {
-    /// The text, and room after it.
     bytes: Vec<u8>,
-    /// How many of them are the text.
-    len: usize,
     /// How many of them are kept.
     kept: usize,
 }
@@ -21,44 +18,9 @@ impl Model for Draft {
 
     ghost Value = { Drafted };
 
-    ghost view = { λ d. record { kept = take d.kept (take d.len d.bytes.items); begun = drop d.kept (take d.len d.bytes.items) } };
+    ghost view = { λ d. record { kept = take d.kept d.bytes.items; begun = drop d.kept d.bytes.items } };
 
-    ghost invariant = { λ d. (d.kept ≤ d.len) × (d.len ≤ length d.bytes.items) };
-}
-
-/// More room after the first bytes, which stay.
-fn grow(bytes: &mut Vec<u8>, len: usize, more: usize) -> Result<(), AllocError>
-    requires { len ≤ length bytes.old.items }
-    ensures stay { take len bytes.new.items ≡ take len bytes.old.items }
-    ensures within { len ≤ length bytes.new.items }
-    ensures ok { OnOk result (len + more ≤ length bytes.new.items) }
-{
-    bytes.truncate(len);
-    bytes.reserve(more)?;
-    let room = bytes.capacity();
-    bytes.resize(room, 0)
-}
-
-/// Room for so many bytes after the first ones, which stay.
-fn make_room(bytes: &mut Vec<u8>, len: usize, more: usize) -> Result<(), AllocError>
-    requires { len ≤ length bytes.old.items }
-    ensures stay { take len bytes.new.items ≡ take len bytes.old.items }
-    ensures within { len ≤ length bytes.new.items }
-    ensures ok { OnOk result (len + more ≤ length bytes.new.items) }
-{
-    if more <= bytes.len() - len {
-        return Ok(());
-    }
-    grow(bytes, len, more)
-}
-
-/// Writes a text after the first bytes, where there is room for it.
-fn write_at(bytes: &mut Vec<u8>, len: usize, text: &[u8])
-    requires { len + length text.now ≤ length bytes.old.items }
-    ensures text { take (len + length text.now) bytes.new.items ≡ take len bytes.old.items ++ text.now }
-    ensures room { length bytes.new.items ≡ length bytes.old.items }
-{
-    bytes[len..len + text.len()].copy_from_slice(text);
+    ghost invariant = { λ d. d.kept ≤ length d.bytes.items };
 }
 
 impl Draft {
@@ -69,7 +31,6 @@ impl Draft {
     {
         Draft {
             bytes: Vec::new(alloc),
-            len: 0,
             kept: 0,
         }
     }
@@ -79,11 +40,7 @@ impl Draft {
         ensures { IfOk result (λ d. d ≡ record { kept = []; begun = [] }) }
     {
         let bytes = Vec::with_capacity(alloc, bytes)?;
-        Ok(Draft {
-            bytes,
-            len: 0,
-            kept: 0,
-        })
+        Ok(Draft { bytes, kept: 0 })
     }
 
     /// Puts a text after what is begun. An `Err` changes nothing.
@@ -92,10 +49,7 @@ impl Draft {
         ensures ok { OnOk result (self.new.begun ≡ self.old.begun ++ text.now) }
         ensures err { OnErr result (self.new.begun ≡ self.old.begun) }
     {
-        make_room(&mut self.bytes, self.len, text.len())?;
-        write_at(&mut self.bytes, self.len, text);
-        self.len += text.len();
-        Ok(())
+        self.bytes.extend_from_slice(text)
     }
 
     /// Puts a byte after what is begun. An `Err` changes nothing.
@@ -104,9 +58,7 @@ impl Draft {
         ensures ok { OnOk result (self.new.begun ≡ self.old.begun ++ byte ∷ []) }
         ensures err { OnErr result (self.new.begun ≡ self.old.begun) }
     {
-        make_room(&mut self.bytes, self.len, 1)?;
-        self.bytes[self.len] = byte;
-        self.len += 1;
+        self.bytes.push(byte)?;
         Ok(())
     }
 
@@ -115,7 +67,7 @@ impl Draft {
         ensures kept { self.new.kept ≡ self.old.kept ++ self.old.begun }
         ensures begun { self.new.begun ≡ [] }
     {
-        self.kept = self.len;
+        self.kept = self.bytes.len();
     }
 
     /// Takes away what is begun.
@@ -123,7 +75,7 @@ impl Draft {
         ensures kept { self.new.kept ≡ self.old.kept }
         ensures begun { self.new.begun ≡ [] }
     {
-        self.len = self.kept;
+        self.bytes.truncate(self.kept);
     }
 
     /// Takes all away.
@@ -131,7 +83,7 @@ impl Draft {
         ensures kept { self.new.kept ≡ [] }
         ensures begun { self.new.begun ≡ [] }
     {
-        self.len = 0;
+        self.bytes.clear();
         self.kept = 0;
     }
 
@@ -139,7 +91,8 @@ impl Draft {
     pub fn kept(&self) -> &[u8]
         ensures { result.now ≡ self.now.kept }
     {
-        &self.bytes[..self.kept]
+        let (kept, _) = self.bytes.as_slice().split_at(self.kept);
+        kept
     }
 
     /// How many bytes are kept.
