@@ -1,5 +1,6 @@
 pub mod Below
 pub mod Dds
+pub mod Faults
 pub mod Follows
 pub mod Jobs
 pub mod Marks

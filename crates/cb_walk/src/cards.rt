@@ -1,9 +1,9 @@
 //! The faults of a record of cards.
-ghost use Rattle.std.specs.Prelude.{◌≡◌, ◌||◌, ◌&&◌, ◌==◌, length, nat_lt, not};
-ghost use Rattle.std.specs.List.{list_all};
+ghost use Rattle.std.specs.Prelude.{◌≡◌, ◌||◌, ◌&&◌, ◌==◌, nat_lt, not};
 ghost use Rattle.cb_meaning.specs.Fields.{byte_at, is_zero_but, part};
 ghost use Rattle.cb_meaning.specs.Spelled.{card_fields};
 ghost use Rattle.cb_meaning.specs.Walks.{are_printable, card_faults, lowest};
+ghost use Rattle.cb_walk.specs.Faults.{second_card_bad};
 
 use crate::fields::{field, is_zero_but};
 use crate::texts::{are_printable, is_zero};
@@ -26,7 +26,7 @@ fn card_fields(layout: &Layout) -> [Field; 6]
 
 /// Of a record of one card the second one's place is zero.
 fn is_second_bad(r: &Rec) -> bool
-    ensures { result ≡ (byte_at r.now 10 == 2 && not (are_printable (part r.now 96 80)) || (byte_at r.now 10 == 1 && not (list_all (λ b. b == 0) (part r.now 96 80)))) }
+    ensures { result ≡ second_card_bad r.now }
 {
     let second = r.text(cards::SECOND);
     r.byte(cards::COUNT) == 2 && !are_printable(second)

@@ -1,9 +1,10 @@
 //! The faults of an SIOT.
-ghost use Rattle.std.specs.Prelude.{◌≡◌, ◌+◌, ◌||◌, ◌&&◌, ◌++◌, ◌==◌, length, nat_le, nat_lt, not, if◌then◌else◌};
+ghost use Rattle.std.specs.Prelude.{◌≡◌, ◌+◌, ◌||◌, ◌&&◌, ◌++◌, ◌==◌, length, nat_lt, not, if◌then◌else◌};
 ghost use Rattle.jname_core.specs.Characters.{is_letter_or_digit};
 ghost use Rattle.cb_meaning.specs.Fields.{byte_at, field, is_zero_but, number_at, part};
 ghost use Rattle.cb_walk.specs.Used.{fields_or_none};
 ghost use Rattle.cb_meaning.specs.Walks.{continues, has_cards, has_space, is_blank, is_earlier_set, is_known_kind, is_name, is_set, is_sysout, lowest, releases, set_numbers_bad, set_words_bad, siot_faults, siot_fields_used, told_if, with_dds};
+ghost use Rattle.cb_walk.specs.Faults.{numbers_bad, other_bad, volume_forward};
 
 use crate::fields::{field, is_zero_but};
 use crate::sets::is_earlier_set;
@@ -118,7 +119,7 @@ fn set_numbers_bad(units: u16, r: &Rec) -> bool
 
 /// Whether VOL refers to a DD that is no earlier set.
 fn is_volume_forward(steps: &[Listed<bool>], dds: &[bool], r: &Rec) -> bool
-    ensures { result ≡ (is_set r.now && byte_at r.now 28 == 3 && not (is_earlier_set (with_dds steps.now dds.now) (length steps.now + 1) (length dds.now + 1) (number_at r.now (field 30 2)) (number_at r.now (field 32 2)))) }
+    ensures { result ≡ volume_forward (with_dds steps.now dds.now) (length steps.now + 1) (length dds.now + 1) r.now }
 {
     is_set(r)
         && r.byte(siot::VOLUME) == 3
@@ -138,7 +139,7 @@ fn is_space_stray(r: &Rec) -> bool
 }
 
 fn are_numbers_bad(units: u16, first: bool, r: &Rec) -> bool
-    ensures { result ≡ (nat_lt 7 (byte_at r.now 24) || (continues r.now && first) || (is_set r.now && set_numbers_bad units r.now) || (is_sysout r.now && not (is_letter_or_digit (byte_at r.now 25)))) }
+    ensures { result ≡ numbers_bad units first r.now }
 {
     r.byte(siot::MARKS) > 7
         || continues(r) && first
@@ -160,7 +161,7 @@ fn is_first(dds: &[bool]) -> bool
 }
 
 fn is_other_bad(layout: &Layout, units: u16, first: bool, r: &Rec) -> bool
-    ensures { result ≡ (nat_lt 7 (byte_at r.now 24) || (continues r.now && first) || (is_set r.now && set_numbers_bad units r.now) || (is_sysout r.now && not (is_letter_or_digit (byte_at r.now 25))) || (is_known_kind r.now && not (is_set r.now) && (has_space r.now || releases r.now)) || (is_known_kind r.now && not (is_zero_but (siot_fields_used layout.now r.now) r.now))) }
+    ensures { result ≡ other_bad layout.now units first r.now }
 {
     are_numbers_bad(units, first, r)
         || is_space_stray(r)

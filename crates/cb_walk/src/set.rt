@@ -1,11 +1,9 @@
 //! The faults of a JFCB.
-ghost use Rattle.std.specs.Prelude.{◌≡◌, ◌+◌, ◌||◌, ◌&&◌, ◌++◌, ◌==◌, length, nat_lt, not, if◌then◌else◌};
-ghost use Rattle.std.specs.List.{list_all};
-ghost use Rattle.jname_core.specs.Generations.{has_generation_form};
-ghost use Rattle.jcl_plan.specs.Texts.{trimmed};
-ghost use Rattle.cb_meaning.specs.Fields.{byte_at, field, is_zero_but, number_at, part};
+ghost use Rattle.std.specs.Prelude.{◌≡◌, ◌+◌, ◌||◌, ◌&&◌, ◌++◌, ◌==◌, length};
+ghost use Rattle.cb_meaning.specs.Fields.{field, is_zero_but};
 ghost use Rattle.cb_meaning.specs.Spelled.{jfcb_fields};
 ghost use Rattle.cb_meaning.specs.Walks.{is_blank, is_ds_name, is_name, is_relative, is_serial, jfcb_faults, lowest, set_name_bad, stems_forward, told_if, with_dds};
+ghost use Rattle.cb_walk.specs.Faults.{amount_bad, names_bad, permanent_name_bad, reference_bad, rest_bad, serial_bad};
 
 use crate::fields::{field, is_zero_but};
 use crate::sets::is_earlier_set;
@@ -47,7 +45,7 @@ fn is_relative(r: &Rec) -> bool
 
 /// Whether the name is none of a permanent set.
 fn is_named_badly(r: &Rec) -> bool
-    ensures { result ≡ ((byte_at r.now 8 == 1 && (not (is_ds_name 44 (part r.now 12 44)) || has_generation_form (trimmed (part r.now 12 44)))) || (byte_at r.now 8 == 2 && not (is_ds_name 44 (part r.now 12 44) && has_generation_form (trimmed (part r.now 12 44))))) }
+    ensures { result ≡ permanent_name_bad r.now }
 {
     let name = r.text(jfcb::NAME);
     r.byte(jfcb::KEY_KIND) == 1 && is_no_plain_name(name)
@@ -65,7 +63,7 @@ fn set_name_bad(r: &Rec) -> bool
 
 /// Whether the serial is none, or stands where none is coded. The SIOT says how the volume is found.
 fn is_serial_bad(siot: &Rec, r: &Rec) -> bool
-    ensures { result ≡ (if byte_at siot.now 28 == 1 then not (is_serial (part r.now 56 6)) else not (is_blank (part r.now 56 6))) }
+    ensures { result ≡ serial_bad siot.now r.now }
 {
     let serial = r.text(jfcb::SERIAL);
     if siot.byte(VOLUME) == 1 {
@@ -77,7 +75,7 @@ fn is_serial_bad(siot: &Rec, r: &Rec) -> bool
 
 /// The same of the name that VOL refers to.
 fn is_reference_bad(siot: &Rec, r: &Rec) -> bool
-    ensures { result ≡ (if byte_at siot.now 28 == 2 then not (is_ds_name 44 (part r.now 62 44)) else not (is_blank (part r.now 62 44))) }
+    ensures { result ≡ reference_bad siot.now r.now }
 {
     let name = r.text(jfcb::VOLUME_NAME);
     if siot.byte(VOLUME) == 2 {
@@ -104,14 +102,14 @@ fn stems_forward(steps: &[Listed<bool>], dds: &[bool], r: &Rec) -> bool
 }
 
 fn is_amount_bad(r: &Rec) -> bool
-    ensures { result ≡ ((is_relative r.now && (nat_lt 1 (byte_at r.now 9) || nat_lt 255 (number_at r.now (field 10 2)))) || (not (is_relative r.now) && not (list_all (λ b. b == 0) (part r.now 9 3)))) }
+    ensures { result ≡ amount_bad r.now }
 {
     is_relative(r) && (r.byte(jfcb::SIGN) > 1 || r.short(jfcb::AMOUNT.at) > 255)
         || !is_relative(r) && !is_zero(r.text(jfcb::RELATIVE))
 }
 
 fn is_rest_bad(layout: &Layout, r: &Rec) -> bool
-    ensures { result ≡ (nat_lt (byte_at r.now 8) 1 || nat_lt 5 (byte_at r.now 8) || (is_relative r.now && (nat_lt 1 (byte_at r.now 9) || nat_lt 255 (number_at r.now (field 10 2)))) || (not (is_relative r.now) && not (list_all (λ b. b == 0) (part r.now 9 3))) || not (is_zero_but (jfcb_fields layout.now) r.now)) }
+    ensures { result ≡ rest_bad layout.now r.now }
 {
     r.byte(jfcb::KEY_KIND) < 1
         || r.byte(jfcb::KEY_KIND) > 5
@@ -120,7 +118,7 @@ fn is_rest_bad(layout: &Layout, r: &Rec) -> bool
 }
 
 fn are_names_bad(siot: &Rec, r: &Rec) -> bool
-    ensures { result ≡ (set_name_bad r.now || (if byte_at siot.now 28 == 1 then not (is_serial (part r.now 56 6)) else not (is_blank (part r.now 56 6))) || (if byte_at siot.now 28 == 2 then not (is_ds_name 44 (part r.now 62 44)) else not (is_blank (part r.now 62 44)))) }
+    ensures { result ≡ names_bad siot.now r.now }
 {
     set_name_bad(r) || is_serial_bad(siot, r) || is_reference_bad(siot, r)
 }

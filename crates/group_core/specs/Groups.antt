@@ -1,5 +1,5 @@
 -- What a generation data group means, over its generations, the newest first.
-use Rattle.std.specs.Prelude.{ℕ, Bool, ◌+◌, ◌<◌, ◌≤◌, ◌==◌, nat_lt, nat_le, List, [], ◌∷◌, length, Option, Some, None, Result, Ok, Err, slice_get, if◌then◌else◌}
+use Rattle.std.specs.Prelude.{ℕ, Bool, ◌+◌, ◌<◌, ◌≤◌, ◌==◌, nat_lt, nat_le, List, [], ◌∷◌, length, Option, Some, None, Result, Ok, Err, slice_get, if◌then◌else◌, ◌≡◌}
 use Rattle.std.specs.Str.{bytes_eq}
 use Rattle.jname_core.specs.declared.key.Sign.{Sign}
 use Rattle.jname_core.specs.declared.key.Sign.TheVariants.{Plus, Minus}
@@ -89,3 +89,11 @@ RollsInRange Entered = Unit {0}
 RollsInRange (Removed low serial) = (0 < low) × (low ≤ 9999)
 RollsInRange Lowest = Unit {0}
 RollsInRange Same = Unit {0}
+
+-- the lowest generation is gone, and a new one in its place
+abbrev pub IsRolled : List Generation → Generation → List Generation → Type 0
+IsRolled old added new = (low : Generation) → lowest_of old ≡ Some low → new ≡ inserted added (without old low.number)
+
+-- there is no generation of a number
+abbrev pub LacksGeneration : List Generation → ℕ → GroupFault → Type 0
+LacksGeneration generations number told = (told ≡ fault.NoGeneration) × (serial_of generations number ≡ None)

@@ -1,8 +1,8 @@
 //! A group and its generations.
-ghost use Rattle.std.specs.Prelude.{◌≡◌, ◌<◌, ◌≤◌, ◌==◌, [], None, OnOk, OnErr, IsSome, IfOk, IfSome, Ok, Err, MatchResult, nat_lt, length, take, vec_len, vec_capacity, slice_get, ◌↔◌, List, Some};
+ghost use Rattle.std.specs.Prelude.{◌≡◌, ◌<◌, ◌≤◌, ◌==◌, [], None, OnOk, OnErr, IsSome, IfOk, IfSome, Ok, Err, MatchResult, nat_lt, length, vec_len, vec_capacity, slice_get, Some};
 ghost use Rattle.std.specs.List.{position, insert, remove};
 ghost use Rattle.group_core.specs.declared.group.Generation.{Generation};
-ghost use Rattle.group_core.specs.Groups.{GroupState, IsFalling, entered, entered_again, inserted, lowest_of, newest_of, number_or_fault, rolled_off, serial_of, resolved, RollsInRange, with_entered, without};
+ghost use Rattle.group_core.specs.Groups.{GroupState, IsFalling, entered, entered_again, inserted, lowest_of, newest_of, number_or_fault, rolled_off, serial_of, resolved, RollsInRange, with_entered, without, IsRolled, LacksGeneration};
 
 use jname_core::key::Sign;
 use jname_core::serial::Serial;
@@ -97,8 +97,7 @@ fn roll(generations: &mut Vec<Generation>, new: Generation)
     requires other { serial_of generations.old.items new.number ≡ None }
     requires falling { IsFalling 10000 generations.old.items }
     requires some { 0 < vec_len generations.old }
-    ensures rolled { (low : Generation) → lowest_of generations.old.items ≡ Some low →
-        generations.new.items ≡ inserted new (without generations.old.items low.number) }
+    ensures rolled { IsRolled generations.old.items new generations.new.items }
     ensures falling { IsFalling 10000 generations.new.items }
     ensures room { vec_capacity generations.old ≤ vec_capacity generations.new }
 {
@@ -265,8 +264,7 @@ impl Group {
     pub fn remove(&mut self, number: u16) -> Result<(), GroupFault>
         ensures ok { OnOk result (self.new ≡ record self.old { generations = without self.old.generations number }) }
         ensures err { OnErr result (self.new ≡ self.old) }
-        ensures answer { MatchResult result (λ _. IsSome (serial_of self.old.generations number))
-            (λ fault. (fault ≡ GroupFault.NoGeneration) × (serial_of self.old.generations number ≡ None)) }
+        ensures answer { MatchResult result (λ _. IsSome (serial_of self.old.generations number)) (LacksGeneration self.old.generations number) }
     {
         match place_of(self.generations.as_slice(), number) {
             Some(place) => {

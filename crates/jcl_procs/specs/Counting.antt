@@ -1,5 +1,5 @@
 -- The steps of a deck as they are collected, up to a number of them, and the calls that need not be read again. (This profile)
-use Rattle.std.specs.Prelude.{◌≡◌, ◌⊎◌, ◌<◌, ◌+◌, ◌==◌, ℕ, nat_lt, Bool, true, false, List, [], ◌++◌, length, map, Option, None, Some, Result, Ok, Err, if◌then◌else◌}
+use Rattle.std.specs.Prelude.{◌≡◌, ◌⊎◌, ◌<◌, ◌+◌, ◌==◌, ℕ, nat_lt, Bool, true, false, List, [], ◌++◌, length, map, Option, None, Some, Result, Ok, Err, if◌then◌else◌, All}
 use Rattle.std.specs.List.{list_any}
 use Rattle.card_core.specs.declared.statement.Statement.{Statement}
 use Rattle.jcl_plan.specs.declared.fault.Cause.{Cause}
@@ -18,6 +18,8 @@ use Rattle.jcl_procs.specs.declared.step.FlatStep.{FlatStep}
 use Rattle.jcl_procs.specs.Calls.{Call, Place, steps_of}
 use Rattle.jcl_procs.specs.Expansions.{and_then, body_named, called}
 use Rattle.proc_library.specs.declared.library.LibraryProcedure.{LibraryProcedure}
+use Rattle.jcl_dds.specs.declared.dd.DdCard.{DdCard}
+use Rattle.jcl_procs.specs.declared.expansion.StepCall.{StepCall}
 
 abbrev pub up_to : ℕ → List FlatStep → Expansion
 up_to most steps = if nat_lt most (length steps) then TooMany else Steps steps
@@ -84,3 +86,17 @@ pub record IsSettled (place : Place) (s : Statement) : Type 0 where
 -- no step is kept where the deck's own are too many already
 abbrev pub KeepsFirst : ℕ → List DeckStep → Expansion → Type 0
 KeepsFirst most steps expansion = ((expansion ≡ TooMany) × (most < length steps)) ⊎ (expansion ≡ Steps [])
+
+-- the steps of a call with these DDs
+abbrev pub called_with : List LibraryProcedure → List in_stream.Procedure → StepCall → List DdCard → Result (List FlatStep) Cause
+called_with library procedures call dds = called library procedures call.place call.exec.now dds call.name call.symbols.now
+
+-- of procedures that are kept this one has a name
+abbrev pub IsKeptOf : List Known → List ℕ → Known → Type 0
+IsKeptOf known name found = (library : List LibraryProcedure) (procedures : List in_stream.Procedure) → All (IsKnown library procedures) known →
+    IsKnown library procedures found × (found.name ≡ name)
+
+-- one more may be kept, which brings these steps
+abbrev pub MayKeep : List Known → List ℕ → List Symbol → List FlatStep → List Known → Type 0
+MayKeep old name symbols steps new = (library : List LibraryProcedure) (procedures : List in_stream.Procedure) → All (IsKnown library procedures) old →
+    Brings library procedures name symbols steps → All (IsKnown library procedures) new

@@ -1,5 +1,5 @@
 -- The DD statements of a procedure that bring the same DD at each call. (This profile)
-use Rattle.std.specs.Prelude.{◌≡◌, ℕ, zero, suc, Bool, true, false, List, [], ◌∷◌, Option, Some, None, IfSome, map, Result, Ok}
+use Rattle.std.specs.Prelude.{◌≡◌, ℕ, zero, suc, Bool, true, false, List, [], ◌∷◌, Option, Some, None, IfSome, map, Ok, All}
 use Rattle.card_core.specs.declared.statement.Statement.{Statement}
 use Rattle.jcl_dds.specs.declared.dd.DdCard.{DdCard}
 use Rattle.jcl_dds.specs.Merging.{by_itself}
@@ -53,3 +53,8 @@ IsBody library procedures name statements =
 -- what is remembered of a procedure holds of its statements
 abbrev pub IsRemembered : List LibraryProcedure → List in_stream.Procedure → Remembered → Type 0
 IsRemembered library procedures r = (body : Body) → body_named library procedures r.name ≡ Ok body → AreDdsOf r.dds body.statements
+
+-- of procedures that are remembered this one has a name
+abbrev pub IsRememberedOf : List Remembered → List ℕ → Remembered → Type 0
+IsRememberedOf remembered name found = (library : List LibraryProcedure) (procedures : List in_stream.Procedure) →
+    All (IsRemembered library procedures) remembered → IsRemembered library procedures found × (found.name ≡ name)

@@ -5,7 +5,7 @@ ghost use Rattle.std.specs.List.{list_any};
 ghost use Rattle.value_core.specs.Reads.{Gives};
 ghost use Rattle.jcl_dds.specs.Merging.{by_itself};
 ghost use Rattle.jcl_procs.specs.declared.step.FlatStep.{FlatStep};
-ghost use Rattle.jcl_procs.specs.Counting.{IsKnown, IsLeft, KeepsFirst, Tells, counted, is_over, up_to};
+ghost use Rattle.jcl_procs.specs.Counting.{IsKnown, IsLeft, KeepsFirst, Tells, counted, is_over, up_to, called_with};
 ghost use Rattle.jcl_procs.specs.Expansions.{called, flat_from, plain_step, steps_by};
 ghost use Rattle.jcl_procs.specs.Remembering.{IsRemembered};
 
@@ -68,7 +68,7 @@ fn called(
     later: &VecDeque<DeckStep>,
 ) -> Result<Listed<FlatStep>, ReadError>
     requires { All (IsRemembered sources.now.library.now sources.now.procedures.now) remembered.old.items }
-    ensures gives { Gives result (called sources.now.library.now sources.now.procedures.now call.now.place call.now.exec.now dds call.now.name call.now.symbols.now) }
+    ensures gives { Gives result (called_with sources.now.library.now sources.now.procedures.now call.now dds) }
     ensures remembered { OnOk result (All (IsRemembered sources.now.library.now sources.now.procedures.now) remembered.new.items) }
 {
     let body = body_named(alloc, sources, call.name)?;

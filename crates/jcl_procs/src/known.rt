@@ -1,10 +1,9 @@
 //! Calls whose steps are not kept: how many they are, or for what the call is refused, where its procedure was read at another call.
-ghost use Rattle.std.specs.Prelude.{◌≡◌, ◌≤◌, [], All, IfSome, List, OnOk, length};
+ghost use Rattle.std.specs.Prelude.{◌≡◌, ◌≤◌, [], All, IfSome, OnOk, length};
 ghost use Rattle.std.specs.Bool.{OnTrue};
 ghost use Rattle.value_core.specs.Reads.{Gives};
 ghost use Rattle.jcl_deck.specs.declared.deck.Procedure as in_stream;
-ghost use Rattle.proc_library.specs.declared.library.LibraryProcedure.{LibraryProcedure};
-ghost use Rattle.jcl_procs.specs.Counting.{Brings, IsKnown, Tells, WasBrought, brought_by, called_by};
+ghost use Rattle.jcl_procs.specs.Counting.{IsKnown, Tells, WasBrought, brought_by, called_by, IsKeptOf, MayKeep};
 ghost use Rattle.jcl_procs.specs.Overrides.{dds_overridden};
 
 use crate::bodies::{Sources, body_named, copied_symbols};
@@ -65,8 +64,7 @@ fn same_symbols(a: &[Symbol], b: &[Symbol]) -> bool
 
 /// The procedure of a name, if it is kept.
 fn known_of<'a>(known: &'a [Known], name: Name8) -> Option<&'a Known>
-    ensures { (library : List LibraryProcedure) (procedures : List in_stream.Procedure)
-        → All (IsKnown library procedures) known.now → IfSome result (λ k. IsKnown library procedures k.now × (k.now.name ≡ name)) }
+    ensures { IfSome result (λ found. IsKeptOf known.now name found.now) }
 {
     for other in known {
         if other.name.as_slice() == name.as_slice() {
@@ -132,8 +130,7 @@ fn keep(
     call: &Call<'_>,
     steps: Listed<FlatStep>,
 ) -> Result<(), AllocError>
-    ensures { (library : List LibraryProcedure) (procedures : List in_stream.Procedure) → All (IsKnown library procedures) known.old.items
-        → Brings library procedures call.now.name call.now.symbols.now steps → OnOk result (All (IsKnown library procedures) known.new.items) }
+    ensures { OnOk result (MayKeep known.old.items call.now.name call.now.symbols.now steps known.new.items) }
 {
     if known.len() < MOST_KNOWN {
         let symbols = copied_symbols(alloc, call.symbols)?;

@@ -1,11 +1,10 @@
 //! Procedures that are called again: of their DDs those are remembered that are the same at each call.
-ghost use Rattle.std.specs.Prelude.{◌≡◌, ◌∷◌, ◌++◌, [], All, IfSome, List, OnOk};
+ghost use Rattle.std.specs.Prelude.{◌≡◌, ◌∷◌, ◌++◌, [], All, IfSome, OnOk};
 ghost use Rattle.value_core.specs.Reads.{Gives};
 ghost use Rattle.jcl_deck.specs.declared.deck.Procedure as in_stream;
-ghost use Rattle.proc_library.specs.declared.library.LibraryProcedure.{LibraryProcedure};
 ghost use Rattle.jcl_procs.specs.Calling.{call_of};
 ghost use Rattle.jcl_procs.specs.Calls.{steps_of};
-ghost use Rattle.jcl_procs.specs.Remembering.{IsBody, IsRemembered};
+ghost use Rattle.jcl_procs.specs.Remembering.{IsBody, IsRemembered, IsRememberedOf};
 
 use crate::bodies::Sources;
 use crate::calls::{Caller, steps_again, steps_from, steps_remembered};
@@ -36,8 +35,7 @@ pub(crate) struct Remembered {
 
 /// The procedure of a name, if it is remembered.
 fn remembered_of<'a>(remembered: &'a [Remembered], name: Name8) -> Option<&'a Remembered>
-    ensures { (library : List LibraryProcedure) (procedures : List in_stream.Procedure)
-        → All (IsRemembered library procedures) remembered.now → IfSome result (λ r. IsRemembered library procedures r.now × (r.now.name ≡ name)) }
+    ensures { IfSome result (λ found. IsRememberedOf remembered.now name found.now) }
 {
     for other in remembered {
         if other.name.as_slice() == name.as_slice() {

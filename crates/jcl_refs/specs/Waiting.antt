@@ -8,6 +8,7 @@ use Rattle.jcl_refs.specs.declared.places.Places.{Places}
 use Rattle.jcl_refs.specs.declared.waiting.Named.{Named}
 use Rattle.jcl_refs.specs.declared.waiting.Waiting.{Waiting}
 use Rattle.jcl_refs.specs.LaterDds.{Found, found_in, has_name, has_no_name}
+use Rattle.std.specs.Str.{bytes_eq}
 
 -- a place, where it counts
 abbrev pub own : Bool → ℕ → List ℕ
@@ -101,3 +102,7 @@ abbrev pub Takes : List ℕ → List DdCard → Option DdCard → List DdCard �
 Takes name old None new = (found_in name old ≡ None) × (new ≡ old)
 Takes name old (Some dd) new =
     (f : Found) × (found_in name old ≡ Some f) × (f.first ≡ dd) × (new ≡ f.continued ++ (f.before ++ f.behind)) × (suc (length new) ≡ length old)
+
+-- the last place of a name is taken
+abbrev pub LosesPlace : Places → List ℕ → ℕ → Places → Type 0
+LosesPlace old name place new = (x : List ℕ) → places_at old x ≡ places_at new x ++ own (bytes_eq name x) place

@@ -2,7 +2,7 @@
 ghost use Rattle.std.specs.Prelude.{◌≡◌, ◌++◌, ℕ, List, IfOk, MatchOption, OnOk, Some, []};
 ghost use Rattle.std.specs.Str.{bytes_eq};
 ghost use Rattle.name_places.specs.Places.{place_of};
-ghost use Rattle.jcl_refs.specs.Waiting.{AreAligned, own, places_at};
+ghost use Rattle.jcl_refs.specs.Waiting.{AreAligned, own, places_at, LosesPlace};
 
 use jname_core::name8::Name8;
 use name_places::places::NamePlaces;
@@ -63,7 +63,7 @@ impl Places {
     pub(crate) fn pop(&mut self, name: Name8) -> Option<usize>
         requires { AreAligned self.old }
         ensures aligned { AreAligned self.new }
-        ensures none { MatchOption result (places_at self.old name ≡ []) (λ place. (x : List ℕ) → places_at self.old x ≡ places_at self.new x ++ own (bytes_eq name x) place) }
+        ensures none { MatchOption result (places_at self.old name ≡ []) (λ place. LosesPlace self.old name place self.new) }
         ensures same { MatchOption result ((x : List ℕ) → places_at self.new x ≡ places_at self.old x) (λ place. place ≡ place) }
     {
         let number = self.names.find(name.as_slice())?;

@@ -1,7 +1,7 @@
 -- A text that is written piece by piece, as far as an operand is read. (This profile)
-use Rattle.std.specs.Prelude.{◌≡◌, ℕ, ◌<◌, Bool, true, false, ◌&&◌, ◌||◌, ◌==◌, if◌then◌else◌, List, [], ◌∷◌, ◌++◌, length, map, Option, ◌⊎◌}
+use Rattle.std.specs.Prelude.{◌≡◌, ℕ, ◌<◌, Bool, true, false, ◌&&◌, ◌||◌, ◌==◌, if◌then◌else◌, List, [], ◌∷◌, ◌++◌, length, map, Option, ◌⊎◌, Some, None}
 use Rattle.jcl_symbols.specs.declared.symbol.Symbol.{Symbol}
-use Rattle.jcl_symbols.specs.Substitutions.{Substituted, behind, joined, substituted_in, valued}
+use Rattle.jcl_symbols.specs.Substitutions.{Substituted, behind, joined, substituted_in, valued, substituted_from}
 
 -- what is written, with what is left to write, is the whole text; or both have over 1,024 characters
 abbrev pub Stores : List ℕ → List ℕ → List ℕ → Type 0
@@ -38,3 +38,8 @@ WritesNext symbols old new begun place = (places : List (List ℕ)) (whole : Lis
 abbrev pub without_period : Bool → List ℕ → List ℕ
 without_period has_value [] = []
 without_period has_value (c ∷ cs) = if has_value && c == 46 then cs else c ∷ cs
+
+-- what an ampersand begins is written: of the text after it this is left
+abbrev pub WritesSymbol : List Symbol → List ℕ → List ℕ → List ℕ → List ℕ → Bool → Type 0
+WritesSymbol symbols text old new left lacks_value =
+    Writes old new (substituted_from symbols false (Some []) text) (substituted_from symbols false None left) lacks_value

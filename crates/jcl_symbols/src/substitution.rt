@@ -3,8 +3,8 @@ ghost use Rattle.std.specs.Prelude.{◌≡◌, ◌≤◌, ◌∷◌, ◌++◌, �
 ghost use Rattle.std.specs.List.{list_any, starts_with};
 ghost use Rattle.operand_core.specs.Operands.{keyword_of, places_of};
 ghost use Rattle.value_core.specs.Reads.{Gives, answer};
-ghost use Rattle.jcl_symbols.specs.Substitutions.{begins_symbol, is_set_name, lacks_value, nothing, substituted, substituted_from, substituted_in, text_with};
-ghost use Rattle.jcl_symbols.specs.Writing.{Stores, Writes, WritesNext, without_period};
+ghost use Rattle.jcl_symbols.specs.Substitutions.{begins_symbol, is_set_name, lacks_value, nothing, substituted, substituted_in, text_with};
+ghost use Rattle.jcl_symbols.specs.Writing.{Stores, Writes, WritesNext, without_period, WritesSymbol};
 
 use crate::symbol::Symbol;
 use crate::symbols::{Symbols, name_len};
@@ -45,8 +45,7 @@ fn write_symbol<'a>(
     symbols: &Symbols<'_>,
     behind: &'a [u8],
 ) -> Result<(&'a [u8], bool), AllocError>
-    ensures text { let begun = substituted_from symbols.now false (Some []) behind.now in
-        IfOk result (λ r. Writes text.old.items text.new.items begun (substituted_from symbols.now false None r.0.now) r.1) }
+    ensures text { IfOk result (λ r. WritesSymbol symbols.now behind.now text.old.items text.new.items r.0.now r.1) }
     ensures shorter { IfOk result (λ r. length r.0.now ≤ length behind.now) }
 {
     if let Some(after) = behind_ampersand(behind) {

@@ -1,17 +1,17 @@
 -- A mounted volume: its serial, its tracks and sets, and the tracks that are kept on it.
 use Rattle.std.specs.Prelude.{◌≡◌, ℕ, ◌+◌, Bool, true, false, ◌==◌, nat_le, List, [], slice_get, Option, Some, None, refl}
 use Rattle.std.specs.Coded.{Coded, code_by, coded×, coded_list, coded_ℕ}
-use Rattle.std.specs.FinMap.{insert, remove}
+use Rattle.std.specs.FinMap.{insert, remove, get}
 use Rattle.std.specs.Option.{option_map}
 use Rattle.extent_core.specs.declared.extent.Extent.{Extent}
-use Rattle.vtoc_core.specs.Volumes.{Moves, VolumeState, coded_volume, count_of, marked}
+use Rattle.vtoc_core.specs.Volumes.{Moves, VolumeState, coded_volume, count_of, marked, extents_of_all}
 use Rattle.vtoc_core.specs.Extents.{five_largest, free_extents, planned, tracks_in}
 use Rattle.vtoc_core.specs.declared.entry.SetKey.{SetKey}
 use Rattle.vtoc_core.specs.declared.volume.Track.{Track}
 use Rattle.vtoc_core.specs.declared.volume.Track.TheVariants.{Aside, Free, InSet, Unusable}
 use Rattle.mount_core.specs.declared.place.KeptPlace.{KeptPlace}
 use Rattle.mount_core.specs.Codes.{coded_kept}
-use Rattle.mount_core.specs.Kept.{Kept}
+use Rattle.mount_core.specs.Kept.{Kept, extents_kept}
 
 pub record MountedState : Type 0 where
   pub serial : List ℕ
@@ -77,3 +77,20 @@ WasMade None old place key n expires new = (list : List Extent) × (planned (fre
     × (new ≡ made_of_free old list key expires) × Moves Free InSet n old.volume.tracks new.volume.tracks
 WasMade (Some list) old place key n expires new = (tracks_in list ≡ n) × (new ≡ made_of_kept old place list key expires)
     × Moves Aside InSet n old.volume.tracks new.volume.tracks
+
+-- so many free tracks are kept at a place
+abbrev pub KeepsAt : MountedState → KeptPlace → ℕ → MountedState → Type 0
+KeepsAt old place n new = (list : List Extent) × (planned (free_extents old.volume.tracks) n ≡ Some list) × (new ≡ kept_for old place list)
+
+-- whether so many tracks are there for the set of a place
+abbrev pub holds_for : MountedState → KeptPlace → ℕ → Bool
+holds_for m place n = holds (get m.kept place) m.volume n
+
+-- the tracks of all kinds, each counted where it is: free, kept, in sets, and never free
+abbrev pub tracks_counted : MountedState → ℕ
+tracks_counted m = count_of Free m.volume.tracks + tracks_in (extents_kept m.kept) + tracks_in (extents_of_all m.volume.sets) + count_of Unusable m.volume.tracks
+
+-- tracks that are kept and given back leave the volume as it was
+abbrev pub KeptIsGivenBack : Type 0
+KeptIsGivenBack = (m : MountedState) (place : KeptPlace) (n : ℕ) (list : List Extent) → get m.kept place ≡ None → planned (free_extents m.volume.tracks) n ≡ Some list →
+    kept_given_back (get (kept_for m place list).kept place) (kept_for m place list) place ≡ m

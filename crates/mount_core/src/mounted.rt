@@ -1,16 +1,13 @@
 //! A mounted volume.
-ghost use Rattle.std.specs.Prelude.{◌≡◌, ◌≢◌, ℕ, ◌+◌, ◌==◌, if◌then◌else◌, length, ◌≤◌, ◌<◌, ◌↔◌, ◌++◌, ◌∷◌, [], List, IsErr, false, true, Some, None, Err, IfErr, IfNone, IfOk, IfSome, IsSome, OnErr, OnOk};
+ghost use Rattle.std.specs.Prelude.{◌≡◌, ◌≢◌, ℕ, ◌+◌, ◌==◌, if◌then◌else◌, length, ◌≤◌, ◌<◌, ◌↔◌, ◌++◌, ◌∷◌, [], IsErr, false, true, Some, None, Err, IfErr, IfNone, IfOk, IfSome, IsSome, OnErr, OnOk};
 ghost use Rattle.std.specs.FinMap as map;
 ghost use Rattle.jcl_plan.specs.declared.plan.TheConstants.{MOST_TRACKS};
 ghost use Rattle.extent_core.specs.declared.extent.Extent.{Extent};
-ghost use Rattle.vtoc_core.specs.Entries.{changed, with_extents, with_records};
-ghost use Rattle.vtoc_core.specs.Extents.{five_largest, free_extents, kept_front, past_front, planned, tracks_in};
-ghost use Rattle.vtoc_core.specs.Volumes.{AnswersGrow, AnswersWrite, Moves, count_of, extents_of_all, first_tracks, marked, tracks_past};
-ghost use Rattle.vtoc_core.specs.declared.entry.SetEntry.{SetEntry};
-ghost use Rattle.vtoc_core.specs.declared.volume.Track.TheVariants.{Aside, Free, InSet, Unusable};
+ghost use Rattle.vtoc_core.specs.Extents.{five_largest, free_extents, tracks_in};
+ghost use Rattle.vtoc_core.specs.Volumes.{AnswersGrow, AnswersWrite, first_tracks, Scratches, Trims, with_records_at};
 ghost use Rattle.mount_core.specs.Kept.{AreKept, IsKeptFor, KeepsNoneFor, extents_kept};
 ghost use Rattle.mount_core.specs.declared.place.KeptPlace.{KeptPlace};
-ghost use Rattle.mount_core.specs.Mounts.{WasMade, all_tracks, kept_given_back, holds, kept_for, unusable_at};
+ghost use Rattle.mount_core.specs.Mounts.{WasMade, all_tracks, kept_given_back, holds, unusable_at, KeepsAt, holds_for, tracks_counted};
 
 use crate::lists::{self, Lists, copy_of, drop_place, extents_at, is_taken};
 use crate::place::KeptPlace;
@@ -92,7 +89,7 @@ impl Mounted {
 
     /// Keeps so many tracks at a place where none are kept. A refusal changes nothing: `NameThere` where some are.
     pub fn keep(&mut self, place: KeptPlace, tracks: u16) -> Result<(), VolumeFault>
-        ensures ok { OnOk result ((list : List Extent) × (planned (free_extents self.old.volume.tracks) tracks ≡ Some list) × (self.new ≡ kept_for self.old place list)) }
+        ensures ok { OnOk result (KeepsAt self.old place tracks self.new) }
         ensures there { (result ≡ Err VolumeFault.NameThere) ↔ IsSome (map.get self.old.kept place) }
         ensures space { (result ≡ Err VolumeFault.NoSpace) ↔ ((map.get self.old.kept place ≡ None) × (five_largest (free_extents self.old.volume.tracks) < tracks)) }
         ensures others { IfErr result (λ fault. (fault ≢ VolumeFault.NameMissing) × (fault ≢ VolumeFault.TooManyExtents)) }
@@ -155,9 +152,9 @@ impl Mounted {
         expires: Option<u32>,
     ) -> Result<(), VolumeFault>
         ensures made { OnOk result (WasMade (map.get self.old.kept place.now) self.old place.now key tracks expires self.new) }
-        ensures granted { OnOk result (holds (map.get self.old.kept place.now) self.old.volume tracks ≡ true) }
-        ensures space { result ≡ Err VolumeFault.NoSpace → holds (map.get self.old.kept place.now) self.old.volume tracks ≡ false }
-        ensures no_room { map.get self.old.volume.sets key ≡ None → holds (map.get self.old.kept place.now) self.old.volume tracks ≡ false → result ≡ Err VolumeFault.NoSpace }
+        ensures granted { OnOk result (holds_for self.old place.now tracks ≡ true) }
+        ensures space { result ≡ Err VolumeFault.NoSpace → holds_for self.old place.now tracks ≡ false }
+        ensures no_room { map.get self.old.volume.sets key ≡ None → holds_for self.old place.now tracks ≡ false → result ≡ Err VolumeFault.NoSpace }
         ensures there { (result ≡ Err VolumeFault.NameThere) → IsSome (map.get self.old.volume.sets key) }
         ensures others { IfErr result (λ fault. (fault ≢ VolumeFault.NameMissing) × (fault ≢ VolumeFault.TooManyExtents)) }
         ensures err { OnErr result (self.new ≡ self.old) }
@@ -185,10 +182,7 @@ impl Mounted {
 
     /// Scratches a set: its tracks are free again. A refusal changes nothing.
     pub fn scratch(&mut self, key: &SetKey) -> Result<(), VolumeFault>
-        ensures ok { OnOk result ((entry : SetEntry) × (map.get self.old.volume.sets key.now ≡ Some entry) × (self.new.volume ≡ record {
-          tracks = marked Free entry.extents.items self.old.volume.tracks;
-          sets = map.remove self.old.volume.sets key.now;
-        }) × Moves InSet Free (tracks_in entry.extents.items) self.old.volume.tracks self.new.volume.tracks) }
+        ensures ok { OnOk result (Scratches self.old.volume key.now self.new.volume) }
         ensures missing { IsErr result ↔ (map.get self.old.volume.sets key.now ≡ None) }
         ensures fault { IfErr result (λ fault. fault ≡ VolumeFault.NameMissing) }
         ensures err { OnErr result (self.new.volume ≡ self.old.volume) }
@@ -208,10 +202,7 @@ impl Mounted {
 
     /// Cuts a set to this many tracks, from the end of its extents. A refusal changes nothing.
     pub fn trim(&mut self, key: &SetKey, tracks: usize) -> Result<(), VolumeFault>
-        ensures ok { OnOk result ((entry : SetEntry) × (map.get self.old.volume.sets key.now ≡ Some entry) × (self.new.volume ≡ record {
-          tracks = marked Free (past_front tracks entry.extents.items) self.old.volume.tracks;
-          sets = changed self.old.volume.sets key.now (with_extents (kept_front tracks));
-        }) × Moves InSet Free (tracks_past tracks entry.extents.items) self.old.volume.tracks self.new.volume.tracks) }
+        ensures ok { OnOk result (Trims self.old.volume key.now tracks self.new.volume) }
         ensures missing { IsErr result ↔ (map.get self.old.volume.sets key.now ≡ None) }
         ensures fault { IfErr result (λ fault. fault ≡ VolumeFault.NameMissing) }
         ensures err { OnErr result (self.new.volume ≡ self.old.volume) }
@@ -223,7 +214,7 @@ impl Mounted {
 
     /// Puts a record behind those of a set. A refusal changes nothing.
     pub fn append(&mut self, key: &SetKey, columns: DataRecord) -> Result<(), VolumeFault>
-        ensures ok { OnOk result (self.new.volume ≡ record self.old.volume { sets = changed self.old.volume.sets key.now (with_records (λ all. all ++ columns ∷ [])) }) }
+        ensures ok { OnOk result (self.new.volume ≡ with_records_at self.old.volume key.now (λ all. all ++ columns ∷ [])) }
         ensures answer { AnswersWrite result (map.get self.old.volume.sets key.now) }
         ensures err { OnErr result (self.new.volume ≡ self.old.volume) }
         ensures others { self.new ≡ record self.old { volume = self.new.volume } }
@@ -233,7 +224,7 @@ impl Mounted {
 
     /// Gives a set these records in place of its own. It takes no memory. A refusal changes nothing.
     pub fn put_records(&mut self, key: &SetKey, records: Records) -> Result<(), VolumeFault>
-        ensures ok { OnOk result (self.new.volume ≡ record self.old.volume { sets = changed self.old.volume.sets key.now (with_records (λ _. records)) }) }
+        ensures ok { OnOk result (self.new.volume ≡ with_records_at self.old.volume key.now (λ _. records)) }
         ensures missing { IsErr result ↔ (map.get self.old.volume.sets key.now ≡ None) }
         ensures fault { IfErr result (λ fault. fault ≡ VolumeFault.NameMissing) }
         ensures err { OnErr result (self.new.volume ≡ self.old.volume) }
@@ -244,7 +235,7 @@ impl Mounted {
 
     /// Takes all records of a set away. A refusal changes nothing.
     pub fn clear(&mut self, key: &SetKey) -> Result<(), VolumeFault>
-        ensures ok { OnOk result (self.new.volume ≡ record self.old.volume { sets = changed self.old.volume.sets key.now (with_records (λ _. [])) }) }
+        ensures ok { OnOk result (self.new.volume ≡ with_records_at self.old.volume key.now (λ _. [])) }
         ensures missing { IsErr result ↔ (map.get self.old.volume.sets key.now ≡ None) }
         ensures fault { IfErr result (λ fault. fault ≡ VolumeFault.NameMissing) }
         ensures err { OnErr result (self.new.volume ≡ self.old.volume) }
@@ -269,8 +260,7 @@ impl Mounted {
 
     /// The tracks of a volume add up to its size: those free, those kept, those of sets, and those that are never free.
     pub fn tracks_add_up(&self)
-        ensures { count_of Free self.now.volume.tracks + tracks_in (extents_kept self.now.kept) + tracks_in (extents_of_all self.now.volume.sets)
-            + count_of Unusable self.now.volume.tracks ≡ length self.now.volume.tracks }
+        ensures { tracks_counted self.now ≡ length self.now.volume.tracks }
     {
         volumes_are_sound(&self.volume);
     }

@@ -6,10 +6,9 @@ mod runner;
 mod steps;
 
 ghost use Rattle.std.specs.Prelude.{IfOk, true};
-ghost use Rattle.jcl_meaning.specs.Agendas.{agenda};
-ghost use Rattle.jcl_meaning.specs.Solo.{IsSoloRun, at_start, fixed_alone, run, solo_of, solo_path_of};
+ghost use Rattle.jcl_meaning.specs.Solo.{IsSoloRun, fixed_alone, run, solo_path_of};
 ghost use Rattle.jcl_meaning.specs.Stores.{store_of};
-ghost use Rattle.solo_core.specs.PathRuns.{IsPathRun};
+ghost use Rattle.solo_core.specs.PathRuns.{IsPathRun, ran_alone, solo_in};
 
 use crate::path::{PathRun, faults_in};
 use crate::runner::Runner;
@@ -39,8 +38,7 @@ fn run<'a>(
     grants: &'a [bool],
     date: Day,
 ) -> Result<PathRun, AllocError>
-    ensures { IfOk result (λ r. IsPathRun r store.now (run (fixed_alone store.now plan.now places.now date) (agenda plan.now programs.now)
-        (at_start (store_of store.now) (record { outcomes = outcomes.now; cancels = cancels.now; grants = grants.now; primary = true })))) }
+    ensures { IfOk result (λ r. IsPathRun r store.now (ran_alone store.now plan.now places.now date programs.now outcomes.now cancels.now grants.now)) }
 {
     let meanings = meanings_of(alloc, plan, store)?;
     let mut runner = Runner {
@@ -90,8 +88,7 @@ pub fn solo(
     answers: &SoloAnswers,
     date: Day,
 ) -> Result<SoloRun, AllocError>
-    ensures { IfOk result (λ r. IsSoloRun r store.now
-        (solo_of (fixed_alone store.now plan.now places.now date) plan.now (store_of store.now) programs.now answers.now)) }
+    ensures { IfOk result (λ r. IsSoloRun r store.now (solo_in store.now plan.now places.now date programs.now answers.now)) }
 {
     let outcomes = endings(alloc, plan.steps.as_slice(), programs)?;
     let run = run(

@@ -1,15 +1,15 @@
 //! The store of a job alone, as lists.
-ghost use Rattle.std.specs.Prelude.{◌≡◌, ◌+◌, ◌^◌, ◌<◌, ◌≤◌, Some, None, IfOk, IfSome, IfNone, IsSomeAnd, OnOk, OnErr, List, refl, true, ℕ};
+ghost use Rattle.std.specs.Prelude.{◌≡◌, ◌+◌, ◌^◌, ◌<◌, ◌≤◌, Some, None, IfSome, IfNone, IsSomeAnd, OnOk, OnErr, List, refl, true, ℕ};
 ghost use Rattle.std.proofs.Common.{◌∙◌};
 ghost use Rattle.std.specs.List.{position};
 ghost use Rattle.group_core.specs.Entries.{group_in};
-ghost use Rattle.group_core.specs.Groups.{GroupState, RollsInRange, without};
+ghost use Rattle.group_core.specs.Groups.{RollsInRange};
 ghost use Rattle.group_core.specs.declared.entry.CatEntry.TheVariants as entry;
 ghost use Rattle.jcl_meaning.specs.Lists.{is_at, is_of};
 ghost use Rattle.jcl_meaning.specs.Programs.{appended, emptied, grown_by};
-ghost use Rattle.jcl_meaning.specs.Stores.{cut_at, entry_in, group_of, member_of, set_in, store_of, uncatalogued_by, with_entry, with_set};
+ghost use Rattle.jcl_meaning.specs.Stores.{cut_at, entry_in, group_of, member_of, set_in, store_of, uncatalogued_by, with_set};
 ghost use Rattle.store_core.specs.Actions.{changed_at, facts_of};
-ghost use Rattle.store_core.specs.Entered.{entry_with, entry_without};
+ghost use Rattle.store_core.specs.Entered.{entry_with, entry_without, LosesNumber};
 ghost use Rattle.store_core.specs.EnteredNumbers.{EntersNumber, TakesNumber, with_number};
 ghost use Rattle.store_core.specs.Places.{IsFirstAt, IsFirstOf};
 
@@ -287,8 +287,7 @@ fn drop_number(entry: &mut CatEntry, number: u16)
 
 /// Takes a number out of the group of a base.
 pub(crate) fn drop_number_of(alloc: Global, store: &mut SoloStore, base: &DsName, number: u16)
-    ensures entry { (g : GroupState) → group_of (store_of store.old) base.now ≡ Some g →
-        store_of store.new ≡ with_entry (store_of store.old) base.now (Some (entry.Group (record g { generations = without g.generations number }))) }
+    ensures entry { LosesNumber (store_of store.old) base.now number (store_of store.new) }
     ensures volumes { store.new.volumes ≡ store.old.volumes }
 {
     let Some(at) = entry_place_of(store.catalog.as_slice(), base) else {

@@ -1,5 +1,5 @@
 //! The store as a job sees it, and what the job's actions ask of it.
-ghost use Rattle.std.specs.Prelude.{◌≡◌, ◌<◌, ◌≤◌, ◌↔◌, ℕ, Bool, List, [], ◌∷◌, Err, Some, None, IfOk, OnErr, OnOk, true, false, slice_get};
+ghost use Rattle.std.specs.Prelude.{◌≡◌, ◌<◌, ◌≤◌, ◌↔◌, ℕ, Bool, List, [], ◌∷◌, Err, Some, None, OnErr, OnOk, true, false, slice_get};
 ghost use Rattle.std.specs.Option.{option_copied, option_map};
 ghost use Rattle.group_core.specs.Groups.{RollsInRange};
 ghost use Rattle.group_core.specs.declared.entry.CatEntry.TheVariants as entry;
@@ -93,15 +93,16 @@ pub trait JobStore {
         expires: Option<u32>,
     ) -> Result<(), RoomFault>
         requires { (seen job self.old).set key.now place.now.serial ≡ None }
-        ensures ok { OnOk result ((seen job self.new ≡ with_set (seen job self.old) key.now place.now.serial (Some (new_set_of tracks expires)))
-            × takes job (place.now ∷ []) (rest job self.old) (rest job self.new) × (grants_new job self.old key.now place.now tracks ≡ true)) }
+        ensures made { OnOk result (seen job self.new ≡ with_set (seen job self.old) key.now place.now.serial (Some (new_set_of tracks expires))) }
+        ensures taken { OnOk result (takes job (place.now ∷ []) (rest job self.old) (rest job self.new)) }
+        ensures granted { OnOk result (grants_new job self.old key.now place.now tracks ≡ true) }
         ensures refused { result ≡ Err RoomFault.NotGranted ↔ grants_new job self.old key.now place.now tracks ≡ false }
         ensures err { OnErr result (self.new ≡ self.old) };
 
     /// Adds tracks to a set.
     fn grow(&mut self, job: u16, key: &Key, serial: Serial, tracks: u16) -> Result<(), RoomFault>
-        ensures ok { OnOk result ((seen job self.new ≡ changed_at (grown_by tracks) (seen job self.old) key.now serial)
-            × (grants_growth job self.old key.now serial tracks ≡ true)) }
+        ensures grown { OnOk result (seen job self.new ≡ changed_at (grown_by tracks) (seen job self.old) key.now serial) }
+        ensures granted { OnOk result (grants_growth job self.old key.now serial tracks ≡ true) }
         ensures refused { result ≡ Err RoomFault.NotGranted ↔ grants_growth job self.old key.now serial tracks ≡ false }
         ensures err { OnErr result (self.new ≡ self.old) }
         ensures rest { OnOk result (takes job [] (rest job self.old) (rest job self.new)) };

@@ -1,9 +1,9 @@
 //! What follows from the definitions of changes to a set alone.
-ghost use Rattle.std.specs.Prelude.{◌≡◌, ℕ, Bool, List, false};
+ghost use Rattle.std.specs.Prelude.{◌≡◌, ℕ, List, false};
 ghost use Rattle.jname_core.specs.declared.key.Key.{Key};
-ghost use Rattle.jcl_meaning.specs.Programs.{emptied, grown_by};
+ghost use Rattle.jcl_meaning.specs.Programs.{emptied};
 ghost use Rattle.jcl_meaning.specs.Stores.{Store};
-ghost use Rattle.store_core.specs.Actions.{changed_at};
+ghost use Rattle.store_core.specs.Actions.{changed_at, GrowsInEitherOrder};
 
 /// A set that is not emptied stays as it is.
 pub fn not_emptied_stays()
@@ -12,6 +12,5 @@ pub fn not_emptied_stays()
 
 /// A set that grows and is emptied after it, or not, is as one that is emptied first.
 pub fn grown_and_emptied_in_either_order()
-    ensures { (s : Store) (key : Key) (serial : List ℕ) (empties : Bool) (tracks : ℕ) →
-        changed_at (emptied empties) (changed_at (grown_by tracks) s key serial) key serial ≡ changed_at (λ set. grown_by tracks (emptied empties set)) s key serial }
+    ensures { GrowsInEitherOrder }
 {}

@@ -1,7 +1,7 @@
 -- A volume: what each of its tracks is, and its sets.
 use Rattle.std.specs.Prelude.{◌≡◌, ◌≢◌, ◌≤◌, ◌<◌, ℕ, ◌+◌, ◌-◌, ◌==◌, Bool, true, false, min, List, [], ◌∷◌, ◌++◌, length, count_by, slice_get, Option, Some, None, Result, Ok, Err, if◌then◌else◌, IsSome, replicate, refl}
 use Rattle.std.specs.Coded.{Coded, code_by, coded×, coded_bool, coded_list}
-use Rattle.std.specs.FinMap.{entries, get}
+use Rattle.std.specs.FinMap.{entries, get, insert, remove}
 use Rattle.std.specs.List.{list_any, flat_map}
 use Rattle.jcl_plan.specs.declared.plan.TheConstants.{MOST_TRACKS}
 use Rattle.extent_core.specs.declared.extent.Extent.{Extent}
@@ -13,8 +13,8 @@ use Rattle.vtoc_core.specs.declared.volume.Track.TheVariants.{Free, Aside, InSet
 use Rattle.vtoc_core.specs.declared.volume.TrackCounts.{TrackCounts}
 use Rattle.vtoc_core.specs.declared.fault.VolumeFault.{VolumeFault}
 use Rattle.vtoc_core.specs.declared.fault.VolumeFault.TheVariants as fault
-use Rattle.vtoc_core.specs.Entries.{Sets, changed, coded_sets, with_extents}
-use Rattle.vtoc_core.specs.Extents.{free_extents, five_largest, planned, tracks_in}
+use Rattle.vtoc_core.specs.Entries.{Sets, changed, coded_sets, with_extents, with_records}
+use Rattle.vtoc_core.specs.Extents.{free_extents, five_largest, planned, tracks_in, kept_front, past_front}
 
 pub record VolumeState : Type 0 where
   pub tracks : List Track
@@ -186,3 +186,46 @@ AnswersWrite (Ok _) set = IsSome set
 AnswersWrite (Err fault.NameMissing) set = set ≡ None
 AnswersWrite (Err fault.Memory) set = IsSome set
 AnswersWrite (Err _) set = ⊥
+
+-- a volume with a new set of these extents, without a record
+abbrev pub with_new_set : VolumeState → List Extent → SetKey → Option ℕ → VolumeState
+with_new_set v list key expires = record {
+  tracks = marked InSet list v.tracks;
+  sets = insert v.sets key (record { extents = record { items = list }; expires = expires; records = [] });
+}
+
+-- a set was made of so many free tracks
+abbrev pub MakesSet : VolumeState → SetKey → ℕ → Option ℕ → VolumeState → Type 0
+MakesSet old key n expires new =
+    (list : List Extent) × (planned (free_extents old.tracks) n ≡ Some list) × (new ≡ with_new_set old list key expires)
+
+-- a set was scratched: its tracks are free
+abbrev pub Scratches : VolumeState → SetKey → VolumeState → Type 0
+Scratches old key new = (entry : SetEntry) × (get old.sets key ≡ Some entry)
+    × (new ≡ record {
+      tracks = marked Free entry.extents.items old.tracks;
+      sets = remove old.sets key;
+    })
+    × Moves InSet Free (tracks_in entry.extents.items) old.tracks new.tracks
+
+-- a set was cut to so many tracks: those past them are free
+abbrev pub Trims : VolumeState → SetKey → ℕ → VolumeState → Type 0
+Trims old key n new = (entry : SetEntry) × (get old.sets key ≡ Some entry)
+    × (new ≡ record {
+      tracks = marked Free (past_front n entry.extents.items) old.tracks;
+      sets = changed old.sets key (with_extents (kept_front n));
+    })
+    × Moves InSet Free (tracks_past n entry.extents.items) old.tracks new.tracks
+
+-- a volume with the records of a set changed
+abbrev pub with_records_at : VolumeState → SetKey → (List (List ℕ) → List (List ℕ)) → VolumeState
+with_records_at v key change = record v { sets = changed v.sets key (with_records change) }
+
+-- extents and more after them, sixteen at most
+abbrev pub AreJoined : List Extent → List Extent → List Extent → Type 0
+AreJoined extents more all = (length extents + length more ≤ 16) × (all ≡ extents ++ more)
+
+-- how many tracks are of a kind once so many of one kind are of another
+abbrev pub shifted_count : TrackCounts → Track → Track → ℕ → Track → ℕ
+shifted_count counts from to n other =
+    count_in counts other - (if is_kind other from then n else 0) + (if is_kind other to then n else 0)

@@ -7,7 +7,7 @@ ghost use Rattle.std.specs.declared.ops.Bound.TheVariants.{Excluded, Included, U
 ghost use Rattle.vtoc_core.specs.Entries.{LacksRecords, changed, key_cmp, set_among, set_within, sets_of, with_extents, with_records};
 ghost use Rattle.vtoc_core.specs.declared.entry.SetKey.{SetKey};
 ghost use Rattle.vtoc_core.specs.Extents.{kept_front, past_front};
-ghost use Rattle.vtoc_core.specs.Volumes.{AnswersWrite, LieBelow};
+ghost use Rattle.vtoc_core.specs.Volumes.{AnswersWrite, LieBelow, AreJoined};
 
 use crate::entry::{Extent, SetEntry, SetKey};
 use crate::fault::VolumeFault;
@@ -159,8 +159,7 @@ pub(crate) fn extents_of(extents: &[Extent]) -> ArrayVec<Extent, 16>
 /// A set's extents with more behind them, unless they would be over sixteen.
 pub(crate) fn joined(extents: &[Extent], more: &[Extent]) -> Option<ArrayVec<Extent, 16>>
     requires { length extents.now ≤ 16 }
-    ensures { MatchOption result (16 < length extents.now + length more.now)
-        (λ all. (length extents.now + length more.now ≤ 16) × (all.items ≡ extents.now ++ more.now)) }
+    ensures { MatchOption result (16 < length extents.now + length more.now) (λ all. AreJoined extents.now more.now all.items) }
 {
     let mut all = extents_of(extents);
     match all.try_extend_from_slice(more) {

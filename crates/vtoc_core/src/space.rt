@@ -2,8 +2,8 @@
 ghost use Rattle.std.specs.Prelude.{◌≡◌, ◌≤◌, [], List, Bool, Some, None, IfOk, IsTrue, IsFalse, MatchOption, false, true, length};
 ghost use Rattle.jcl_plan.specs.declared.plan.TheConstants.{MOST_TRACKS};
 ghost use Rattle.extent_core.specs.Extents.{free_extents};
-ghost use Rattle.vtoc_core.specs.Extents.{are_free, is_free_track, largest_taken, planned};
-ghost use Rattle.vtoc_core.specs.Searches.{TakenInTurn, WereTaken, marked_each};
+ghost use Rattle.vtoc_core.specs.Extents.{are_free, is_free_track, largest_taken};
+ghost use Rattle.vtoc_core.specs.Searches.{TakenInTurn, WereTaken, marked_each, TakesNone, TakesPlanned, largest_in, planned_in};
 
 use crate::entry::Extent;
 use crate::volume::Track;
@@ -90,9 +90,7 @@ fn take_each(free: &mut FreeExtents, taken: &mut ArrayVec<Extent, 5>, wanted: u1
 
 /// Takes the largest extents for so many tracks, five at most. If they do not hold them, none is taken.
 fn take_largest(free: &mut FreeExtents, wanted: u16) -> Option<ArrayVec<Extent, 5>>
-    ensures { MatchOption result
-        ((largest_taken 5 (free_extents free.old) wanted ≡ None) × (free.new ≡ free.old))
-        (λ t. (largest_taken 5 (free_extents free.old) wanted ≡ Some t.items) × (free.new ≡ marked_each false t.items free.old)) }
+    ensures { let plan = largest_in free.old wanted in MatchOption result (TakesNone plan free.old free.new) (λ t. TakesPlanned plan t.items free.old free.new) }
 {
     let mut taken = ArrayVec::new();
     if take_each(free, &mut taken, wanted) {
@@ -104,9 +102,7 @@ fn take_largest(free: &mut FreeExtents, wanted: u16) -> Option<ArrayVec<Extent, 
 
 /// Takes so many tracks. If there is no space for them, none is taken.
 pub(crate) fn take(free: &mut FreeExtents, wanted: u16) -> Option<ArrayVec<Extent, 5>>
-    ensures { MatchOption result
-        ((planned (free_extents free.old) wanted ≡ None) × (free.new ≡ free.old))
-        (λ t. (planned (free_extents free.old) wanted ≡ Some t.items) × (free.new ≡ marked_each false t.items free.old)) }
+    ensures { let plan = planned_in free.old wanted in MatchOption result (TakesNone plan free.old free.new) (λ t. TakesPlanned plan t.items free.old free.new) }
 {
     let mut taken = ArrayVec::new();
     if wanted == 0 {

@@ -2,7 +2,7 @@
 ghost use Rattle.std.specs.Prelude.{◌≡◌, ◌≢◌, ◌≤◌, ◌+◌, ◌-◌, IfOk, MatchOption, length, if◌then◌else◌};
 ghost use Rattle.jcl_plan.specs.declared.plan.TheConstants.{MOST_TRACKS};
 ghost use Rattle.vtoc_core.specs.Extents.{tracks_in};
-ghost use Rattle.vtoc_core.specs.Volumes.{AreOf, Counted, IsSpace, LacksSpace, Moves, count_in, first_tracks, is_kind, marked};
+ghost use Rattle.vtoc_core.specs.Volumes.{AreOf, Counted, IsSpace, LacksSpace, Moves, count_in, first_tracks, is_kind, marked, shifted_count};
 ghost use Rattle.vtoc_core.specs.declared.volume.Track.{Track};
 ghost use Rattle.vtoc_core.specs.declared.volume.Track.TheVariants.{Free, Aside, InSet};
 
@@ -63,7 +63,7 @@ fn shifted(counts: TrackCounts, from: Track, to: Track, tracks: usize) -> TrackC
     requires there { tracks ≤ count_in counts from }
     requires few { tracks ≤ MOST_TRACKS }
     requires counted { (kind : Track) → count_in counts kind ≤ MOST_TRACKS }
-    ensures { (other : Track) → count_in result other ≡ count_in counts other - (if is_kind other from then tracks else 0) + (if is_kind other to then tracks else 0) }
+    ensures { (other : Track) → count_in result other ≡ shifted_count counts from to tracks other }
 {
     more(fewer(counts, from, tracks), to, tracks)
 }

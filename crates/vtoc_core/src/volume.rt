@@ -1,13 +1,13 @@
 //! A volume.
-ghost use Rattle.std.specs.Prelude.{◌≡◌, ◌≢◌, ◌≤◌, ◌<◌, ◌↔◌, ◌++◌, ◌∷◌, [], List, Some, None, Err, IsOk, IsErr, IsSome, IfOk, OnOk, OnErr, IfErr, false, count_by, length, ◌+◌};
+ghost use Rattle.std.specs.Prelude.{◌≡◌, ◌≢◌, ◌≤◌, ◌<◌, ◌↔◌, ◌++◌, ◌∷◌, [], Some, None, Err, IsOk, IsErr, IsSome, IfOk, OnOk, OnErr, IfErr, false, count_by, length, ◌+◌};
 ghost use Rattle.std.specs.FinMap as map;
 ghost use Rattle.std.specs.Option.{option_copied};
 ghost use Rattle.std.specs.Ordering.{is_gt};
 ghost use Rattle.std.specs.declared.ops.Bound.TheVariants.{Excluded, Included, Unbounded};
 ghost use Rattle.jcl_plan.specs.declared.plan.TheConstants.{MOST_TRACKS};
-ghost use Rattle.vtoc_core.specs.Entries.{LacksRecords, changed, key_cmp, set_among, set_within, with_extents, with_records};
-ghost use Rattle.vtoc_core.specs.Extents.{five_largest, free_extents, is_free_track, kept_front, past_front, planned, tracks_in};
-ghost use Rattle.vtoc_core.specs.Volumes.{AnswersGrow, AnswersMake, AnswersWrite, AreOf, IsAside, IsSoundVolume, Moves, count_of, first_tracks, marked, tracks_past};
+ghost use Rattle.vtoc_core.specs.Entries.{LacksRecords, changed, key_cmp, set_among, set_within, with_records};
+ghost use Rattle.vtoc_core.specs.Extents.{five_largest, free_extents, is_free_track, planned, tracks_in};
+ghost use Rattle.vtoc_core.specs.Volumes.{AnswersGrow, AnswersMake, AnswersWrite, AreOf, IsAside, IsSoundVolume, Moves, count_of, first_tracks, marked, MakesSet, Scratches, Trims, with_new_set};
 ghost use Rattle.extent_core.specs.declared.extent.Extent.{Extent};
 ghost use Rattle.vtoc_core.specs.declared.entry.SetEntry.{SetEntry};
 ghost use Rattle.vtoc_core.specs.declared.entry.SetKey.{SetKey};
@@ -157,10 +157,7 @@ impl Volume {
     ) -> Result<(), (ExtentList, VolumeFault)>
         requires { IsAside self.old list }
         ensures answer { AnswersMake result self.old list key }
-        ensures ok { OnOk result (self.new ≡ record {
-          tracks = marked InSet list self.old.tracks;
-          sets = map.insert self.old.sets key (record { extents = record { items = list }; expires = expires; records = [] });
-        }) }
+        ensures ok { OnOk result (self.new ≡ with_new_set self.old list key expires) }
         ensures counts { OnOk result (Moves Aside InSet (tracks_in list) self.old.tracks self.new.tracks) }
         ensures err { OnErr result (self.new ≡ self.old) }
     {
@@ -187,10 +184,7 @@ impl Volume {
         tracks: u16,
         expires: Option<u32>,
     ) -> Result<(), VolumeFault>
-        ensures ok { OnOk result ((list : List Extent) × (planned (free_extents self.old.tracks) tracks ≡ Some list) × (self.new ≡ record {
-          tracks = marked InSet list self.old.tracks;
-          sets = map.insert self.old.sets key (record { extents = record { items = list }; expires = expires; records = [] });
-        })) }
+        ensures ok { OnOk result (MakesSet self.old key tracks expires self.new) }
         ensures counts { OnOk result (Moves Free InSet tracks self.old.tracks self.new.tracks) }
         ensures there { (result ≡ Err VolumeFault.NameThere) ↔ IsSome (map.get self.old.sets key) }
         ensures space { (result ≡ Err VolumeFault.NoSpace) ↔ ((map.get self.old.sets key ≡ None) × (five_largest (free_extents self.old.tracks) < tracks)) }
@@ -219,10 +213,7 @@ impl Volume {
 
     /// Scratches a set: its tracks are free again. A refusal changes nothing.
     pub fn scratch(&mut self, key: &SetKey) -> Result<(), VolumeFault>
-        ensures ok { OnOk result ((entry : SetEntry) × (map.get self.old.sets key.now ≡ Some entry) × (self.new ≡ record {
-          tracks = marked Free entry.extents.items self.old.tracks;
-          sets = map.remove self.old.sets key.now;
-        }) × Moves InSet Free (tracks_in entry.extents.items) self.old.tracks self.new.tracks) }
+        ensures ok { OnOk result (Scratches self.old key.now self.new) }
         ensures gone { OnOk result (map.get self.new.sets key.now ≡ None) }
         ensures missing { IsErr result ↔ (map.get self.old.sets key.now ≡ None) }
         ensures fault { IfErr result (λ fault. fault ≡ VolumeFault.NameMissing) }
@@ -257,10 +248,7 @@ impl Volume {
 
     /// Cuts a set to this many tracks, from the end of its extents. A refusal changes nothing.
     pub fn trim(&mut self, key: &SetKey, tracks: usize) -> Result<(), VolumeFault>
-        ensures ok { OnOk result ((entry : SetEntry) × (map.get self.old.sets key.now ≡ Some entry) × (self.new ≡ record {
-          tracks = marked Free (past_front tracks entry.extents.items) self.old.tracks;
-          sets = changed self.old.sets key.now (with_extents (kept_front tracks));
-        }) × Moves InSet Free (tracks_past tracks entry.extents.items) self.old.tracks self.new.tracks) }
+        ensures ok { OnOk result (Trims self.old key.now tracks self.new) }
         ensures missing { IsErr result ↔ (map.get self.old.sets key.now ≡ None) }
         ensures fault { IfErr result (λ fault. fault ≡ VolumeFault.NameMissing) }
         ensures err { OnErr result (self.new ≡ self.old) }

@@ -8,12 +8,16 @@ use Rattle.shared_core.proofs.Entries.{ok_both, ok_by}
 use Rattle.shared_core.proofs.SeenSets.{others_grown, seen_changed}
 use Rattle.shared_core.proofs.store.SharedStoreJobStore.grow.Goals as goal
 
-pub returns-in-Some-clause-ok : goal.returns-in-Some-clause-ok
-returns-in-Some-clause-ok c =
-    ok_by c.grow_set.result (λ w. (
-      seen_changed c.args.job c.args.self.now c.grow_set.new.volumes c.args.key.now c.in-Some.key c.args.serial c.in-Some.ensures (grown_by c.args.tracks) w.0,
-      subst (λ o. holds_more o (mounted_in c.args.self.now.volumes c.args.serial) c.args.tracks ≡ true) c.in-Some.ensures w.1,
-    ))
+pub returns-in-Some-clause-grown : goal.returns-in-Some-clause-grown
+returns-in-Some-clause-grown c =
+    ok_by c.grow_set.result (λ w.
+    seen_changed c.args.job c.args.self.now c.grow_set.new.volumes c.args.key.now c.in-Some.key c.args.serial c.in-Some.ensures (grown_by c.args.tracks) w.0)
+    c.grow_set.ensures.ok
+
+pub returns-in-Some-clause-granted : goal.returns-in-Some-clause-granted
+returns-in-Some-clause-granted c =
+    ok_by c.grow_set.result (λ w.
+    subst (λ o. holds_more o (mounted_in c.args.self.now.volumes c.args.serial) c.args.tracks ≡ true) c.in-Some.ensures w.1)
     c.grow_set.ensures.ok
 
 pub returns-in-Some-clause-rest : goal.returns-in-Some-clause-rest
