@@ -8,6 +8,7 @@ use Rattle.jcl_meaning.specs.History.{looks_at, met_by}
 use Rattle.view_core.specs.Bits.{kept_tests, looking}
 use Rattle.packed_core.specs.declared.classes.Class.{Class}
 use Rattle.packed_core.specs.declared.room.Room.{Room}
+use Rattle.packed_core.specs.Rooms.{room_at}
 use Rattle.packed_core.specs.Words.{AreWords, IsCleared, IsRow, bit, met_of}
 
 -- the bit of a test that is kept, by its place among them
@@ -33,9 +34,21 @@ pub record AreMasks (n : ℕ) (tests : List Test) (room : Room) (classes : List 
   pub codes : AreClasses (looking n tests) (map (λ c. c.code) classes)
   pub masks : All (λ c. IsMask n tests room c.code c.mask.items) classes
 
+-- the codes of these classes
+abbrev pub codes_of : List Class → List ℕ
+codes_of classes = map (λ c. c.code) classes
+
 -- the tests that are kept before a part
 abbrev pub tests_before : JobPlan → ℕ → List Test
 tests_before plan k = kept_tests plan.tests.items (drop k plan.steps)
+
+-- the classes of the step with the number of a part, where the tests before the part are kept
+abbrev pub AreMasksAt : JobPlan → ℕ → List Class → Type 0
+AreMasksAt plan k classes = AreMasks k (tests_before plan k) (room_at plan k) classes
+
+-- a class serves this step where they are kept
+abbrev pub ServesAt : JobPlan → ℕ → ℕ → ℕ → Class → Type 0
+ServesAt plan k = Serves k (tests_before plan k) (room_at plan k)
 
 -- a test looks at step n and at the next, or at neither of both
 abbrev pub LooksAlike : ℕ → Test → Type 0

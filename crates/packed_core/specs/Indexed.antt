@@ -1,5 +1,5 @@
 -- An index of rows: lists of those whose words come to one place.
-use Rattle.std.specs.Prelude.{◌≡◌, ◌<◌, ◌≤◌, ◌+◌, ◌*◌, ◌%◌, ◌^◌, ℕ, List, [], ◌∷◌, length, map, slice_index_or}
+use Rattle.std.specs.Prelude.{◌≡◌, ◌<◌, ◌≤◌, ◌+◌, ◌*◌, ◌%◌, ◌^◌, ℕ, List, [], ◌∷◌, ◌++◌, length, map, slice_index_or}
 use Rattle.packed_core.specs.declared.index.Index.{Index}
 use Rattle.packed_core.specs.declared.index.TheConstants.{FACTOR}
 
@@ -36,3 +36,7 @@ pub record IsIndexed (hashes : List ℕ) (count : ℕ) (heads next : List ℕ) :
 pub record IsIndexOf (rows : List (List ℕ)) (index : Index) : Type 0 where
   pub hashes : index.hashes.items ≡ map (hash_from 0) rows
   pub places : IsIndexed index.hashes.items (length rows) index.heads.items index.next.items
+
+-- of these and one more
+abbrev pub IsIndexOfMore : List (List ℕ) → List ℕ → Index → Type 0
+IsIndexOfMore rows row index = IsIndexOf (rows ++ row ∷ []) index

@@ -1,9 +1,10 @@
 -- What is told of rows.
-use Rattle.std.specs.Prelude.{◌≡◌, ℕ, true, Contains, List, [], ◌∷◌, Option, None, Some, map, slice_index_or}
+use Rattle.std.specs.Prelude.{◌≡◌, ℕ, Bool, true, Contains, List, [], ◌∷◌, Option, None, Some, map, slice_index_or}
 use Rattle.jcl_plan.specs.declared.outcome.Outcome.{Outcome}
 use Rattle.jcl_plan.specs.declared.plan.JobPlan.{JobPlan}
 use Rattle.jcl_meaning.specs.Views.{View}
 use Rattle.view_domain.specs.declared.crossed.Move.{Move}
+use Rattle.view_domain.specs.Crossings.{IsPut}
 use Rattle.view_core.specs.declared.scene.Scene.{Scene}
 use Rattle.view_core.specs.Moves.{AreTold, Told, told_abend, told_code}
 use Rattle.view_core.specs.PlainViews.{shown_parts}
@@ -21,6 +22,10 @@ shown_among plan date views row = row_shown plan date views.part views.scenes ro
 
 abbrev pub all_shown : JobPlan → ℕ → Views → List View
 all_shown plan date views = map (shown_among plan date views) views.rows
+
+-- a row is put among these views
+abbrev pub IsRowPut : JobPlan → ℕ → Views → List ℕ → Bool → Views → Type 0
+IsRowPut plan date old row stood new = IsPut (all_shown plan date old) (shown_among plan date old row) stood (all_shown plan date new)
 
 abbrev pub told_shown : JobPlan → ℕ → ℕ → Told → View
 told_shown plan date k t = shown_parts plan date k t.scene t.abended t.met

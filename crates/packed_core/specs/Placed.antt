@@ -1,5 +1,5 @@
 -- Where the scenes behind a part stand to which those before it lead.
-use Rattle.std.specs.Prelude.{◌≡◌, ◌⊎◌, ℕ, ◌+◌, Bool, true, false, List, ◌∷◌, Ok, Err, Option, Result, Some, drop, slice_get}
+use Rattle.std.specs.Prelude.{◌≡◌, ◌⊎◌, ℕ, ◌+◌, Bool, true, false, List, ◌∷◌, Ok, Err, Option, Result, Some, IfOk, OnOk, drop, slice_get}
 use Rattle.jcl_plan.specs.declared.outcome.Abend.TheVariants.{User}
 use Rattle.jcl_plan.specs.declared.outcome.Outcome.{Outcome}
 use Rattle.jcl_plan.specs.declared.outcome.Outcome.TheVariants as outcome
@@ -12,7 +12,7 @@ use Rattle.view_core.specs.Legs.{HasEnded, HasMade, HasStopped}
 use Rattle.packed_core.specs.declared.placed.Known.{Known}
 use Rattle.packed_core.specs.declared.placed.Placed.{Placed}
 use Rattle.packed_core.specs.declared.placed.Placed.TheVariants as placed
-use Rattle.packed_core.specs.Scenes.{HasScene}
+use Rattle.packed_core.specs.Scenes.{HasScene, HasSceneFrom}
 
 -- the number of a scene that shows the same as the one that a step leaves, or the fault that it meets
 abbrev pub StandsIn : JobPlan → ℕ → ℕ → List Scene → Result Scene Stop → Result ℕ Stop → Type 0
@@ -39,6 +39,20 @@ abbrev pub IsPlacedAt : JobPlan → Fixed → ℕ → List Scene → Scene → B
 IsPlacedAt plan fixed k behind scene abend it = (step : StepPlan) (later : List StepPlan) → drop k plan.steps ≡ step ∷ later →
     ArePlaced plan fixed k behind step scene abend it
 
+-- what a step comes to on the scene with this number before the part
+abbrev pub ArePlacedFrom : JobPlan → Fixed → ℕ → List Scene → List Scene → StepPlan → ℕ → Bool → Placed → Type 0
+ArePlacedFrom plan fixed k before behind step n abend it = (scene : Scene) → slice_get before n ≡ Some scene →
+    ArePlaced plan fixed k behind step scene abend it
+
+-- the same of the step of a part
+abbrev pub IsPlacedFrom : JobPlan → Fixed → ℕ → List Scene → List Scene → ℕ → Bool → Placed → Type 0
+IsPlacedFrom plan fixed k before behind n abend it = (scene : Scene) → slice_get before n ≡ Some scene → IsPlacedAt plan fixed k behind scene abend it
+
+-- what a step comes to is said once more
+abbrev pub IsPlacedAgain : {E : Type 0} → Placed → Result Placed E → Type 0
+IsPlacedAgain it result = (plan : JobPlan) (fixed : Fixed) (k : ℕ) (behind : List Scene) (step : StepPlan) (scene : Scene) (abend : Bool) →
+    ArePlaced plan fixed k behind step scene abend it → IfOk result (ArePlaced plan fixed k behind step scene abend)
+
 -- What is known is so: the number of a scene behind a step that does not run, and what the step comes to that runs.
 pub record AreKnown (plan : JobPlan) (fixed : Fixed) (k : ℕ) (before behind : List Scene) (known : Known) : Type 0 where
   pub idle : (n : ℕ) (scene : Scene) (number : ℕ) → slice_get before n ≡ Some scene → slice_get known.idle.items n ≡ Some (Some number) →
@@ -47,6 +61,16 @@ pub record AreKnown (plan : JobPlan) (fixed : Fixed) (k : ℕ) (before behind : 
       IsPlacedAt plan fixed k behind scene false it
   pub abended : (n : ℕ) (scene : Scene) (it : Placed) → slice_get before n ≡ Some scene → slice_get known.abended.items n ≡ Some (Some it) →
       IsPlacedAt plan fixed k behind scene true it
+
+-- What is known stays so where this is noted of a scene: its number behind a step that does not run,
+abbrev pub NotesIdle : {T E : Type 0} → ℕ → ℕ → Known → Result T E → Known → Type 0
+NotesIdle n number old result new = (plan : JobPlan) (fixed : Fixed) (k : ℕ) (before behind : List Scene) → AreKnown plan fixed k before behind old →
+    HasSceneFrom plan fixed.date (k + 1) before behind n number → OnOk result (AreKnown plan fixed k before behind new)
+
+-- or what a step comes to that runs.
+abbrev pub NotesPlaced : {T E : Type 0} → ℕ → Bool → Placed → Known → Result T E → Known → Type 0
+NotesPlaced n abend it old result new = (plan : JobPlan) (fixed : Fixed) (k : ℕ) (before behind : List Scene) → AreKnown plan fixed k before behind old →
+    IsPlacedFrom plan fixed k before behind n abend it → OnOk result (AreKnown plan fixed k before behind new)
 
 -- nothing is noted but what was
 abbrev pub HasNoMore : {X : Type 0} → List (Option X) → List (Option X) → Type 0

@@ -10,6 +10,10 @@ pub record HasScene (plan : JobPlan) (date k : ℕ) (scenes : List Scene) (scene
   pub there : slice_get scenes n ≡ Some one
   pub same : alone plan date k one ≡ alone plan date k scene
 
+-- a scene that shows the same as the one with number i before the part has number n
+abbrev pub HasSceneFrom : JobPlan → ℕ → ℕ → List Scene → List Scene → ℕ → ℕ → Type 0
+HasSceneFrom plan date k before scenes i n = (scene : Scene) → slice_get before i ≡ Some scene → HasScene plan date k scenes scene n
+
 -- a scene's number, or that none of these shows the same
 abbrev pub FindsScene : JobPlan → ℕ → ℕ → List Scene → Scene → Option ℕ → Type 0
 FindsScene plan date k scenes scene (Some n) = HasScene plan date k scenes scene n

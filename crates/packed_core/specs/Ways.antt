@@ -6,10 +6,14 @@ use Rattle.packed_core.specs.declared.classes.Class.{Class}
 use Rattle.packed_core.specs.declared.classes.Classes.{Classes}
 use Rattle.packed_core.specs.declared.ways.Looked.{Looked}
 use Rattle.packed_core.specs.declared.ways.Ways.{Ways}
-use Rattle.packed_core.specs.Classes.{AreMasks, tests_before}
+use Rattle.packed_core.specs.Classes.{AreMasks, codes_of, tests_before}
 use Rattle.packed_core.specs.Rooms.{room_at}
 use Rattle.packed_core.specs.Rows.{has_row}
 use Rattle.packed_core.specs.Words.{joined_words}
+
+-- the codes of the classes of these ways
+abbrev pub codes_by : Ways → List ℕ
+codes_by ways = codes_of ways.classes.value.list.items
 
 -- the row to which a class leads stands among these
 abbrev pub Stands : List (List ℕ) → List ℕ → Class → Type 0

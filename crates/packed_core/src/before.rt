@@ -3,7 +3,7 @@ ghost use Rattle.std.specs.Prelude.{◌≡◌, ◌<◌, ◌+◌, ◌∷◌, ℕ,
 ghost use Rattle.disp_core.specs.Courses.{fixed_by};
 ghost use Rattle.view_core.specs.declared.scene.Scene.{Scene};
 ghost use Rattle.view_core.specs.Legs.{EndsJob};
-ghost use Rattle.packed_core.specs.Classes.{AreMasks, Serves, tests_before};
+ghost use Rattle.packed_core.specs.Classes.{AreMasksAt, Serves, ServesAt, tests_before};
 ghost use Rattle.packed_core.specs.Crossing.{IsStep};
 ghost use Rattle.packed_core.specs.Rooms.{room_at};
 ghost use Rattle.packed_core.specs.Rows.{row_at};
@@ -97,8 +97,7 @@ impl<'a, J: Job> PackedViews<'a, J> {
         requires part { self.now.part < usize.MAX }
         requires step { IsStep J.plan self.now.part step.now }
         requires kept { kept.now ≡ tests_before J.plan (self.now.part + 1) }
-        ensures masks { IfSome result (λ classes. AreMasks (self.now.part + 1) (tests_before J.plan (self.now.part + 1))
-            (room_at J.plan (self.now.part + 1)) classes.now.value.list.items) }
+        ensures masks { IfSome result (λ classes. AreMasksAt J.plan (self.now.part + 1) classes.now.value.list.items) }
         ensures compared { IfSome result (λ classes. AreCompared classes.now.value) }
     {
         let Some(ways) = &self.ways else {
@@ -118,8 +117,7 @@ impl<'a, J: Job> PackedViews<'a, J> {
         requires part { self.now.part < usize.MAX }
         requires step { IsStep J.plan self.now.part step.now }
         requires kept { kept.now ≡ tests_before J.plan (self.now.part + 1) }
-        ensures serve { All (Serves (self.now.part + 1) (tests_before J.plan (self.now.part + 1)) (room_at J.plan (self.now.part + 1))
-            result.from result.count) result.list.now }
+        ensures serve { All (ServesAt J.plan (self.now.part + 1) result.from result.count) result.list.now }
     {
         let Some(ways) = &self.ways else {
             return Served::none();
@@ -143,8 +141,7 @@ impl<'a, J: Job> PackedViews<'a, J> {
     ) -> Result<Rc<Classes>, AllocError>
         requires kept { kept.now ≡ tests_before J.plan self.now.part }
         requires serve { All (Serves self.now.part kept.now (room_at J.plan self.now.part) served.from served.count) served.list.now }
-        ensures masks { IfOk result (λ classes. AreMasks self.now.part (tests_before J.plan self.now.part)
-            (room_at J.plan self.now.part) classes.value.list.items) }
+        ensures masks { IfOk result (λ classes. AreMasksAt J.plan self.now.part classes.value.list.items) }
         ensures compared { IfOk result (λ classes. AreCompared classes.value) }
     {
         let list = classes_of(alloc, self.part, kept, self.room, served)?;
@@ -169,8 +166,7 @@ impl<'a, J: Job + Drop> PackedDomain<'a, J> {
         requires part { before.now.part < usize.MAX }
         requires step { drop before.now.part J.plan.steps ≡ step.now ∷ later.now }
         requires behind { behind.now.part ≡ before.now.part + 1 }
-        ensures masks { IfOk result (λ classes. AreMasks behind.now.part (tests_before J.plan behind.now.part)
-            (room_at J.plan behind.now.part) classes.value.list.items) }
+        ensures masks { IfOk result (λ classes. AreMasksAt J.plan behind.now.part classes.value.list.items) }
         ensures compared { IfOk result (λ classes. AreCompared classes.value) }
     {
         let kept = kept_tests(alloc, self.plain.plan.tests.as_slice(), later)?;

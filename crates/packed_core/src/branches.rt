@@ -1,9 +1,9 @@
 //! Where a step that ended leads: the views that do not stand behind it yet.
-ghost use Rattle.std.specs.Prelude.{◌≡◌, ◌++◌, All, IfOk, OnOk, false, is_some, map};
-ghost use Rattle.packed_core.specs.Classes.{IsMask, tests_before};
+ghost use Rattle.std.specs.Prelude.{◌≡◌, ◌++◌, All, IfOk, OnOk, false, is_some};
+ghost use Rattle.packed_core.specs.Classes.{IsMask, codes_of, tests_before};
 ghost use Rattle.packed_core.specs.Moving.{AreMovesByAbend, AreMovesByCode, LeadsTo, TellsOneCode, listed};
 ghost use Rattle.packed_core.specs.Rooms.{room_at};
-ghost use Rattle.packed_core.specs.Ways.{AreLooked, AreOffered, AreWays, IsLookedAt, Stands};
+ghost use Rattle.packed_core.specs.Ways.{AreLooked, AreOffered, AreWays, IsLookedAt, Stands, codes_by};
 ghost use Rattle.packed_core.specs.Words.{IsRow};
 
 use crate::classes::Class;
@@ -130,7 +130,7 @@ impl<'a, J: Job + Drop> PackedDomain<'a, J> {
         requires base { IsRow (room_at J.plan behind.now.part) base.now }
         requires classes { All
             (λ c. IsMask behind.now.part (tests_before J.plan behind.now.part) (room_at J.plan behind.now.part) c.code c.mask.items) classes.now }
-        ensures { IfOk result (λ moves. AreMovesByCode (λ v. v.row.items) J.plan J.fixed.date behind.now base.now (map (λ c. c.code) classes.now) moves.items) }
+        ensures { IfOk result (λ moves. AreMovesByCode (λ v. v.row.items) J.plan J.fixed.date behind.now base.now (codes_of classes.now) moves.items) }
     {
         let mut moves = Vec::new(alloc);
         for class in classes {
@@ -155,7 +155,7 @@ impl<'a, J: Job + Drop> PackedDomain<'a, J> {
             (λ c. IsMask behind.now.part (tests_before J.plan behind.now.part) (room_at J.plan behind.now.part) c.code c.mask.items) classes.now }
         requires offered { AreOffered behind.now.rows classes.now base.now numbers.now }
         ensures moves { IfOk result (λ offer.
-            AreMovesByCode (λ v. v.row.items) J.plan J.fixed.date behind.now base.now (map (λ c. c.code) classes.now) offer.moves.items) }
+            AreMovesByCode (λ v. v.row.items) J.plan J.fixed.date behind.now base.now (codes_of classes.now) offer.moves.items) }
         ensures looked { IfOk result (λ offer. AreLooked behind.now.rows classes.now base.now offer.looked.items) }
     {
         let mut moves = Vec::new(alloc);
@@ -185,8 +185,7 @@ impl<'a, J: Job + Drop> PackedDomain<'a, J> {
         requires base { IsRow (room_at J.plan behind.now.part) base.now }
         ensures ways { OnOk result (AreWays J.plan behind.now.part behind.now.rows ways.new) }
         ensures classes { ways.new.classes ≡ ways.old.classes }
-        ensures moves { IfOk result (λ moves. AreMovesByCode (λ v. v.row.items) J.plan J.fixed.date behind.now base.now
-            (map (λ c. c.code) ways.old.classes.value.list.items) moves.items) }
+        ensures moves { IfOk result (λ moves. AreMovesByCode (λ v. v.row.items) J.plan J.fixed.date behind.now base.now (codes_by ways.old) moves.items) }
     {
         let rows = behind.standing();
         ways.settle(rows)?;
@@ -211,8 +210,7 @@ impl<'a, J: Job + Drop> PackedDomain<'a, J> {
         requires base { IsRow (room_at J.plan behind.now.part) base.now }
         ensures ways { OnOk result (AreWays J.plan behind.now.part behind.now.rows ways.new) }
         ensures classes { ways.new.classes ≡ ways.old.classes }
-        ensures moves { IfOk result (λ moves. AreMovesByCode (λ v. v.row.items) J.plan J.fixed.date behind.now base.now
-            (map (λ c. c.code) ways.old.classes.value.list.items) moves.items) }
+        ensures moves { IfOk result (λ moves. AreMovesByCode (λ v. v.row.items) J.plan J.fixed.date behind.now base.now (codes_by ways.old) moves.items) }
     {
         if ways.are_few() {
             let list = ways.classes.list.as_slice();

@@ -1,17 +1,14 @@
 //! A view led over a part.
-ghost use Rattle.std.specs.Prelude.{◌≡◌, ◌<◌, ◌≤◌, ◌+◌, ◌∷◌, [], IfOk, OnOk, Result, Some, drop, length, slice_get, slice_index_or};
+ghost use Rattle.std.specs.Prelude.{◌≡◌, ◌<◌, ◌≤◌, ◌+◌, ◌∷◌, [], IfOk, OnOk, drop, length, slice_index_or};
 ghost use Rattle.jcl_plan.specs.declared.outcome.Fate.TheVariants as fates;
-ghost use Rattle.view_domain.specs.declared.crossed.Stop.{Stop};
-ghost use Rattle.view_domain.specs.Crossings.{IsCrossed};
 ghost use Rattle.view_core.specs.declared.scene.Scene.{Scene};
 ghost use Rattle.view_core.specs.Bits.{fate_shown};
-ghost use Rattle.view_core.specs.Shows.{Shows};
-ghost use Rattle.packed_core.specs.Crossing.{HasSameBits, IsLedTo, IsPassed, IsPlaced, IsRenumbered, IsStep, LeadsByAbend, LeadsByCode, NamesScene, row_shows};
-ghost use Rattle.packed_core.specs.Moving.{all_shown, shown_among};
+ghost use Rattle.packed_core.specs.Crossing.{HasSameBits, IsPassed, IsPlaced, IsRenumbered, IsRowCrossed, IsStep, LeadsByFate, LeadsFromRow};
+ghost use Rattle.packed_core.specs.Crossing.{LeadsPlacedByAbend, LeadsPlacedByCode, LeadsRunning, row_shows};
 ghost use Rattle.packed_core.specs.Rooms.{room_at};
 ghost use Rattle.packed_core.specs.Rows.{row_at};
-ghost use Rattle.packed_core.specs.Placed.{ArePlaced};
-ghost use Rattle.packed_core.specs.Scenes.{HasScene};
+ghost use Rattle.packed_core.specs.Placed.{ArePlacedFrom};
+ghost use Rattle.packed_core.specs.Scenes.{HasSceneFrom};
 ghost use Rattle.packed_core.specs.Views.{HasMoreScenes};
 ghost use Rattle.packed_core.specs.Ways.{AreWays};
 ghost use Rattle.packed_core.specs.Words.{IsRow};
@@ -121,8 +118,7 @@ impl<'a, J: Job + Drop> PackedDomain<'a, J> {
         requires ways { AreWays J.plan behind.now.part behind.now.rows ways.old }
         requires row { IsRow (room_at J.plan behind.now.part) row.items }
         ensures ways { OnOk result (AreWays J.plan behind.now.part behind.now.rows ways.new) }
-        ensures leads { IfOk result (λ r. (left : Result Scene Stop) → IsPlaced J.plan J.fixed.date behind.now left end →
-            LeadsByCode (λ v. v.row.items) J.plan J.fixed.date behind.now row.items left r.0) }
+        ensures leads { IfOk result (λ r. LeadsPlacedByCode (λ v. v.row.items) J.plan J.fixed.date behind.now row.items end r.0) }
         ensures row { IfOk result (λ r. IsRow (room_at J.plan behind.now.part) r.1.items × HasSameBits row.items r.1.items) }
     {
         match end {
@@ -144,8 +140,7 @@ impl<'a, J: Job + Drop> PackedDomain<'a, J> {
         behind: &PackedViews<'a, J>,
     ) -> Result<Branch<PackedView<J>>, AllocError>
         requires row { IsRow (room_at J.plan behind.now.part) row.items }
-        ensures leads { IfOk result (λ told. (left : Result Scene Stop) → IsPlaced J.plan J.fixed.date behind.now left end →
-            LeadsByAbend (λ v. v.row.items) J.plan J.fixed.date behind.now row.items left told) }
+        ensures leads { IfOk result (λ told. LeadsPlacedByAbend (λ v. v.row.items) J.plan J.fixed.date behind.now row.items end told) }
     {
         match end {
             Err(stop) => Ok(Branch::Stops(stop)),
@@ -170,8 +165,7 @@ impl<'a, J: Job + Drop> PackedDomain<'a, J> {
         requires behind { behind.old.part ≡ before.now.part + 1 }
         requires number { n < length before.now.scenes }
         ensures behind { OnOk result (HasMoreScenes behind.old behind.new) }
-        ensures placed { IfOk result (λ it. (scene : Scene) → slice_get before.now.scenes n ≡ Some scene →
-            ArePlaced J.plan J.fixed before.now.part behind.new.scenes step.now scene abended it) }
+        ensures placed { IfOk result (λ it. ArePlacedFrom J.plan J.fixed before.now.part before.now.scenes behind.new.scenes step.now n abended it) }
     {
         let given = &self.plain.given;
         let scene: &Scene = before.scene(n);
@@ -210,8 +204,7 @@ impl<'a, J: Job + Drop> PackedDomain<'a, J> {
         requires number { n < length before.old.scenes }
         ensures before { OnOk result (before.new ≡ before.old) }
         ensures behind { OnOk result (HasMoreScenes behind.old behind.new) }
-        ensures placed { IfOk result (λ it. (scene : Scene) → slice_get before.old.scenes n ≡ Some scene →
-            ArePlaced J.plan J.fixed before.old.part behind.new.scenes step.now scene abended it) }
+        ensures placed { IfOk result (λ it. ArePlacedFrom J.plan J.fixed before.old.part before.old.scenes behind.new.scenes step.now n abended it) }
     {
         if let Some(known) = behind.placed_on(before, n, abended) {
             return placed_again(known);
@@ -238,8 +231,7 @@ impl<'a, J: Job + Drop> PackedDomain<'a, J> {
         requires number { n < length before.old.scenes }
         ensures before { OnOk result (before.new ≡ before.old) }
         ensures behind { OnOk result (HasMoreScenes behind.old behind.new) }
-        ensures there { IfOk result (λ number. (scene : Scene) → slice_get before.old.scenes n ≡ Some scene →
-            HasScene J.plan J.fixed.date behind.new.part behind.new.scenes scene number) }
+        ensures there { IfOk result (λ number. HasSceneFrom J.plan J.fixed.date behind.new.part before.old.scenes behind.new.scenes n number) }
     {
         if let Some(number) = behind.idle_on(before, n) {
             return Ok(number);
@@ -270,9 +262,7 @@ impl<'a, J: Job + Drop> PackedDomain<'a, J> {
         requires numbered { slice_index_or row.items 0 0 < length before.old.scenes }
         ensures before { OnOk result (before.new ≡ before.old) }
         ensures behind { OnOk result (HasMoreScenes behind.old behind.new) }
-        ensures crossed { IfOk result (λ crossed. (v : Shows) → NamesScene before.old row.items v.scene → IsPassed J.plan step.now before.old.part v row.items →
-            fate_shown (length J.plan.tests.items) step.now v ≡ fates.Run →
-            IsLedTo (λ w. w.row.items) J.plan J.fixed before.old.part v behind.new crossed) }
+        ensures crossed { IfOk result (λ crossed. LeadsRunning (λ w. w.row.items) J.plan J.fixed before.old step.now row.items behind.new crossed) }
     {
         let n = number_in(row.as_slice());
         let abended = bit_of(row.as_slice(), 0);
@@ -312,9 +302,7 @@ impl<'a, J: Job + Drop> PackedDomain<'a, J> {
         requires idle { fate ≡ fates.Run → ⊥ }
         ensures before { OnOk result (before.new ≡ before.old) }
         ensures behind { OnOk result (HasMoreScenes behind.old behind.new) }
-        ensures crossed { IfOk result (λ crossed. (step : StepPlan) → IsStep J.plan before.old.part step → (v : Shows) →
-            NamesScene before.old row.items v.scene → IsPassed J.plan step before.old.part v row.items → fate ≡ fate_shown (length J.plan.tests.items) step v →
-            IsLedTo (λ w. w.row.items) J.plan J.fixed before.old.part v behind.new crossed) }
+        ensures crossed { IfOk result (λ crossed. LeadsByFate (λ w. w.row.items) J.plan J.fixed before.old fate row.items behind.new crossed) }
     {
         let n = number_in(row.as_slice());
         let number = self.idle_placed(alloc, before, n, behind)?;
@@ -339,8 +327,7 @@ impl<'a, J: Job + Drop> PackedDomain<'a, J> {
         requires numbered { slice_index_or row.items 0 0 < length before.old.scenes }
         ensures before { OnOk result (before.new ≡ before.old) }
         ensures behind { OnOk result (HasMoreScenes behind.old behind.new) }
-        ensures crossed { IfOk result (λ crossed. (scene : Scene) → NamesScene before.old row.items scene →
-            IsLedTo (λ w. w.row.items) J.plan J.fixed before.old.part (row_shows J.plan before.old.part scene row.items) behind.new crossed) }
+        ensures crossed { IfOk result (λ crossed. LeadsFromRow (λ w. w.row.items) J.plan J.fixed before.old row.items behind.new crossed) }
     {
         let fate = self.fate_of(before, step, row.as_slice());
         let row = self.passed(before, step, row);
@@ -361,9 +348,9 @@ impl<'a, J: Job + Drop> PackedDomain<'a, J> {
         requires end { drop before.old.part J.plan.steps ≡ [] }
         requires number { number < length before.old.rows }
         ensures before { OnOk result (before.new ≡ before.old) }
-        ensures crossed { IfOk result (λ crossed. (scene : Scene) → NamesScene before.old (row_at before.old.rows number) scene →
-            IsLedTo (λ w. w.row.items) J.plan J.fixed before.old.part (row_shows J.plan before.old.part scene (row_at before.old.rows number))
-            behind.now crossed) }
+        ensures crossed { IfOk
+            result
+            (λ crossed. LeadsFromRow (λ w. w.row.items) J.plan J.fixed before.old (row_at before.old.rows number) behind.now crossed) }
     {
         let row = before.row(number);
         let n = number_in(row);
@@ -387,8 +374,7 @@ impl<'a, J: Job + Drop> PackedDomain<'a, J> {
         requires number { number < length before.old.rows }
         ensures before { OnOk result (before.new ≡ before.old) }
         ensures behind { OnOk result (HasMoreScenes behind.old behind.new) }
-        ensures crossed { IfOk result (IsCrossed (λ w. shown_among J.plan J.fixed.date behind.new w.row.items) J.plan J.fixed before.old.part
-            (all_shown J.plan J.fixed.date behind.new) (shown_among J.plan J.fixed.date before.old (row_at before.old.rows number))) }
+        ensures crossed { IfOk result (IsRowCrossed (λ w. w.row.items) J.plan J.fixed before.old (row_at before.old.rows number) behind.new) }
     {
         let left = drop_first(self.plain.plan.steps.as_slice(), before.part);
         match left.split_first() {

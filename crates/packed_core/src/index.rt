@@ -1,6 +1,6 @@
 //! An index of rows, by which one of many is found.
-ghost use Rattle.std.specs.Prelude.{◌≡◌, ◌<◌, ◌++◌, ◌∷◌, [], ℕ, List, IfOk, IfSome, OnOk, length};
-ghost use Rattle.packed_core.specs.Indexed.{IsIndexOf, hash_from};
+ghost use Rattle.std.specs.Prelude.{◌≡◌, ◌<◌, [], ℕ, List, IfOk, IfSome, OnOk, length};
+ghost use Rattle.packed_core.specs.Indexed.{IsIndexOf, IsIndexOfMore, hash_from};
 ghost use Rattle.packed_core.specs.Rows.{IsFound, row_at, same_words};
 ghost use Rattle.packed_core.specs.Words.{joined_words};
 
@@ -96,7 +96,7 @@ impl Index {
         requires some { 0 < length self.old.heads.items }
         ensures some { 0 < length self.new.heads.items }
         ensures linked { (rows : List (List ℕ)) (row : List ℕ) → IsIndexOf rows self.old → hash ≡ hash_from 0 row →
-            OnOk result (IsIndexOf (rows ++ row ∷ []) self.new) }
+            OnOk result (IsIndexOfMore rows row self.new) }
     {
         let place = hash as usize % self.heads.len();
         self.hashes.push(hash)?;
@@ -175,7 +175,7 @@ pub(crate) fn index_more(
     hash: u64,
 ) -> Result<Option<Box<Index>>, AllocError>
     requires indexed { IfSome index (λ x. IsIndexOf rows.now x.value) }
-    ensures { (row : List ℕ) → hash ≡ hash_from 0 row → IfOk result (λ more. IfSome more (λ x. IsIndexOf (rows.now ++ row ∷ []) x.value)) }
+    ensures { (row : List ℕ) → hash ≡ hash_from 0 row → IfOk result (λ more. IfSome more (λ x. IsIndexOfMore rows.now row x.value)) }
 {
     if rows.len() < FEW {
         return Ok(None);

@@ -1,10 +1,8 @@
 //! The packed domain meets what a search asks of a way to keep views.
 ghost use Rattle.std.specs.Prelude.{◌≡◌, ◌∷◌, [], IfOk, OnOk, false};
-ghost use Rattle.jcl_meaning.specs.Solo.{at_start, given};
 ghost use Rattle.jcl_meaning.specs.Stores.{store_of};
-ghost use Rattle.jcl_meaning.specs.Views.{view_at};
-ghost use Rattle.view_domain.specs.Crossings.{IsPut};
-ghost use Rattle.packed_core.specs.Moving.{all_shown, shown_among};
+ghost use Rattle.view_domain.specs.Crossings.{view_at_start};
+ghost use Rattle.packed_core.specs.Moving.{IsRowPut, all_shown};
 ghost use Rattle.packed_core.specs.Rooms.{room_at};
 ghost use Rattle.packed_core.specs.Starting.{IsBlank};
 
@@ -56,8 +54,7 @@ impl<'a, J: Job + Drop> PackedDomain<'a, J> {
         views: &mut PackedViews<'a, J>,
         view: PackedView<J>,
     ) -> Result<bool, AllocError>
-        ensures put { IfOk result (λ stood. IsPut (all_shown J.plan J.fixed.date views.old) (shown_among J.plan J.fixed.date views.old view.row.items) stood
-            (all_shown J.plan J.fixed.date views.new)) }
+        ensures put { IfOk result (λ stood. IsRowPut J.plan J.fixed.date views.old view.row.items stood views.new) }
         ensures scenes { OnOk result (views.new.scenes ≡ views.old.scenes) }
         ensures part { OnOk result (views.new.part ≡ views.old.part) }
     {
@@ -77,8 +74,9 @@ impl<'a, J: Job + Drop> PackedDomain<'a, J> {
 
     /// The view before the first step.
     fn first(&self, alloc: Global) -> Result<PackedViews<'a, J>, AllocError>
-        ensures first { IfOk result (λ views. all_shown J.plan J.fixed.date views ≡
-            view_at J.plan 0 J.fixed.date (at_start (store_of self.now.plain.store.now) (given [])) ∷ []) }
+        ensures first { IfOk
+            result
+            (λ views. all_shown J.plan J.fixed.date views ≡ view_at_start J.plan J.fixed.date (store_of self.now.plain.store.now) ∷ []) }
         ensures part { IfOk result (λ views. views.part ≡ 0) }
     {
         let mut views = self.none_before(alloc, 0);

@@ -1,8 +1,7 @@
 //! What is known of the scenes in front of views.
-ghost use Rattle.std.specs.Prelude.{◌≡◌, ◌+◌, IfSome, Some, slice_get};
-ghost use Rattle.view_core.specs.declared.scene.Scene.{Scene};
-ghost use Rattle.packed_core.specs.Placed.{AreKnown, IsPlacedAt};
-ghost use Rattle.packed_core.specs.Scenes.{HasScene};
+ghost use Rattle.std.specs.Prelude.{◌≡◌, ◌+◌, IfSome};
+ghost use Rattle.packed_core.specs.Placed.{AreKnown, IsPlacedFrom};
+ghost use Rattle.packed_core.specs.Scenes.{HasSceneFrom};
 ghost use Rattle.packed_core.specs.Sights.{AreSeals};
 
 use crate::job::Job;
@@ -35,8 +34,7 @@ impl<'a, J: Job> PackedViews<'a, J> {
     /// The number of a scene in front, where that is known.
     pub(crate) fn idle_on(&self, before: &PackedViews<'a, J>, n: usize) -> Option<usize>
         requires behind { self.now.part ≡ before.now.part + 1 }
-        ensures { IfSome result (λ number. (scene : Scene) → slice_get before.now.scenes n ≡ Some scene →
-            HasScene J.plan J.fixed.date self.now.part self.now.scenes scene number) }
+        ensures { IfSome result (λ number. HasSceneFrom J.plan J.fixed.date self.now.part before.now.scenes self.now.scenes n number) }
     {
         let Some(sight) = &before.sight else {
             return None;
@@ -56,8 +54,7 @@ impl<'a, J: Job> PackedViews<'a, J> {
         abended: bool,
     ) -> Option<&Placed>
         requires behind { self.now.part ≡ before.now.part + 1 }
-        ensures { IfSome result (λ it. (scene : Scene) → slice_get before.now.scenes n ≡ Some scene →
-            IsPlacedAt J.plan J.fixed before.now.part self.now.scenes scene abended it.now) }
+        ensures { IfSome result (λ it. IsPlacedFrom J.plan J.fixed before.now.part before.now.scenes self.now.scenes n abended it.now) }
     {
         let Some(sight) = &before.sight else {
             return None;
@@ -106,8 +103,7 @@ impl<'a, J: Job> PackedViews<'a, J> {
         number: usize,
     ) -> Result<(), AllocError>
         requires behind { self.old.part ≡ before.now.part + 1 }
-        requires so { (scene : Scene) → slice_get before.now.scenes n ≡ Some scene →
-            HasScene J.plan J.fixed.date self.old.part self.old.scenes scene number }
+        requires so { HasSceneFrom J.plan J.fixed.date self.old.part before.now.scenes self.old.scenes n number }
         ensures same { self.new ≡ self.old }
     {
         let Some(sight) = &before.sight else {
@@ -129,8 +125,7 @@ impl<'a, J: Job> PackedViews<'a, J> {
         placed: Placed,
     ) -> Result<(), AllocError>
         requires behind { self.old.part ≡ before.now.part + 1 }
-        requires so { (scene : Scene) → slice_get before.now.scenes n ≡ Some scene →
-            IsPlacedAt J.plan J.fixed before.now.part self.old.scenes scene abended placed }
+        requires so { IsPlacedFrom J.plan J.fixed before.now.part before.now.scenes self.old.scenes n abended placed }
         ensures same { self.new ≡ self.old }
     {
         let Some(sight) = &before.sight else {

@@ -1,11 +1,9 @@
 //! Where the scenes behind a part stand to which those before it lead: found once for each.
-ghost use Rattle.std.specs.Prelude.{◌≡◌, ◌+◌, ℕ, Bool, false, true, List, IfOk, IfSome, OnOk, Some, slice_get};
+ghost use Rattle.std.specs.Prelude.{◌≡◌, ℕ, false, true, List, IfSome, OnOk, Some, slice_get};
 ghost use Rattle.jcl_plan.specs.declared.plan.JobPlan.{JobPlan};
-ghost use Rattle.jcl_plan.specs.declared.plan.StepPlan.{StepPlan};
 ghost use Rattle.jcl_meaning.specs.States.{Fixed};
 ghost use Rattle.view_core.specs.declared.scene.Scene.{Scene};
-ghost use Rattle.packed_core.specs.Placed.{AreKnown, ArePlaced, HasNoMore, HasPut, IsPlacedAt};
-ghost use Rattle.packed_core.specs.Scenes.{HasScene};
+ghost use Rattle.packed_core.specs.Placed.{AreKnown, HasNoMore, HasPut, IsPlacedAgain, NotesIdle, NotesPlaced};
 
 use jcl_meaning::state::Place;
 use plain::shared::Shared;
@@ -36,8 +34,7 @@ pub struct Known {
 
 /// The same once more.
 pub(crate) fn placed_again(placed: &Placed) -> Result<Placed, AllocError>
-    ensures { (plan : JobPlan) (fixed : Fixed) (k : ℕ) (behind : List Scene) (step : StepPlan) (scene : Scene) (abend : Bool) →
-        ArePlaced plan fixed k behind step scene abend placed.now → IfOk result (ArePlaced plan fixed k behind step scene abend) }
+    ensures { IsPlacedAgain placed.now result }
 {
     match placed {
         Placed::Refused(stop) => Ok(Placed::Refused(*stop)),
@@ -131,26 +128,20 @@ impl Known {
 
     /// Notes a number.
     pub(crate) fn put_idle(&mut self, n: usize, number: usize) -> Result<(), AllocError>
-        ensures { (plan : JobPlan) (fixed : Fixed) (k : ℕ) (before behind : List Scene) → AreKnown plan fixed k before behind self.old →
-            ((scene : Scene) → slice_get before n ≡ Some scene → HasScene plan fixed.date (k + 1) behind scene number) →
-            OnOk result (AreKnown plan fixed k before behind self.new) }
+        ensures { NotesIdle n number self.old result self.new }
     {
         put_at(&mut self.idle, n, number)
     }
 
     /// Notes what a step comes to while no ABEND came, and after one.
     fn put_calm(&mut self, n: usize, placed: Placed) -> Result<(), AllocError>
-        ensures { (plan : JobPlan) (fixed : Fixed) (k : ℕ) (before behind : List Scene) → AreKnown plan fixed k before behind self.old →
-            ((scene : Scene) → slice_get before n ≡ Some scene → IsPlacedAt plan fixed k behind scene false placed) →
-            OnOk result (AreKnown plan fixed k before behind self.new) }
+        ensures { NotesPlaced n false placed self.old result self.new }
     {
         put_at(&mut self.calm, n, placed)
     }
 
     fn put_abended(&mut self, n: usize, placed: Placed) -> Result<(), AllocError>
-        ensures { (plan : JobPlan) (fixed : Fixed) (k : ℕ) (before behind : List Scene) → AreKnown plan fixed k before behind self.old →
-            ((scene : Scene) → slice_get before n ≡ Some scene → IsPlacedAt plan fixed k behind scene true placed) →
-            OnOk result (AreKnown plan fixed k before behind self.new) }
+        ensures { NotesPlaced n true placed self.old result self.new }
     {
         put_at(&mut self.abended, n, placed)
     }
@@ -161,9 +152,7 @@ impl Known {
         abended: bool,
         placed: Placed,
     ) -> Result<(), AllocError>
-        ensures { (plan : JobPlan) (fixed : Fixed) (k : ℕ) (before behind : List Scene) → AreKnown plan fixed k before behind self.old →
-            ((scene : Scene) → slice_get before n ≡ Some scene → IsPlacedAt plan fixed k behind scene abended placed) →
-            OnOk result (AreKnown plan fixed k before behind self.new) }
+        ensures { NotesPlaced n abended placed self.old result self.new }
     {
         match abended {
             true => self.put_abended(n, placed),

@@ -1,9 +1,7 @@
 //! Checking a path that is told with a fault.
 ghost use Rattle.std.specs.Prelude.{◌≡◌, ◌↔◌, Any, IfOk, IsTrue};
-ghost use Rattle.jcl_meaning.specs.Stores.{store_of};
-ghost use Rattle.path_meaning.specs.Certificates.{TakesPath};
 ghost use Rattle.path_core.specs.MarksMet.{IsMetBy};
-ghost use Rattle.path_core.specs.Starts.{fixed_from};
+ghost use Rattle.path_core.specs.Reports.{TakesReport};
 
 use crate::fates::{are_of_fates, fates_in};
 use crate::marks::{Spot, mark_at, marks_of};
@@ -50,8 +48,7 @@ pub fn check_path(
     start: &StartView,
     report: &RiskReport,
 ) -> Result<bool, AllocError>
-    ensures { IfOk result (λ yes. IsTrue yes ↔ TakesPath (fixed_from start.now plan.now) plan.now (store_of start.now.store)
-        report.now.fault report.now.step report.now.dd report.now.path.items) }
+    ensures { IfOk result (λ yes. IsTrue yes ↔ TakesReport start.now plan.now report.now) }
 {
     let path = report.path.as_slice();
     let ran = path_run(alloc, plan, &start.store, &start.places, path, start.date)?;

@@ -48,6 +48,13 @@ pub record IsCrossing {V : Type 0} (meaning : V → View) (plan : JobPlan) (fixe
   pub put : ArePut limit old.views old.links (told_of meaning number crossed) new.views new.links
   pub made : AreMarked (made_of crossed) old.made new.made
 
+-- a domain's view with this number is led over part k, and comes to something there
+abbrev pub IsLedOver : {S X V : Type 0} → (S → X → List View) → (S → X → V → View) → (S → JobPlan) → (S → Fixed) → S → ℕ → ℕ → ℕ → X → Behind X → Behind X →
+    Type 0
+IsLedOver {S} {X} {V} members meaning plan fixed domain k limit number before old new = (crossed : Crossed V)
+    × IsCrossing (meaning domain new.views) (plan domain) (fixed domain) k limit number (members domain before) crossed
+    (known_of (members domain) old) (known_of (members domain) new)
+
 -- outcomes along which a view is seen behind the first k steps, with no fault
 pub record IsAlong (fixed : Fixed) (plan : JobPlan) (store : Store) (k : ℕ) (view : View) (outcomes : List Outcome) : Type 0 where
   pub within : All IsStepOutcome outcomes
@@ -111,3 +118,8 @@ pub record IsAcross (fixed : Fixed) (plan : JobPlan) (store : Store) (k limit : 
   pub made : (dd : ℕ) (serial : List ℕ) → IsMarked known.made dd serial →
       Makes fixed plan store (record { step = k + 1; dd = dd + 1; serial = serial })
   pub rows : HasRows plan k known.made
+
+-- so many of a domain's views were led over part k
+abbrev pub AreLedOver : {S X : Type 0} → (S → X → List View) → (S → Fixed) → (S → JobPlan) → (S → Store) → S → ℕ → ℕ → X → ℕ → Behind X → Type 0
+AreLedOver members fixed plan store domain k limit before count behind =
+    IsAcross (fixed domain) (plan domain) (store domain) k limit (members domain before) count (known_of (members domain) behind)

@@ -17,6 +17,11 @@ pub data IsPutIn (limit : ℕ) (views : List View) (links : List Link) (view : V
   Stood : Contains views view → IsPutIn limit views links view link views links
   New : (Contains views view → ⊥) → IsPutIn limit views links view link (views ++ view ∷ []) (links ++ link ∷ [])
 
+-- a domain's view is put among its views
+abbrev pub IsViewPut : {X V : Type 0} → (X → List View) → (X → V → View) → ℕ → X → List Link → V → Link → X → List Link → Type 0
+IsViewPut members meaning limit views links view link views_after links_after =
+    IsPutIn limit (members views) links (meaning views view) link (members views_after) links_after
+
 -- a view that is told, and its link
 pub record Told : Type 0 where
   pub view : View
@@ -43,3 +48,18 @@ told_of meaning parent (crossed.Stops stop) = []
 told_of meaning parent crossed.Ends = []
 told_of meaning parent (crossed.Passes fate view) = told_as meaning parent (shown_of fate (outcome.Code 0)) view ∷ []
 told_of meaning parent (crossed.Runs made by_code by_abend) = told_branch meaning parent by_code ++ told_branch meaning parent by_abend
+
+-- Views that are told are put among a domain's views: those of moves,
+abbrev pub AreMovesPut : {X V : Type 0} → (X → List View) → (X → V → View) → ℕ → X → List Link → ℕ → List (Move V) → X → List Link → Type 0
+AreMovesPut members meaning limit views links parent moves views_after links_after =
+    ArePut limit (members views) links (told_moves (meaning views) parent moves) (members views_after) links_after
+
+-- those of a step's end,
+abbrev pub IsBranchPut : {X V : Type 0} → (X → List View) → (X → V → View) → ℕ → X → List Link → ℕ → Branch V → X → List Link → Type 0
+IsBranchPut members meaning limit views links parent branch views_after links_after =
+    ArePut limit (members views) links (told_branch (meaning views) parent branch) (members views_after) links_after
+
+-- and those of what a part comes to.
+abbrev pub IsCrossedPut : {X V : Type 0} → (X → List View) → (X → V → View) → ℕ → X → List Link → ℕ → Crossed V → X → List Link → Type 0
+IsCrossedPut members meaning limit views links parent crossed views_after links_after =
+    ArePut limit (members views) links (told_of (meaning views) parent crossed) (members views_after) links_after

@@ -7,9 +7,8 @@ ghost use Rattle.jcl_meaning.specs.Solo.{nothing_own};
 ghost use Rattle.jcl_meaning.specs.Views.{IsViewAfter};
 ghost use Rattle.part_laws.specs.Fits.{Fits};
 ghost use Rattle.path_meaning.specs.Paths.{shown_code, shown_of};
-ghost use Rattle.view_domain.specs.declared.crossed.Crossed.{Crossed};
-ghost use Rattle.path_search.specs.Puts.{ArePut, IsPutIn, told_branch, told_moves, told_of};
-ghost use Rattle.path_search.specs.Crossings.{AreStopsNoted, HasRows, IsAcross, IsCrossing, IsNothing, known_of};
+ghost use Rattle.path_search.specs.Puts.{AreMovesPut, IsBranchPut, IsCrossedPut, IsViewPut};
+ghost use Rattle.path_search.specs.Crossings.{AreLedOver, AreStopsNoted, HasRows, IsLedOver, IsNothing, known_of};
 
 use crate::behind::Behind;
 use crate::laws::path_laws;
@@ -33,9 +32,7 @@ fn put<D: ViewDomain>(
     limit: usize,
 ) -> Result<(), AllocError>
     requires counted { length links.old ≡ length (D.members domain.now views.old) }
-    ensures put { OnOk
-        result
-        (IsPutIn limit (D.members domain.now views.old) links.old (D.meaning domain.now views.old view) link (D.members domain.now views.new) links.new) }
+    ensures put { OnOk result (IsViewPut (D.members domain.now) (D.meaning domain.now) limit views.old links.old view link views.new links.new) }
     ensures meaning { OnOk result (D.meaning domain.now views.new ≡ D.meaning domain.now views.old) }
     ensures stands { OnOk result (D.stands domain.now views.new ≡ D.stands domain.now views.old) }
 {
@@ -83,8 +80,7 @@ fn put_moves<D: ViewDomain>(
     requires counted { length links.old ≡ length (D.members domain.now views.old) }
     ensures put { OnOk
         result
-        (ArePut limit (D.members domain.now views.old) links.old (told_moves (D.meaning domain.now views.old) parent moves.items)
-        (D.members domain.now views.new) links.new) }
+        (AreMovesPut (D.members domain.now) (D.meaning domain.now) limit views.old links.old parent moves.items views.new links.new) }
     ensures meaning { OnOk result (D.meaning domain.now views.new ≡ D.meaning domain.now views.old) }
     ensures stands { OnOk result (D.stands domain.now views.new ≡ D.stands domain.now views.old) }
 {
@@ -110,10 +106,7 @@ fn put_branch<D: ViewDomain>(
     limit: usize,
 ) -> Result<(), AllocError>
     requires counted { length links.old ≡ length (D.members domain.now views.old) }
-    ensures put { OnOk
-        result
-        (ArePut limit (D.members domain.now views.old) links.old (told_branch (D.meaning domain.now views.old) parent branch)
-        (D.members domain.now views.new) links.new) }
+    ensures put { OnOk result (IsBranchPut (D.members domain.now) (D.meaning domain.now) limit views.old links.old parent branch views.new links.new) }
     ensures meaning { OnOk result (D.meaning domain.now views.new ≡ D.meaning domain.now views.old) }
     ensures stands { OnOk result (D.stands domain.now views.new ≡ D.stands domain.now views.old) }
 {
@@ -134,10 +127,7 @@ fn put_crossed<D: ViewDomain>(
     limit: usize,
 ) -> Result<(), AllocError>
     requires counted { length links.old ≡ length (D.members domain.now views.old) }
-    ensures put { OnOk
-        result
-        (ArePut limit (D.members domain.now views.old) links.old (told_of (D.meaning domain.now views.old) parent crossed)
-        (D.members domain.now views.new) links.new) }
+    ensures put { OnOk result (IsCrossedPut (D.members domain.now) (D.meaning domain.now) limit views.old links.old parent crossed views.new links.new) }
     ensures meaning { OnOk result (D.meaning domain.now views.new ≡ D.meaning domain.now views.old) }
     ensures stands { OnOk result (D.stands domain.now views.new ≡ D.stands domain.now views.old) }
 {
@@ -185,9 +175,7 @@ fn cross<D: ViewDomain>(
     ensures stands { OnOk result ((D.stands domain.now before.new ≡ part) × (D.stands domain.now behind.new.views ≡ part + 1)) }
     ensures crossed { OnOk
         result
-        ((crossed : Crossed D.View) ×
-        IsCrossing (D.meaning domain.now behind.new.views) (D.plan domain.now) (D.fixed domain.now) part limit number (D.members domain.now before.old)
-        crossed (known_of (D.members domain.now) behind.old) (known_of (D.members domain.now) behind.new)) }
+        (IsLedOver D.members D.meaning D.plan D.fixed domain.now part limit number before.old behind.old behind.new) }
 {
     path_laws();
     let crossed = domain.transfer(alloc, part, before, number, &mut behind.views)?;
@@ -223,10 +211,7 @@ pub(crate) fn cross_all<D: ViewDomain>(
     requires seen { All (IsViewAfter (D.fixed domain.now) (D.plan domain.now) (D.store domain.now) part) (D.members domain.now before.old) }
     requires begins { IsNothing (D.plan domain.now) part (known_of (D.members domain.now) behind.old) }
     ensures stands { OnOk result (D.stands domain.now behind.new.views ≡ part + 1) }
-    ensures across { OnOk
-        result
-        (IsAcross (D.fixed domain.now) (D.plan domain.now) (D.store domain.now) part limit (D.members domain.now before.old) count
-        (known_of (D.members domain.now) behind.new)) }
+    ensures across { OnOk result (AreLedOver D.members D.fixed D.plan D.store domain.now part limit before.old count behind.new) }
 {
     path_laws();
     for number in 0..count {

@@ -71,6 +71,10 @@ shown_alike names date key x y = not (sees_key names key) || same_shown (shown_s
 abbrev pub set_alike : List HeldName → ℕ → SoloStore → SoloStore → Key → List ℕ → Bool
 set_alike names date a b key serial = shown_alike names date key (set_in a.sets key serial) (set_in b.sets key serial)
 
+-- the sets of two places, each shown alike in both stores
+abbrev pub both_sets_alike : List HeldName → ℕ → SoloStore → SoloStore → SetPlace → SetPlace → Bool
+both_sets_alike names date a b p q = set_alike names date a b p.key p.serial && set_alike names date a b q.key q.serial
+
 abbrev pub same_place : SetPlace → SetPlace → Bool
 same_place p q = same_key p.key q.key && bytes_eq p.serial q.serial
 

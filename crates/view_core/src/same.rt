@@ -8,7 +8,8 @@ ghost use Rattle.std.specs.Str.{bytes_eq};
 ghost use Rattle.jcl_meaning.specs.Stores.{entry_in, set_in};
 ghost use Rattle.seen_store.specs.Listing.{entries_of, sets_of};
 ghost use Rattle.jcl_meaning.specs.Views.{shown_set};
-ghost use Rattle.view_core.specs.Same.{all_same_passed, entries_alike, entry_alike, same_generation, same_group, same_passed, same_place, same_seen, set_alike};
+ghost use Rattle.view_core.specs.Same.{all_same_passed, both_sets_alike, entries_alike, entry_alike, same_generation, same_group, same_passed, same_place};
+ghost use Rattle.view_core.specs.Same.{same_seen, set_alike};
 ghost use Rattle.view_core.specs.Same.{sets_alike, shown_alike};
 ghost use Rattle.view_core.specs.Same.{same_bits, same_by_step, same_for_dds, same_for_kind, same_met, same_scene, same_shown, same_view, same_volume};
 ghost use Rattle.view_core.specs.Same.{same_volumes};
@@ -114,8 +115,7 @@ fn two_sets_alike(
 ) -> bool
     requires first { set_in a.now.sets x.0.now.key x.0.now.serial ≡ Some x.1.now }
     requires other { set_in b.now.sets y.0.now.key y.0.now.serial ≡ Some y.1.now }
-    ensures { let p = x.entry.0.now in let q = y.entry.0.now in
-        result ≡ (set_alike names.now date a.now b.now p.key p.serial && set_alike names.now date a.now b.now q.key q.serial) }
+    ensures { result ≡ both_sets_alike names.now date a.now b.now x.entry.0.now y.entry.0.now }
 {
     if same_place(x.0, y.0) {
         shown_alike(names, date, &x.0.key, Some(x.1), Some(y.1))

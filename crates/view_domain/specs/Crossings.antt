@@ -10,9 +10,10 @@ use Rattle.jcl_plan.specs.declared.plan.JobPlan.{JobPlan}
 use Rattle.jcl_meaning.specs.Agendas.{Action}
 use Rattle.jcl_meaning.specs.History.{IsStepOutcome}
 use Rattle.jcl_meaning.specs.Names.{names_of}
-use Rattle.jcl_meaning.specs.Solo.{Met, Ran, run}
+use Rattle.jcl_meaning.specs.Solo.{Met, Ran, at_start, given, run}
 use Rattle.jcl_meaning.specs.States.{Fixed, State}
-use Rattle.jcl_meaning.specs.Views.{View, view_at}
+use Rattle.jcl_meaning.specs.Stores.{Store}
+use Rattle.jcl_meaning.specs.Views.{IsViewAfter, View, view_at}
 use Rattle.part_laws.specs.Fits.{Fits}
 use Rattle.path_meaning.specs.Paths.{fates_in, fault_place}
 use Rattle.path_laws.specs.PathParts.{IsBefore, next_outcome, path_part}
@@ -22,6 +23,14 @@ use Rattle.view_domain.specs.declared.crossed.Crossed.{Crossed}
 use Rattle.view_domain.specs.declared.crossed.Crossed.TheVariants as crossed
 use Rattle.view_domain.specs.declared.crossed.Move.{Move}
 use Rattle.view_domain.specs.declared.crossed.Stop.{Stop}
+
+-- the view before the first step
+abbrev pub view_at_start : JobPlan → ℕ → Store → View
+view_at_start plan date store = view_at plan 0 date (at_start store (given []))
+
+-- the view with this number is one that the job may have before part k
+abbrev pub IsViewBefore : Fixed → JobPlan → Store → ℕ → List View → ℕ → Type 0
+IsViewBefore fixed plan store k views number = (view : View) → slice_get views number ≡ Some view → IsViewAfter fixed plan store k view
 
 -- A stop is the first of the faults that were met, and stands where its action stands in the part.
 pub record IsStop (plan : JobPlan) (k : ℕ) (stop : Stop) (faults : List Met) : Type 0 where
@@ -96,6 +105,11 @@ IsFounded meaning plan fixed k view (crossed.Runs made by_code by_abend) =
 pub record IsCrossed {V : Type 0} (meaning : V → View) (plan : JobPlan) (fixed : Fixed) (k : ℕ) (there : List View) (view : View) (crossed : Crossed V) : Type 0 where
   pub covered : IsCovered meaning plan fixed k there view crossed
   pub founded : IsFounded meaning plan fixed k view crossed
+
+-- The same from the view with this number, in a domain with these members and this meaning.
+abbrev pub IsCrossedFrom : {X V : Type 0} → (X → List View) → (X → V → View) → JobPlan → Fixed → ℕ → X → ℕ → X → Crossed V → Type 0
+IsCrossedFrom members meaning plan fixed k before number behind crossed = (view : View) → slice_get (members before) number ≡ Some view →
+    IsCrossed (meaning behind) plan fixed k (members behind) view crossed
 
 -- A view is put into a list of views, each once: whether it stood there.
 pub data IsPut (old : List View) (view : View) : Bool → List View → Type 0 where

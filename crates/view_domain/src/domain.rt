@@ -1,11 +1,10 @@
 //! A way to keep views.
-ghost use Rattle.std.specs.Prelude.{◌≡◌, ◌<◌, ◌≤◌, ◌+◌, ℕ, List, [], ◌∷◌, length, slice_get, Some, IfOk, OnOk};
+ghost use Rattle.std.specs.Prelude.{◌≡◌, ◌<◌, ◌≤◌, ◌+◌, ℕ, List, [], ◌∷◌, length, IfOk, OnOk};
 ghost use Rattle.jcl_plan.specs.declared.plan.JobPlan.{JobPlan};
-ghost use Rattle.jcl_meaning.specs.Solo.{at_start, given};
 ghost use Rattle.jcl_meaning.specs.States.{Fixed};
 ghost use Rattle.jcl_meaning.specs.Stores.{Store};
-ghost use Rattle.jcl_meaning.specs.Views.{IsViewAfter, View, view_at};
-ghost use Rattle.view_domain.specs.Crossings.{IsCrossed, IsPut};
+ghost use Rattle.jcl_meaning.specs.Views.{View};
+ghost use Rattle.view_domain.specs.Crossings.{IsCrossedFrom, IsPut, IsViewBefore, view_at_start};
 
 use crate::crossed::Crossed;
 use std::alloc::{AllocError, Global};
@@ -38,7 +37,7 @@ pub trait ViewDomain {
 
     /// The view before the first step.
     fn start(&self, alloc: Global) -> Result<Self::Views, AllocError>
-        ensures first { IfOk result (λ views. members self.now views ≡ view_at (plan self.now) 0 (fixed self.now).date (at_start (store self.now) (given [])) ∷ []) }
+        ensures first { IfOk result (λ views. members self.now views ≡ view_at_start (plan self.now) (fixed self.now).date (store self.now) ∷ []) }
         ensures part { IfOk result (λ views. stands self.now views ≡ 0) };
 
     /// No view yet, before a part.
@@ -59,13 +58,12 @@ pub trait ViewDomain {
         requires stands_before { stands self.now before.old ≡ part }
         requires stands_behind { stands self.now behind.old ≡ part + 1 }
         requires number { number < length (members self.now before.old) }
-        requires met { (view : View) → slice_get (members self.now before.old) number ≡ Some view → IsViewAfter (fixed self.now) (plan self.now) (store self.now) part view }
+        requires met { IsViewBefore (fixed self.now) (plan self.now) (store self.now) part (members self.now before.old) number }
         ensures before { OnOk result ((members self.now before.new ≡ members self.now before.old) × (stands self.now before.new ≡ stands self.now before.old)) }
         ensures behind { OnOk result ((members self.now behind.new ≡ members self.now behind.old) × (stands self.now behind.new ≡ stands self.now behind.old)) }
         ensures crossed { IfOk
             result
-            (λ crossed. (view : View) → slice_get (members self.now before.old) number ≡ Some view →
-            IsCrossed (meaning self.now behind.new) (plan self.now) (fixed self.now) part (members self.now behind.new) view crossed) };
+            (IsCrossedFrom (members self.now) (meaning self.now) (plan self.now) (fixed self.now) part before.old number behind.new) };
 
     /// Puts a view among those behind a part, and says whether it stood there.
     fn merge(
