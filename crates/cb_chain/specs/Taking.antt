@@ -3,13 +3,14 @@ use Rattle.std.specs.Prelude.{◌≡◌, ◌≢◌, ℕ, ◌+◌, ◌/◌, ◌�
 use Rattle.std.specs.List.{list_any}
 use Rattle.jcl_plan.specs.declared.plan.DdKind.{DdKind}
 use Rattle.jcl_plan.specs.declared.plan.DdPlan.{DdPlan}
+use Rattle.jcl_plan.specs.declared.plan.JobPlan.{JobPlan}
 use Rattle.jcl_plan.specs.declared.plan.StepPlan.{StepPlan}
 use Rattle.cb_meaning.specs.declared.layout.Layout.{Layout}
 use Rattle.cb_meaning.specs.Needs.{records_below, records_of_step}
 use Rattle.cb_meaning.specs.Spelled.{Below, CardChain, DdChain, Records, StepChain}
 use Rattle.cb_queue.specs.RecordQueues.{RecordQueue, bytes_or_zeros, record_at, zero_record}
 use Rattle.std.specs.Prelude.{All}
-use Rattle.cb_chain.specs.Written.{HoldsJobs, IsFresh}
+use Rattle.cb_chain.specs.Written.{HoldsJobs, IsFresh, Written}
 use Rattle.plain.specs.Lists.{are_different}
 
 abbrev pub is_among : ℕ → List ℕ → Bool
@@ -58,6 +59,11 @@ pub record TakesIf (job : ℕ) (more : Bool) (old new : RecordQueue) (n : ℕ) :
   pub took : Took (held more n) old new
   pub is_held : IsHeld job new more n
   pub most : n ≤ old.layout.most_records
+
+-- A job is written, whose first record was taken before: as from whichever queue that was taken of.
+abbrev pub IsWrittenFrom : ℕ → JobPlan → RecordQueue → RecordQueue → ℕ → Type 0
+IsWrittenFrom job plan old new first =
+    (before : RecordQueue) → IsReady before → TakesIf job true before old first → Written job plan before new first
 
 -- records seen later have these as they are now, and in use
 pub record IsKept (q : RecordQueue) (later : Records) (n : ℕ) : Type 0 where

@@ -2,8 +2,8 @@
 ghost use Rattle.std.specs.Prelude.{◌≡◌, ◌≢◌, ◌+◌, ◌≤◌, ◌↔◌, IfErr, IfOk, IsOk, OnErr, Some, length, true, ℕ};
 ghost use Rattle.cb_meaning.specs.Needs.{records_needed};
 ghost use Rattle.cb_meaning.specs.Writable.{IsWritable};
-ghost use Rattle.cb_queue.specs.RecordQueues.{RecordQueue, next_free, taken};
-ghost use Rattle.cb_chain.specs.Taking.{IsReady, IsTaken, TakesIf};
+ghost use Rattle.cb_queue.specs.RecordQueues.{next_free, taken};
+ghost use Rattle.cb_chain.specs.Taking.{IsReady, IsTaken, IsWrittenFrom, TakesIf};
 ghost use Rattle.cb_chain.specs.Written.{HoldsJobs, Written};
 
 use crate::job_record::jct_record;
@@ -36,7 +36,7 @@ pub fn write_from<S: RecordStore>(store: &mut S, job: u16, plan: &JobPlan, first
     requires writable { (units : ℕ) × IsWritable (S.queue store.old).layout.most_steps units plan.now }
     requires taken { IsTaken job (S.queue store.old) first }
     requires room { S.lacking store.old + records_needed plan.now ≤ length (S.queue store.old).free + 1 }
-    ensures written { (before : RecordQueue) → IsReady before → TakesIf job true before (S.queue store.old) first → Written job plan.now before (S.queue store.new) first }
+    ensures written { IsWrittenFrom job plan.now (S.queue store.old) (S.queue store.new) first }
     ensures room { S.lacking store.new ≡ S.lacking store.old }
 {
     let layout = *store.layout();

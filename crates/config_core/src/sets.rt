@@ -1,12 +1,9 @@
 //! A set that is there at the start.
-ghost use Rattle.std.specs.Prelude.{◌≡◌, ◌++◌, ◌∷◌, [], List, ℕ, None, IfNone, IfSome, OnErr, OnOk, Some};
-ghost use Rattle.std.specs.FinMap as map;
-ghost use Rattle.extent_core.specs.declared.extent.Extent.{Extent};
-ghost use Rattle.vtoc_core.specs.Extents.{free_extents, planned};
+ghost use Rattle.std.specs.Prelude.{◌≡◌, ◌++◌, ◌∷◌, None, IfNone, IfSome, OnErr, OnOk, Some};
 ghost use Rattle.mount_core.specs.Mounts.{MountedState};
 ghost use Rattle.shared_core.specs.Shown.{mounted_in};
 ghost use Rattle.config_core.specs.Configs.{catalog_with, extents_on, has_room, with_set_in};
-ghost use Rattle.config_core.specs.Sets.{CanHold, IsMade, IsPlaceOf, with_records_on};
+ghost use Rattle.config_core.specs.Sets.{CanHold, GivesRecords, IsMade, IsPlaceOf, TakesOff};
 
 use cat_core::catalog::Catalog;
 use jname_core::serial::Serial;
@@ -33,8 +30,7 @@ fn no_place() -> KeptPlace
 
 /// Gives a set that was just made its records.
 fn fill(mounted: &mut Mounted, key: &SetKey, records: Records)
-    ensures { (m : MountedState) (extents : List Extent) → mounted.old ≡ with_records_on m extents key.now [] →
-        mounted.new ≡ with_records_on m extents key.now records }
+    ensures { GivesRecords mounted.old key.now records mounted.new }
 {
     match mounted.put_records(key, records) {
         Ok(()) => {}
@@ -44,8 +40,7 @@ fn fill(mounted: &mut Mounted, key: &SetKey, records: Records)
 
 /// Takes a set off its volume, where it is there.
 fn take_off(mounted: &mut Mounted, key: &SetKey)
-    ensures { (m : MountedState) (extents : List Extent) (records : List (List ℕ)) (n : ℕ) → planned (free_extents m.volume.tracks) n ≡ Some extents →
-        map.get m.volume.sets key.now ≡ None → mounted.old ≡ with_records_on m extents key.now records → mounted.new ≡ m }
+    ensures { TakesOff mounted.old key.now mounted.new }
 {
     match mounted.scratch(key) {
         Ok(()) => {}

@@ -67,6 +67,15 @@ pub record Went {Q : Type 0} (queue_of : Q → RecordQueue) (c : Config) (old : 
   pub extents : ExtentsFollow old.store new.store
   pub rest : LeavesRest queue_of r.job old new
 
+-- The same under the configuration that the profile and the queue's records have.
+abbrev pub WentUnder : {Q : Type 0} → (Q → RecordQueue) → Profile → Parts Q → Running → Parts Q → Progress → Type 0
+WentUnder queue_of profile old r new came = Went queue_of (config_of profile (queue_of old.queue).layout) old r new came
+
+-- A turn of a job in its place, under whichever configuration holds of the parts: it went on, and the lines that it wrote begin there.
+abbrev pub WentOnInPlace : {Q : Type 0} → (Q → RecordQueue) → ℕ → Parts Q → Walk → Stage → Parts Q → Walk → Stage → ℕ → Type 0
+WentOnInPlace queue_of job old walk before new walk_now after from = (c : Config) → IsGood queue_of c old →
+    Went queue_of c old (record { job = job; walk = walk; stage = before }) new (GoesOn (record { job = job; walk = walk_now; stage = after }) from)
+
 -- A turn of an admitted job in its place: it went on, and the lines that it wrote begin there; or its END is due, and nothing has changed.
 abbrev pub ActsInPlace : {Q : Type 0} → (Q → RecordQueue) → Profile → Parts Q → ℕ → AdmittedJob → Walk → Parts Q → Walk → Option ℕ → Type 0
 ActsInPlace queue_of profile old job a before new after (Some from) =

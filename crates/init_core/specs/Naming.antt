@@ -8,10 +8,17 @@ use Rattle.jcl_plan.specs.declared.entry.JobLine.{JobLine}
 use Rattle.jcl_plan.specs.declared.entry.JobLine.TheVariants as line
 use Rattle.jcl_plan.specs.declared.plan.JobPlan.{JobPlan}
 use Rattle.jcl_meaning.specs.Solo.{nothing_own}
+use Rattle.cb_queue.specs.RecordQueues.{RecordQueue}
+use Rattle.world_meaning.specs.Holdings.{wants_of}
+use Rattle.world_meaning.specs.Worlds.{Config}
 use Rattle.turn_core.specs.declared.todo.Todo.TheVariants as todo
 use Rattle.turn_core.specs.declared.walk.Walk.{Walk}
+use Rattle.machine_core.specs.declared.parts.Parts.{Parts}
+use Rattle.init_core.specs.declared.running.Progress.TheVariants.{GoesOn}
 use Rattle.init_core.specs.declared.running.Stage.{Stage}
 use Rattle.init_core.specs.declared.running.Stage.TheVariants.{Named, Wanting}
+use Rattle.init_core.specs.Going.{Went}
+use Rattle.init_core.specs.Running.{IsGood}
 
 -- the job holds all of them, and this is written behind its listing
 pub record HoldsAll (old : List Hold) (job : ℕ) (wants : List Want) (before : List JobLine) (holder : ℕ)
@@ -36,6 +43,12 @@ Wishes old job wants before None new after = IsKeptOut old wants before new afte
 abbrev pub stage_behind : JobPlan → List Want → Option ℕ → Stage
 stage_behind plan wants (Some held) = Named (record { plan = plan; held = held })
 stage_behind plan wants None = Wanting plan wants
+
+-- The turn by which a job wishes for the names that its plan wants, under whichever configuration holds of the parts: it goes on, with one line more.
+abbrev pub WentByWish : {Q : Type 0} → (Q → RecordQueue) → ℕ → List Want → Parts Q → Walk → Parts Q → Walk → Option ℕ → Type 0
+WentByWish queue_of job wants old walk new walk_now held = (c : Config) (plan : JobPlan) → wants ≡ wants_of plan → IsGood queue_of c old →
+    Went queue_of c old (record { job = job; walk = walk; stage = Wanting plan wants }) new
+    (GoesOn (record { job = job; walk = walk_now; stage = stage_behind plan wants held }) (length walk.course.lines))
 
 -- the job stands at its first action, with its listing
 abbrev pub begun : Walk → Walk

@@ -17,7 +17,8 @@ use Rattle.admit_core.specs.Admissions.{given_to, is_assured, named_of}
 use Rattle.admit_core.specs.declared.admission.AdmittedJob.{AdmittedJob}
 use Rattle.machine_core.specs.Shown.{shown}
 use Rattle.machine_core.specs.declared.parts.Parts.{Parts}
-use Rattle.init_core.specs.Running.{shown_admission}
+use Rattle.init_core.specs.Running.{config_of, shown_admission}
+use Rattle.init_core.specs.declared.running.Profile.{Profile}
 use Rattle.init_core.specs.declared.running.Running.{Running}
 use Rattle.init_core.specs.declared.running.Stage.{Stage}
 use Rattle.init_core.specs.declared.running.Stage.TheVariants.{Admitted, Named, Selected, Wanting}
@@ -42,3 +43,7 @@ IsProvidedAt queue_of c p job walk (Admitted a) = is_assured a ≡ true → IsFo
 
 abbrev pub IsProvided : {Q : Type 0} → (Q → RecordQueue) → Config → Parts Q → Running → Type 0
 IsProvided queue_of c p r = IsProvidedAt queue_of c p r.job r.walk r.stage
+
+-- under the configuration that the profile and the queue's records have
+abbrev pub IsProvidedUnder : {Q : Type 0} → (Q → RecordQueue) → Profile → Parts Q → Running → Type 0
+IsProvidedUnder queue_of profile p r = IsProvided queue_of (config_of profile (queue_of p.queue).layout) p r

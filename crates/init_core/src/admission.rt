@@ -4,9 +4,9 @@ ghost use Rattle.jcl_plan.specs.declared.plan.JobPlan.{JobPlan};
 ghost use Rattle.jcl_meaning.specs.declared.program.SoloProgram.{SoloProgram};
 ghost use Rattle.turn_core.specs.Standing.{Stands, count_at};
 ghost use Rattle.init_core.specs.Answering.{is_turned_away, terms_of};
-ghost use Rattle.init_core.specs.Going.{Went};
+ghost use Rattle.init_core.specs.Going.{WentUnder};
 ghost use Rattle.init_core.specs.Naming.{begun};
-ghost use Rattle.init_core.specs.Providing.{IsProvided};
+ghost use Rattle.init_core.specs.Providing.{IsProvidedUnder};
 ghost use Rattle.init_core.specs.Running.{IsGood, config_of};
 ghost use Rattle.init_core.specs.declared.running.Stage.TheVariants as stage;
 
@@ -62,11 +62,9 @@ pub(crate) fn admit_job<Q: RecordStore>(
     requires some { job ≢ 0 }
     requires its_own { named.held ≡ job }
     requires good { IsGood Q.queue (config_of profile.now (Q.queue parts.old.queue).layout) parts.old }
-    requires provided { IsProvided Q.queue (config_of profile.now (Q.queue parts.old.queue).layout) parts.old
-        (record { job = job; walk = walk; stage = stage.Named named }) }
+    requires provided { IsProvidedUnder Q.queue profile.now parts.old (record { job = job; walk = walk; stage = stage.Named named }) }
     requires unqueued { All (λ x. x.job ≢ job) (Q.queue parts.old.queue).waiting }
-    ensures ok { IfOk result (Went Q.queue (config_of profile.now (Q.queue parts.old.queue).layout) parts.old
-        (record { job = job; walk = walk; stage = stage.Named named }) parts.new) }
+    ensures ok { IfOk result (WentUnder Q.queue profile.now parts.old (record { job = job; walk = walk; stage = stage.Named named }) parts.new) }
     ensures err { IfErr result (λ r. r ≡ record { job = job; walk = walk; stage = stage.Named named }) }
     ensures same { OnErr result (parts.new ≡ parts.old) }
 {

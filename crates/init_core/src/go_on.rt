@@ -1,7 +1,7 @@
 //! A job's turn.
 ghost use Rattle.std.specs.Prelude.{◌≡◌, ◌≢◌, All, IfErr, IfOk, OnErr};
-ghost use Rattle.init_core.specs.Going.{MayLeave, Went, WentInPlace};
-ghost use Rattle.init_core.specs.Providing.{IsProvided};
+ghost use Rattle.init_core.specs.Going.{MayLeave, WentInPlace, WentUnder};
+ghost use Rattle.init_core.specs.Providing.{IsProvidedUnder};
 ghost use Rattle.init_core.specs.Running.{IsGood, IsReady, config_of};
 
 use crate::admission::admit_job;
@@ -24,10 +24,10 @@ pub fn go_on<Q: RecordStore>(
 ) -> Result<Progress, Running>
     requires good { IsGood Q.queue (config_of profile.now (Q.queue parts.old.queue).layout) parts.old }
     requires ready { IsReady (config_of profile.now (Q.queue parts.old.queue).layout) parts.old.names running }
-    requires provided { IsProvided Q.queue (config_of profile.now (Q.queue parts.old.queue).layout) parts.old running }
+    requires provided { IsProvidedUnder Q.queue profile.now parts.old running }
     requires leaves { MayLeave profile.now parts.old running }
     requires unqueued { All (λ x. x.job ≢ running.job) (Q.queue parts.old.queue).waiting }
-    ensures ok { IfOk result (Went Q.queue (config_of profile.now (Q.queue parts.old.queue).layout) parts.old running parts.new) }
+    ensures ok { IfOk result (WentUnder Q.queue profile.now parts.old running parts.new) }
     ensures err { IfErr result (λ r. r ≡ running) }
     ensures same { OnErr result (parts.new ≡ parts.old) }
 {
@@ -51,7 +51,7 @@ pub fn go_on_in_place<Q: RecordStore>(
 ) -> Result<Option<usize>, AllocError>
     requires good { IsGood Q.queue (config_of profile.now (Q.queue parts.old.queue).layout) parts.old }
     requires ready { IsReady (config_of profile.now (Q.queue parts.old.queue).layout) parts.old.names running.old }
-    requires provided { IsProvided Q.queue (config_of profile.now (Q.queue parts.old.queue).layout) parts.old running.old }
+    requires provided { IsProvidedUnder Q.queue profile.now parts.old running.old }
     ensures ok { IfOk result (WentInPlace Q.queue profile.now parts.old running.old parts.new running.new) }
     ensures err { OnErr result ((parts.new ≡ parts.old) × (running.new ≡ running.old)) }
 {

@@ -1,11 +1,9 @@
 //! A job's names are held, all of them or none: NAMES, WAIT NAMES.
-ghost use Rattle.std.specs.Prelude.{◌≡◌, ◌≢◌, IfOk, List, OnErr, length};
+ghost use Rattle.std.specs.Prelude.{◌≡◌, ◌≢◌, IfOk, List, OnErr};
 ghost use Rattle.enq_core.specs.Holds.{AreWants, HoldsNone};
 ghost use Rattle.world_meaning.specs.Holdings.{wants_of};
-ghost use Rattle.world_meaning.specs.Worlds.{Config};
-ghost use Rattle.init_core.specs.Going.{Went};
-ghost use Rattle.init_core.specs.Naming.{Wishes, stage_behind};
-ghost use Rattle.init_core.specs.Running.{IsGood};
+ghost use Rattle.init_core.specs.Going.{WentOnInPlace};
+ghost use Rattle.init_core.specs.Naming.{WentByWish, Wishes, stage_behind};
 ghost use Rattle.init_core.specs.declared.running.Progress.TheVariants as progress;
 ghost use Rattle.init_core.specs.declared.running.Stage.TheVariants as stage;
 
@@ -64,9 +62,7 @@ pub(crate) fn wish<Q: RecordStore>(
     requires some { job ≢ 0 }
     requires none { HoldsNone parts.old.names job }
     requires order { AreWants wants.now }
-    ensures ok { IfOk result (λ held. (c : Config) (plan : JobPlan) → wants.now ≡ wants_of plan → IsGood Q.queue c parts.old →
-        Went Q.queue c parts.old (record { job = job; walk = walk.old; stage = stage.Wanting plan wants.now }) parts.new
-        (progress.GoesOn (record { job = job; walk = walk.new; stage = stage_behind plan wants.now held }) (length walk.old.course.lines))) }
+    ensures ok { IfOk result (WentByWish Q.queue job wants.now parts.old walk.old parts.new walk.new) }
     ensures err { OnErr result ((parts.new ≡ parts.old) × (walk.new ≡ walk.old)) }
 {
     let held = hold(&mut parts.names, job, &mut walk.course.lines, wants)?;
@@ -125,9 +121,7 @@ pub(crate) fn want_in_place<Q: RecordStore>(
     requires some { job ≢ 0 }
     requires none { HoldsNone parts.old.names job }
     requires waits { (plan : JobPlan) × (waits.old ≡ stage.Wanting plan (wants_of plan)) }
-    ensures ok { IfOk result (λ from. (c : Config) → IsGood Q.queue c parts.old →
-        Went Q.queue c parts.old (record { job = job; walk = walk.old; stage = waits.old }) parts.new
-        (progress.GoesOn (record { job = job; walk = walk.new; stage = waits.new }) from)) }
+    ensures ok { IfOk result (WentOnInPlace Q.queue job parts.old walk.old waits.old parts.new walk.new waits.new) }
     ensures err { OnErr result ((parts.new ≡ parts.old) × (walk.new ≡ walk.old) × (waits.new ≡ waits.old)) }
 {
     wants_are_in_order();

@@ -3,7 +3,7 @@ ghost use Rattle.std.specs.Prelude.{◌≡◌, ◌≢◌, All, IfErr, IfOk, OnEr
 ghost use Rattle.enq_core.specs.Holds.{HoldsNone};
 ghost use Rattle.cb_meaning.specs.Layouts.{HasOwnFields};
 ghost use Rattle.init_core.specs.Finding.{IsFound};
-ghost use Rattle.init_core.specs.Going.{Went};
+ghost use Rattle.init_core.specs.Going.{WentUnder};
 ghost use Rattle.init_core.specs.Running.{IsGood, config_of};
 ghost use Rattle.init_core.specs.declared.running.Stage.TheVariants as stage;
 
@@ -81,8 +81,7 @@ pub(crate) fn read<Q: RecordStore>(
     requires none { HoldsNone parts.old.names job }
     requires good { IsGood Q.queue (config_of profile.now (Q.queue parts.old.queue).layout) parts.old }
     requires unqueued { All (λ x. x.job ≢ job) (Q.queue parts.old.queue).waiting }
-    ensures ok { IfOk result (Went Q.queue (config_of profile.now (Q.queue parts.old.queue).layout) parts.old
-        (record { job = job; walk = walk; stage = stage.Selected first }) parts.new) }
+    ensures ok { IfOk result (WentUnder Q.queue profile.now parts.old (record { job = job; walk = walk; stage = stage.Selected first }) parts.new) }
     ensures err { IfErr result (λ r. r ≡ record { job = job; walk = walk; stage = stage.Selected first }) }
     ensures same { OnErr result (parts.new ≡ parts.old) }
 {

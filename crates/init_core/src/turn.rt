@@ -7,7 +7,7 @@ ghost use Rattle.disp_core.specs.Courses.{fixed_by};
 ghost use Rattle.admit_core.specs.Admissions.{fixed_for, given_to, named_of};
 ghost use Rattle.turn_core.specs.Turning.{operations_by};
 ghost use Rattle.init_core.specs.Going.{ActsInPlace};
-ghost use Rattle.init_core.specs.Providing.{IsProvided};
+ghost use Rattle.init_core.specs.Providing.{IsProvidedUnder};
 ghost use Rattle.init_core.specs.Running.{IsAt, IsGood, config_of};
 ghost use Rattle.init_core.specs.Turning.{IsEnded};
 ghost use Rattle.init_core.specs.declared.running.Progress.TheVariants as progress;
@@ -122,8 +122,7 @@ pub(crate) fn act<Q: RecordStore>(
     requires some { job ≢ 0 }
     requires at { IsAt (config_of profile.now (Q.queue parts.old.queue).layout) parts.old.names job walk.old (stage.Admitted admitted.now) }
     requires good { IsGood Q.queue (config_of profile.now (Q.queue parts.old.queue).layout) parts.old }
-    requires provided { IsProvided Q.queue (config_of profile.now (Q.queue parts.old.queue).layout) parts.old
-        (record { job = job; walk = walk.old; stage = stage.Admitted admitted.now }) }
+    requires provided { IsProvidedUnder Q.queue profile.now parts.old (record { job = job; walk = walk.old; stage = stage.Admitted admitted.now }) }
     ensures ok { IfOk result (ActsInPlace Q.queue profile.now parts.old job admitted.now walk.old parts.new walk.new) }
     ensures err { OnErr result ((parts.new ≡ parts.old) × (walk.new ≡ walk.old)) }
 {

@@ -1,5 +1,5 @@
 -- A turn of a job at its initiator.
-use Rattle.std.specs.Prelude.{◌≡◌, ℕ, ◌≤◌, List, [], Some, Vec, slice_get, slice_set}
+use Rattle.std.specs.Prelude.{◌≡◌, ◌≢◌, ℕ, ◌≤◌, List, [], All, Some, Vec, slice_get, slice_set}
 use Rattle.std.specs.Global.{Global}
 use Rattle.std.specs.Vec.{vec_capacity, vec_len}
 use Rattle.cb_queue.specs.RecordQueues.{RecordQueue}
@@ -7,8 +7,9 @@ use Rattle.jcl_plan.specs.declared.entry.Entry.{Entry}
 use Rattle.world_meaning.specs.Transitions.{told_with}
 use Rattle.world_meaning.specs.Worlds.{Config}
 use Rattle.machine_core.specs.declared.parts.Parts.{Parts}
-use Rattle.init_core.specs.Going.{Went}
-use Rattle.init_core.specs.Running.{lines_told, path_told, runs_after}
+use Rattle.init_core.specs.Going.{MayLeave, Went}
+use Rattle.init_core.specs.Providing.{IsProvidedUnder}
+use Rattle.init_core.specs.Running.{IsReady, config_of, lines_told, path_told, runs_after}
 use Rattle.init_core.specs.declared.running.Profile.{Profile}
 use Rattle.init_core.specs.declared.running.Progress.{Progress}
 use Rattle.init_core.specs.declared.running.Running.{Running}
@@ -39,3 +40,9 @@ pub record HasRoomFor (profile : Profile) (r : Running) (entries : Vec Entry Glo
   pub none : entries.items ≡ []
   pub empty : vec_len entries ≡ 0
   pub room : most_lines profile r ≤ vec_capacity entries
+
+-- the initiator has a job that may leave it by its turn and waits in no queue, and there is room for the lines of that
+abbrev pub IsToLeave : {Q : Type 0} → (Q → RecordQueue) → Profile → Parts Q → Initiator → Vec Entry Global → Type 0
+IsToLeave queue_of profile p x entries = (r : Running) × (x.running ≡ Some r) × IsReady (config_of profile (queue_of p.queue).layout) p.names r
+    × IsProvidedUnder queue_of profile p r × MayLeave profile p r
+    × HasRoomFor profile r entries × All (λ q. q.job ≢ r.job) (queue_of p.queue).waiting

@@ -29,6 +29,10 @@ world_in queue_of c s = record {
   events = s.events;
 }
 
+-- the world under the configuration that is its own
+abbrev pub world_under : {Q : Type 0} → (Q → RecordQueue) → Profile → State Q → World
+world_under queue_of p s = world_in queue_of (config_in queue_of p s) s
+
 -- the job of the initiator at a place
 pub record RunsIn (initiators : List Initiator) (place : ℕ) (r : Running) : Type 0 where
   pub it : Initiator

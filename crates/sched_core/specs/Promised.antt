@@ -19,6 +19,10 @@ ArePromised old lines new = (job tracks stated : ℕ) → Contains lines (entry.
 pub record ArePromisedAlong (old : Machine) (events : List Event) (entries : List (List Entry)) (new : Machine) (chain : Drives old events entries new) : Type 0 where
   pub along : Along (λ m e lines next s. ArePromised m lines next) old events entries new chain
 
+-- from a machine with no event yet each chain of these events keeps what it promises
+abbrev pub KeepsPromises : Machine → List Event → List (List Entry) → Machine → Type 0
+KeepsPromises old events entries new = IsStart (world_of old) → (chain : Drives old events entries new) → ArePromisedAlong old events entries new chain
+
 -- From a machine with no event yet each chain keeps what it promises.
 abbrev pub ChainsKeepPromises : Type 0
 ChainsKeepPromises = (old : Machine) (events : List Event) (entries : List (List Entry)) (new : Machine) → IsStart (world_of old) →

@@ -21,7 +21,7 @@ use Rattle.machine_core.specs.Shown.{shown}
 use Rattle.machine_core.specs.declared.parts.Parts.{Parts}
 use Rattle.init_core.specs.declared.running.Profile.{Profile}
 use Rattle.sched_core.specs.Fits.{IsKept}
-use Rattle.sched_core.specs.Machines.{config_in, shown_initiator}
+use Rattle.sched_core.specs.Machines.{config_in, shown_initiator, world_in, world_under}
 use Rattle.sched_core.specs.declared.fault.ApplyFault.{ApplyFault}
 use Rattle.sched_core.specs.declared.fault.ApplyFault.TheVariants.{Memory, Refused}
 use Rattle.sched_core.specs.declared.state.Initiator.{Initiator}
@@ -107,6 +107,23 @@ abbrev pub KeepsIfRefused : Result (List Entry) ApplyFault → Machine → Machi
 KeepsIfRefused (Ok lines) old new = Unit {0}
 KeepsIfRefused (Err (Refused cause)) old new = new ≡ record old { events = new.events }
 KeepsIfRefused (Err Memory) old new = Unit {0}
+
+-- so of a state of the machine: a case of the table was allowed, decided by the volumes as they were
+abbrev pub AppliesSo : {Q : Type 0} → (Q → RecordQueue) → Profile → Denoting → Event → State Q → Result (List Entry) ApplyFault → State Q → Type 0
+AppliesSo queue_of p denotes e old result new = Applies result (world_under queue_of p old) (world_in queue_of (config_in queue_of p old) new)
+    (FollowsSo old.parts.store denotes (world_under queue_of p old) (meant_by e))
+
+-- a refusal changes the count of events alone in the machine of such a state, with these names of units and this library
+abbrev pub KeepsStateIfRefused : {Q : Type 0} → (Q → RecordQueue) → Profile → List (List ℕ) → List LibraryProcedure → State Q →
+    Result (List Entry) ApplyFault → State Q → Type 0
+KeepsStateIfRefused queue_of p names library old result new =
+    KeepsIfRefused result (machine_in queue_of p names library old) (machine_in queue_of p names library new)
+
+-- where memory is missing it stays the same machine
+abbrev pub KeepsStateWithoutMemory : {Q : Type 0} → (Q → RecordQueue) → Profile → List (List ℕ) → List LibraryProcedure → State Q →
+    Result (List Entry) ApplyFault → State Q → Type 0
+KeepsStateWithoutMemory queue_of p names library old result new =
+    result ≡ Err Memory → machine_in queue_of p names library new ≡ machine_in queue_of p names library old
 
 -- what is fixed stays
 pub record IsSameFixed (old new : Machine) : Type 0 where

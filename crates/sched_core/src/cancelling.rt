@@ -12,7 +12,7 @@ ghost use Rattle.sched_core.specs.Cancelling.{CancelsAt, CancelsRunning, GivesUp
 ghost use Rattle.sched_core.specs.Done.{EventDone};
 ghost use Rattle.sched_core.specs.Events.{RefusesFirst};
 ghost use Rattle.sched_core.specs.Fits.{IsKept};
-ghost use Rattle.sched_core.specs.Machines.{RunsIn, config_in, world_in};
+ghost use Rattle.sched_core.specs.Machines.{RunsIn, config_in, world_under};
 ghost use Rattle.sched_core.specs.declared.state.Initiator.{Initiator};
 
 use crate::fault::ApplyFault;
@@ -188,7 +188,7 @@ fn cancel_there<Q: RecordStore>(
     requires kept { IsKept Q.queue (config_in Q.queue profile.now state.old) state.old }
     requires runs { (r : Running) × RunsIn state.old.initiators.items place r × (r.job ≡ job) }
     ensures done { EventDone Q.queue profile.now state.old result state.new (λ w. CancelsJob w job) }
-    ensures refusal { RefusesFirst result (CancelsJob (world_in Q.queue (config_in Q.queue profile.now state.old) state.old) job) }
+    ensures refusal { RefusesFirst result (CancelsJob (world_under Q.queue profile.now state.old) job) }
     ensures extents { OnOk result (ExtentsFollow state.old.parts.store state.new.parts.store) }
 {
     match cancel_at(alloc, &mut state.parts, &mut state.initiators, place, job) {
@@ -206,7 +206,7 @@ pub(crate) fn cancel<Q: RecordStore>(
 ) -> Result<Listed<Entry>, ApplyFault>
     requires { IsKept Q.queue (config_in Q.queue profile.now state.old) state.old }
     ensures done { EventDone Q.queue profile.now state.old result state.new (λ w. CancelsJob w job) }
-    ensures refusal { RefusesFirst result (CancelsJob (world_in Q.queue (config_in Q.queue profile.now state.old) state.old) job) }
+    ensures refusal { RefusesFirst result (CancelsJob (world_under Q.queue profile.now state.old) job) }
     ensures extents { OnOk result (ExtentsFollow state.old.parts.store state.new.parts.store) }
 {
     if state.backlog.has(job) {

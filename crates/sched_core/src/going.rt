@@ -6,16 +6,14 @@ ghost use Rattle.jcl_plan.specs.declared.fault.Cause.{Cause};
 ghost use Rattle.world_meaning.specs.Transitions.{told_with};
 ghost use Rattle.world_meaning.specs.Worlds.{of_job};
 ghost use Rattle.init_core.specs.Extents.{ExtentsFollow};
-ghost use Rattle.init_core.specs.Going.{MayLeave};
-ghost use Rattle.init_core.specs.Providing.{IsProvided};
-ghost use Rattle.init_core.specs.Running.{IsGood, IsReady, config_of, path_before, told_before};
+ghost use Rattle.init_core.specs.Running.{IsGood, config_of, path_before, told_before};
 ghost use Rattle.init_core.specs.declared.running.Running.{Running};
 ghost use Rattle.sched_core.specs.Copies.{unless_risk};
 ghost use Rattle.sched_core.specs.Done.{EventDone};
 ghost use Rattle.sched_core.specs.Events.{ActsAt};
 ghost use Rattle.sched_core.specs.Explaining.{most_explained, most_lines};
 ghost use Rattle.sched_core.specs.Fits.{IsKept};
-ghost use Rattle.sched_core.specs.Going.{HasRoomFor, TurnsJob};
+ghost use Rattle.sched_core.specs.Going.{HasRoomFor, IsToLeave, TurnsJob};
 ghost use Rattle.sched_core.specs.Machines.{RunsIn, config_in};
 ghost use Rattle.sched_core.specs.declared.fault.ApplyFault.TheVariants.{Refused};
 
@@ -142,9 +140,7 @@ fn turn_away<Q: RecordStore>(
     mut entries: Vec<Entry>,
 ) -> Result<Listed<Entry>, AllocError>
     requires good { IsGood Q.queue (config_of profile.now (Q.queue parts.old.queue).layout) parts.old }
-    requires runs { (r : Running) × (x.old.running ≡ Some r) × IsReady (config_of profile.now (Q.queue parts.old.queue).layout) parts.old.names r
-        × IsProvided Q.queue (config_of profile.now (Q.queue parts.old.queue).layout) parts.old r × MayLeave profile.now parts.old r
-        × HasRoomFor profile.now r entries × All (λ q. q.job ≢ r.job) (Q.queue parts.old.queue).waiting }
+    requires runs { IsToLeave Q.queue profile.now parts.old x.old entries }
     ensures ok { IfOk result (TurnsJob Q.queue (config_of profile.now (Q.queue parts.old.queue).layout) parts.old x.old parts.new x.new) }
     ensures err { OnErr result ((parts.new ≡ parts.old) × (x.new ≡ x.old)) }
 {

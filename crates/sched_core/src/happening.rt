@@ -1,15 +1,15 @@
 //! What happens at an event.
-ghost use Rattle.std.specs.Prelude.{◌≡◌, ◌≢◌, ◌+◌, ◌<◌, ◌≤◌, All, Err, IfNone, IfOk, IfSome, OnErr, length, OnOk};
+ghost use Rattle.std.specs.Prelude.{◌≡◌, ◌≢◌, ◌+◌, ◌<◌, ◌≤◌, All, IfNone, IfOk, IfSome, OnErr, length, OnOk};
 ghost use Rattle.jcl_job.specs.Jobs.{job_of};
 ghost use Rattle.machine_meaning.specs.declared.machine.TheConstants.{MOST_EVENTS};
 ghost use Rattle.world_meaning.specs.Transitions.{Does, Transition, Turns};
 ghost use Rattle.init_core.specs.Extents.{ExtentsFollow};
-ghost use Rattle.sched_core.specs.Done.{EventDone};
-ghost use Rattle.sched_core.specs.Events.{DoesSo, FollowsSo, RefusesFirst, TurnsSo};
+ghost use Rattle.sched_core.specs.Done.{EventDone, EventDoneSo};
+ghost use Rattle.sched_core.specs.Events.{RefusesFirst, TurnsSo};
 ghost use Rattle.sched_core.specs.Fits.{IsKept};
 ghost use Rattle.sched_core.specs.Happening.{IsSeat};
-ghost use Rattle.sched_core.specs.Machines.{config_in, world_in};
-ghost use Rattle.sched_core.specs.Systems.{Applies, KeepsIfRefused, machine_in, meant_by};
+ghost use Rattle.sched_core.specs.Machines.{config_in, world_under};
+ghost use Rattle.sched_core.specs.Systems.{AppliesSo, KeepsStateIfRefused, KeepsStateWithoutMemory, meant_by};
 
 use crate::cancelling::cancel;
 use crate::fault::ApplyFault;
@@ -55,7 +55,7 @@ fn turn<Q: RecordStore>(
 ) -> Result<Listed<Entry>, ApplyFault>
     requires { IsKept Q.queue (config_in Q.queue profile.now state.old) state.old }
     ensures done { EventDone Q.queue profile.now state.old result state.new (λ w. TurnsSo state.old.parts.store w number) }
-    ensures refusal { RefusesFirst result (Turns (world_in Q.queue (config_in Q.queue profile.now state.old) state.old) number) }
+    ensures refusal { RefusesFirst result (Turns (world_under Q.queue profile.now state.old) number) }
     ensures extents { OnOk result (ExtentsFollow state.old.parts.store state.new.parts.store) }
 {
     let Some(place) = place_of(state.initiators.as_slice(), number) else {
@@ -80,9 +80,8 @@ fn happen<Q: RecordStore>(
 ) -> Result<Listed<Entry>, ApplyFault>
     requires kept { IsKept Q.queue (config_in Q.queue profile.now state.old) state.old }
     requires named { length units.now ≡ length profile.now.units.now }
-    ensures done { EventDone Q.queue profile.now state.old result state.new (λ w. DoesSo state.old.parts.store (job_of units.now library.now) w (meant_by event.now)) }
-    ensures refusal { RefusesFirst result
-        (Does (job_of units.now library.now) (world_in Q.queue (config_in Q.queue profile.now state.old) state.old) (meant_by event.now)) }
+    ensures done { EventDoneSo Q.queue profile.now (job_of units.now library.now) event.now state.old result state.new }
+    ensures refusal { RefusesFirst result (Does (job_of units.now library.now) (world_under Q.queue profile.now state.old) (meant_by event.now)) }
     ensures extents { OnOk result (ExtentsFollow state.old.parts.store state.new.parts.store) }
 {
     match event {
@@ -120,16 +119,10 @@ pub(crate) fn apply_in<Q: RecordStore>(
 ) -> Result<Listed<Entry>, ApplyFault>
     requires kept { IsKept Q.queue (config_in Q.queue profile.now state.old) state.old }
     requires named { length units.now ≡ length profile.now.units.now }
-    ensures answer { Applies result (world_in Q.queue (config_in Q.queue profile.now state.old) state.old)
-        (world_in Q.queue (config_in Q.queue profile.now state.old) state.new)
-        (FollowsSo state.old.parts.store (job_of units.now library.now) (world_in Q.queue (config_in Q.queue profile.now state.old) state.old)
-        (meant_by event.now)) }
-    ensures refusal { RefusesFirst result
-        (Transition (job_of units.now library.now) (world_in Q.queue (config_in Q.queue profile.now state.old) state.old) (meant_by event.now)) }
-    ensures unless_refused { KeepsIfRefused result (machine_in Q.queue profile.now units.now library.now state.old)
-        (machine_in Q.queue profile.now units.now library.now state.new) }
-    ensures memory { result ≡ Err ApplyFault.Memory →
-        machine_in Q.queue profile.now units.now library.now state.new ≡ machine_in Q.queue profile.now units.now library.now state.old }
+    ensures answer { AppliesSo Q.queue profile.now (job_of units.now library.now) event.now state.old result state.new }
+    ensures refusal { RefusesFirst result (Transition (job_of units.now library.now) (world_under Q.queue profile.now state.old) (meant_by event.now)) }
+    ensures unless_refused { KeepsStateIfRefused Q.queue profile.now units.now library.now state.old result state.new }
+    ensures memory { KeepsStateWithoutMemory Q.queue profile.now units.now library.now state.old result state.new }
     ensures kept { IsKept Q.queue (config_in Q.queue profile.now state.old) state.new }
     ensures extents { ExtentsFollow state.old.parts.store state.new.parts.store }
 {

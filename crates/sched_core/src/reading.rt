@@ -11,7 +11,7 @@ ghost use Rattle.world_meaning.specs.Readings.{Reads, read_line};
 ghost use Rattle.sched_core.specs.Done.{EventDone};
 ghost use Rattle.sched_core.specs.Events.{RefusesFirst};
 ghost use Rattle.sched_core.specs.Fits.{IsKept};
-ghost use Rattle.sched_core.specs.Machines.{config_in, world_in};
+ghost use Rattle.sched_core.specs.Machines.{config_in, world_under};
 ghost use Rattle.sched_core.specs.Reading.{ReadsPlan, TakesIn, listing_of};
 ghost use Rattle.sched_core.specs.declared.fault.ApplyFault.TheVariants.{Refused};
 
@@ -149,8 +149,7 @@ pub(crate) fn read<Q: RecordStore>(
     requires kept { IsKept Q.queue (config_in Q.queue profile.now state.old) state.old }
     requires named { length units.now ≡ length profile.now.units.now }
     ensures done { EventDone Q.queue profile.now state.old result state.new (λ w. Reads (job_of units.now library.now) w deck.now) }
-    ensures refusal { RefusesFirst result
-        (Reads (job_of units.now library.now) (world_in Q.queue (config_in Q.queue profile.now state.old) state.old) deck.now) }
+    ensures refusal { RefusesFirst result (Reads (job_of units.now library.now) (world_under Q.queue profile.now state.old) deck.now) }
     ensures store { state.new.parts.store ≡ state.old.parts.store }
 {
     if MOST_JOBS <= state.jobs {

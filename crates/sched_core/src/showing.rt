@@ -6,7 +6,7 @@ ghost use Rattle.world_meaning.specs.Transitions.{Shows};
 ghost use Rattle.sched_core.specs.Done.{EventDone};
 ghost use Rattle.sched_core.specs.Events.{RefusesFirst};
 ghost use Rattle.sched_core.specs.Fits.{IsKept};
-ghost use Rattle.sched_core.specs.Machines.{config_in, world_in};
+ghost use Rattle.sched_core.specs.Machines.{config_in, world_under};
 ghost use Rattle.sched_core.specs.declared.fault.ApplyFault.TheVariants.{Refused};
 
 use crate::fault::ApplyFault;
@@ -31,7 +31,7 @@ pub(crate) fn end_device<Q: RecordStore>(
 ) -> Result<Listed<Entry>, ApplyFault>
     requires { IsKept Q.queue (config_in Q.queue profile.now state.old) state.old }
     ensures done { EventDone Q.queue profile.now state.old result state.new (λ w. EndsDevice w serial) }
-    ensures refusal { RefusesFirst result (EndsDevice (world_in Q.queue (config_in Q.queue profile.now state.old) state.old) serial) }
+    ensures refusal { RefusesFirst result (EndsDevice (world_under Q.queue profile.now state.old) serial) }
     ensures store { state.new.parts.store ≡ state.old.parts.store }
 {
     match events::end_device(&mut state.parts, profile.volumes, serial) {

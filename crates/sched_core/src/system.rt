@@ -5,14 +5,13 @@ ghost use Rattle.config_core.specs.Configs.{Configuration};
 ghost use Rattle.config_core.specs.Configured.{IsConfigured};
 ghost use Rattle.config_core.specs.Starts.{IsTakenApart};
 ghost use Rattle.shared_core.specs.Sizes.{VolumesHaveTheirSizes};
-ghost use Rattle.world_meaning.specs.Starts.{IsStart};
 ghost use Rattle.world_meaning.specs.Transitions.{Transition};
 ghost use Rattle.sched_core.specs.Events.{RefusesFirst};
 ghost use Rattle.machine_meaning.specs.declared.machine.TheConstants.{MOST_JOBS};
 ghost use Rattle.queued_job.specs.Opening.{CanBegin};
 ghost use Rattle.sched_core.specs.Starting.{IsForMachine, IsOpened, IsStarted, OfEachTakenApart};
-ghost use Rattle.sched_core.specs.Promised.{ArePromisedAlong};
-ghost use Rattle.sched_core.specs.Systems.{Applies, Drives, IsDriven, IsNext, IsWhole, KeepsIfRefused, Steps, denoting, meant_by, world_of};
+ghost use Rattle.sched_core.specs.Promised.{KeepsPromises};
+ghost use Rattle.sched_core.specs.Systems.{Applies, IsDriven, IsNext, IsWhole, KeepsIfRefused, Steps, denoting, meant_by, world_of};
 
 use crate::ending::end;
 use crate::fault::ApplyFault;
@@ -207,8 +206,7 @@ impl<'c, Q: RecordStore> System<'c, Q> {
     /// of each job that is answered ASSURED is kept.
     pub fn drive(&mut self, events: &[Event<'_>]) -> Driven
         ensures done { IsDriven self.old events.now result.entries.items result.done self.new }
-        ensures promised { IsStart (world_of self.old) → (chain : Drives self.old (take result.done events.now) result.entries.items self.new) →
-            ArePromisedAlong self.old (take result.done events.now) result.entries.items self.new chain }
+        ensures promised { KeepsPromises self.old (take result.done events.now) result.entries.items self.new }
     {
         chains_keep_promises();
         let mut entries = Vec::new(self.alloc);

@@ -10,7 +10,7 @@ ghost use Rattle.sched_core.specs.Cancelling.{has_job};
 ghost use Rattle.sched_core.specs.Done.{EventDone};
 ghost use Rattle.sched_core.specs.Events.{RefusesFirst};
 ghost use Rattle.sched_core.specs.Fits.{IsKept};
-ghost use Rattle.sched_core.specs.Machines.{config_in, world_in};
+ghost use Rattle.sched_core.specs.Machines.{config_in, world_in, world_under};
 ghost use Rattle.sched_core.specs.Zapping.{IsJudged, IsOpen, fault_of_owner};
 
 use crate::cancelling::has_job;
@@ -91,7 +91,7 @@ pub(crate) fn zap<Q: RecordStore>(
 ) -> Result<Listed<Entry>, ApplyFault>
     requires { IsKept Q.queue (config_in Q.queue profile.now state.old) state.old }
     ensures done { EventDone Q.queue profile.now state.old result state.new (λ w. ZapsRecord w n offset bytes.now) }
-    ensures refusal { RefusesFirst result (ZapsRecord (world_in Q.queue (config_in Q.queue profile.now state.old) state.old) n offset bytes.now) }
+    ensures refusal { RefusesFirst result (ZapsRecord (world_under Q.queue profile.now state.old) n offset bytes.now) }
     ensures store { state.new.parts.store ≡ state.old.parts.store }
 {
     if let Some(fault) = zap_fault(&*state, n, offset, bytes.len()) {

@@ -6,10 +6,12 @@ use Rattle.session_text.specs.declared.statement.Statement.{Statement}
 use Rattle.run_options.specs.declared.Options.{Options}
 use Rattle.session_core.specs.declared.SessionFault.{SessionFault}
 use Rattle.session_core.specs.declared.SessionFault.TheVariants.{Stopped, WriteFailed, Memory}
+use Rattle.session_core.specs.declared.stream.Sink.{Sink}
+use Rattle.session_core.specs.declared.stream.Source.{Source}
 use Rattle.session_core.specs.Failures.{AreTold}
 use Rattle.session_core.specs.Listings.{Lists, ListsUpTo, StopsIn}
-use Rattle.session_core.specs.Sessions.{Session, events_of, session_of}
-use Rattle.session_core.specs.Streams.{IsRead, IsReadInPart, SinkState, SourceState}
+use Rattle.session_core.specs.Sessions.{Session, events_of, session_behind, session_of}
+use Rattle.session_core.specs.Streams.{IsRead, IsReadInPart, SinkState, SourceState, sink_state, source_state}
 
 -- memory was wanting within a statement: the events before it are listed, and of its own those before one for which memory was wanting
 pub record WantsMemoryIn (o : Options) (stands : List Statement) (written : List ℕ) : Type 0 where
@@ -37,6 +39,10 @@ pub record WritesOutcome {T : Type 0} (o : Options) (old new : SinkState) (befor
   pub appended : Appends old.contents new.contents written
   pub outcome : IsOutcome o s result (before ++ written)
 
+-- so of the session of these statements, before which nothing was written
+abbrev pub WritesSession : {T : Type 0} → Options → SinkState → SinkState → List Statement → Result T SessionFault → Type 0
+WritesSession o old new statements result = WritesOutcome o old new [] (session_behind [] statements) result
+
 -- the answer is that the listing cannot be written further
 abbrev pub is_write_fault : {T : Type 0} → Result T SessionFault → Bool
 is_write_fault (Ok end) = false
@@ -59,6 +65,12 @@ pub record Starved {T : Type 0} (source source_after : SourceState) (sink sink_a
 
 abbrev pub IsRun : {T : Type 0} → Options → SourceState → SourceState → SinkState → SinkState → Result T SessionFault → Type 0
 IsRun o source source_after sink sink_after result = Ran o source source_after sink sink_after result ⊎ Starved source source_after sink sink_after result
+
+-- so of two streams, of which these functions say what is known of their reader and of their writer
+abbrev pub IsRunOfStreams : {R W T : Type 0} → (R → Option (List ℕ)) → (W → Option (List ℕ)) → Options → Source R → Source R → Sink W → Sink W →
+    Result T SessionFault → Type 0
+IsRunOfStreams remaining contents o source source_after sink sink_after result =
+    IsRun o (source_state remaining source) (source_state remaining source_after) (sink_state contents sink) (sink_state contents sink_after) result
 
 -- a session with these options, of a reader and a writer of which so much is known before and behind it: their calls failed or did not, and that is told
 pub record IsSession {T : Type 0} (o : Options) (unread rest old new : Option (List ℕ)) (result : Result T SessionFault) : Type 0 where

@@ -8,12 +8,14 @@ use Rattle.sched_core.specs.Systems.{Drives, Machine, Steps, world_of}
 use Rattle.session_text.specs.declared.fault.Fault.{Fault}
 use Rattle.session_text.specs.declared.statement.Says.{Says}
 use Rattle.session_text.specs.declared.statement.Says.TheVariants as says
+use Rattle.session_text.specs.declared.statement.Statement.{Statement}
 use Rattle.world_meaning.specs.Worlds.{Config}
 use Rattle.run_options.specs.declared.Options.{Options}
 use Rattle.run_options.specs.declared.RiskChoice.{RiskChoice}
 use Rattle.run_options.specs.declared.RiskChoice.TheVariants as risk
 use Rattle.session_core.specs.declared.SessionFault.{SessionFault}
 use Rattle.session_core.specs.declared.SessionFault.TheVariants.{Stopped, WriteFailed, Memory}
+use Rattle.session_core.specs.declared.listing.Listing.{Listing}
 use Rattle.session_core.specs.declared.listing.Mark.{Mark}
 use Rattle.session_core.specs.Listings.{text_of_all}
 
@@ -66,3 +68,8 @@ StatementRuns late old line (says.Refused own) marks text (Err fault) new new_ma
 StatementRuns late old line (says.Config s has_end) marks text (Ok x) new new_marks new_text = ⊥
 StatementRuns late old line (says.Config s has_end) marks text (Err fault) new new_marks new_text =
     (f : Fault) × (late ≡ Some f) × (fault ≡ Stopped f line) × IsSilent marks text new_marks new_text
+
+-- so of what is held of a listing, before it and after it
+abbrev pub StatementRunsIn : {T : Type 0} → Option Fault → Statement → Machine → Listing → Result T SessionFault → Machine → Listing → Type 0
+StatementRunsIn late s old listing result new new_listing = StatementRuns late old s.line s.says listing.marks.items listing.text.kept
+    result new new_listing.marks.items new_listing.text.kept

@@ -1,12 +1,6 @@
 //! Laws of sessions. They have no code: the contract of such a function is the law, and it calls the laws that it rests on.
-ghost use Rattle.cb_meaning.specs.declared.layout.TheConstants.{QUEUE_LAYOUT};
-ghost use Rattle.config_core.specs.Configs.{Configuration};
-ghost use Rattle.config_core.specs.Configured.{IsConfigured};
-ghost use Rattle.sched_core.specs.Starting.{IsStarted};
-ghost use Rattle.sched_core.specs.Systems.{IsWhole, Machine};
+ghost use Rattle.session_core.specs.Opening.{ConfigurationsHaveMachines};
 ghost use Rattle.session_core.specs.Promises.{ListingsAreRuns, PromisesOfSession};
-ghost use Rattle.session_core.specs.Sessions.{refuses_in};
-ghost use Rattle.run_options.specs.declared.Options.{Options};
 
 use config_core::laws::configuration_is_start;
 use sched_core::laws::{chains_are_runs, chains_keep_promises};
@@ -28,7 +22,7 @@ pub fn listings_are_runs()
 
 /// Each configuration has a machine before its first event, a whole one, with whichever options it is started.
 pub fn configuration_has_a_machine()
-    ensures { (o : Options) (c : Configuration) → IsConfigured c → (first : Machine) × IsStarted c (refuses_in o) o.views o.explains QUEUE_LAYOUT first × IsWhole first }
+    ensures { ConfigurationsHaveMachines }
 {
     configuration_is_start();
     queue_layout_is_for_machine();

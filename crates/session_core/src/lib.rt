@@ -12,9 +12,8 @@ pub mod transfer;
 ghost use Rattle.std.specs.Prelude.{◌≡◌, ℕ, List, false};
 ghost use Rattle.session_core.specs.Failures.{AreTold, TellsCut};
 ghost use Rattle.session_core.specs.FaultNumbers.{number_and_line};
-ghost use Rattle.session_core.specs.Outcomes.{IsRun, IsSession};
+ghost use Rattle.session_core.specs.Outcomes.{IsRunOfStreams, IsSession};
 ghost use Rattle.session_core.specs.Sessions.{refuses_in, session_of};
-ghost use Rattle.session_core.specs.Streams.{sink_state, source_state};
 ghost use Rattle.session_text.specs.declared.statement.Ending.TheVariants.{ReadFailed};
 
 use crate::stream::{Sink, Source};
@@ -78,8 +77,7 @@ pub fn run_streams<R: Read, W: Write>(
 ) -> Result<SessionEnd, SessionFault>
     requires source_unfailed { source.old.failed ≡ false }
     requires sink_unfailed { sink.old.failed ≡ false }
-    ensures run { IsRun options (source_state R.remaining source.old) (source_state R.remaining source.new)
-        (sink_state W.contents sink.old) (sink_state W.contents sink.new) result }
+    ensures run { IsRunOfStreams R.remaining W.contents options source.old source.new sink.old sink.new result }
     ensures told { AreTold source.new.failed sink.new.failed result }
     ensures same_reader { source.new.reader.ghost_name ≡ source.old.reader.ghost_name }
     ensures same_writer { sink.new.writer.ghost_name ≡ sink.old.writer.ghost_name }

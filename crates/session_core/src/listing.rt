@@ -1,16 +1,12 @@
 //! The lines that are not written yet, and which statements wrote them.
-ghost use Rattle.std.specs.Prelude.{◌≡◌, ◌<◌, ◌++◌, ℕ, [], Err, IfErr, List, OnErr, OnOk, false, length, take, true};
+ghost use Rattle.std.specs.Prelude.{◌≡◌, ◌++◌, [], IfErr, OnErr, OnOk, false, true};
 ghost use Rattle.std.specs.Io.KnownBytes.{Appends};
 ghost use Rattle.std.specs.List.{flat_map};
 ghost use Rattle.jcl_plan.specs.Lines.{text_of};
-ghost use Rattle.session_text.specs.declared.statement.Statement.{Statement};
-ghost use Rattle.session_core.specs.Listings.{StopsIn, past_limit};
-ghost use Rattle.session_core.specs.Marks.{AreMarks};
-ghost use Rattle.session_core.specs.Outcomes.{IsOutcome, WritesOutcome, is_write_fault};
-ghost use Rattle.session_core.specs.Sessions.{Session};
+ghost use Rattle.session_core.specs.Listings.{past_limit};
+ghost use Rattle.session_core.specs.Marks.{IsEndByMarks, IsFaultByMarks, IsLineAt};
+ghost use Rattle.session_core.specs.Outcomes.{is_write_fault};
 ghost use Rattle.session_core.specs.Streams.{sink_state};
-ghost use Rattle.run_options.specs.declared.Options.{Options};
-ghost use Rattle.session_core.specs.declared.SessionEnd.{SessionEnd};
 
 use crate::stream::Sink;
 use crate::transfer::write_text;
@@ -102,9 +98,8 @@ impl Listing {
         ensures text { OnOk result (self.new.text.kept ≡ []) }
         ensures marks { OnOk result (self.new.marks.items ≡ []) }
         ensures fault { OnErr result (is_write_fault result ≡ true) }
-        ensures err { IfErr result (λ fault. (o : Options) (s : Session) (before : List ℕ) →
-            AreMarks o s.stands (length before) before self.old.marks.items self.old.text.kept →
-            WritesOutcome {T = SessionEnd} o (sink_state W.contents sink.old) (sink_state W.contents sink.new) before s (Err fault)) }
+        ensures err { IfErr result
+            (IsFaultByMarks (sink_state W.contents sink.old) (sink_state W.contents sink.new) self.old.marks.items self.old.text.kept) }
         ensures failed { sink.new.failed ≡ is_write_fault result }
         ensures same_writer { sink.new.writer.ghost_name ≡ sink.old.writer.ghost_name }
     {
@@ -129,9 +124,8 @@ impl Listing {
     ) -> Result<SessionEnd, SessionFault>
         requires unfailed { sink.old.failed ≡ false }
         requires no_write_fault { is_write_fault outcome ≡ false }
-        ensures outcome { (o : Options) (s : Session) (before : List ℕ) → IsOutcome o s outcome (before ++ self.old.text.kept) →
-            AreMarks o s.stands (length before) before self.old.marks.items self.old.text.kept →
-            WritesOutcome o (sink_state W.contents sink.old) (sink_state W.contents sink.new) before s result }
+        ensures outcome { IsEndByMarks (sink_state W.contents sink.old) (sink_state W.contents sink.new)
+            self.old.marks.items self.old.text.kept outcome result }
         ensures written { is_write_fault result ≡ false → Appends (W.contents sink.old.writer.now) (W.contents sink.new.writer.now) self.old.text.kept }
         ensures failed { sink.new.failed ≡ is_write_fault result }
         ensures same_writer { sink.new.writer.ghost_name ≡ sink.old.writer.ghost_name }
@@ -167,8 +161,7 @@ fn write_lines(entries: &[Entry], text: &mut Draft) -> Result<(), AllocError>
 
 /// The line of the statement whose lines have the byte behind these.
 fn line_at(marks: &[Mark], taken: usize) -> usize
-    ensures { (o : Options) (stands : List Statement) (before text : List ℕ) → AreMarks o stands (length before) before marks.now text → taken < length text →
-        StopsIn o stands result (before ++ take taken text) }
+    ensures { IsLineAt marks.now taken result }
 {
     let mut line = 0;
     for mark in marks {

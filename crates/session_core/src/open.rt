@@ -5,10 +5,10 @@ ghost use Rattle.cb_queue.specs.RecordQueues.{empty_queue};
 ghost use Rattle.config_core.specs.Configs.{Configuration};
 ghost use Rattle.config_core.specs.Configured.{IsConfigured};
 ghost use Rattle.config_core.specs.Starts.{IsTakenApart};
-ghost use Rattle.sched_core.specs.Starting.{IsStarted};
-ghost use Rattle.session_core.specs.Opening.{IsOpened};
+ghost use Rattle.sched_core.specs.Starting.{OfEachTakenApart};
+ghost use Rattle.session_core.specs.Opening.{IsOpened, IsStartedWith};
 ghost use Rattle.session_core.specs.Outcomes.{IsOutcome, is_write_fault};
-ghost use Rattle.session_core.specs.Sessions.{refuses_in, session_behind};
+ghost use Rattle.session_core.specs.Sessions.{session_behind};
 ghost use Rattle.run_options.specs.declared.Options.{Options};
 ghost use Rattle.session_core.specs.declared.SessionEnd.{SessionEnd};
 
@@ -83,8 +83,7 @@ pub fn start<'c>(
 ) -> Result<System<'c, ChainStore>, AllocError>
     requires configured { (c : Configuration) × IsConfigured c × IsTakenApart c store fixed.now }
     requires empty { queue.queue ≡ empty_queue QUEUE_LAYOUT }
-    ensures { IfOk result (λ m. (c : Configuration) → IsConfigured c → IsTakenApart c store fixed.now →
-        IsStarted c (refuses_in options) options.views options.explains QUEUE_LAYOUT m) }
+    ensures { IfOk result (λ m. OfEachTakenApart store fixed.now (λ c. IsStartedWith options c m)) }
 {
     queue_layout_is_for_machine();
     let views = usize::from(options.views);

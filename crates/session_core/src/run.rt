@@ -1,16 +1,12 @@
 //! The events of the statements, and their lines.
-ghost use Rattle.std.specs.Prelude.{◌≡◌, [], Bool, OnErr, OnOk, drop, false, is_some, replicate, true};
-ghost use Rattle.cb_meaning.specs.declared.layout.TheConstants.{QUEUE_LAYOUT};
+ghost use Rattle.std.specs.Prelude.{◌≡◌, Bool, OnErr, OnOk, false, is_some, replicate, true};
 ghost use Rattle.session_input.specs.declared.statement.ConfigStatement.{ConfigStatement};
-ghost use Rattle.config_core.specs.Configs.{Configuration};
-ghost use Rattle.session_core.specs.Configuring.{IsConfiguredBy, late_in};
 ghost use Rattle.session_core.specs.Leaving.{IsLeft, ListsWhole, WritesWhole};
-ghost use Rattle.session_core.specs.Outcomes.{WritesOutcome, is_write_fault};
-ghost use Rattle.session_core.specs.Running.{AreApplied, AreAppliedInPart, IsApplied, StatementRuns, options_in};
-ghost use Rattle.session_core.specs.Sessions.{refuses_in, session_behind};
+ghost use Rattle.session_core.specs.Opening.{IsReadyToRun};
+ghost use Rattle.session_core.specs.Outcomes.{WritesSession, is_write_fault};
+ghost use Rattle.session_core.specs.Running.{AreApplied, AreAppliedInPart, IsApplied, StatementRunsIn, options_in};
 ghost use Rattle.session_core.specs.Streams.{sink_state};
 ghost use Rattle.session_text.specs.declared.statement.Says.TheVariants as says;
-ghost use Rattle.sched_core.specs.Starting.{IsStarted};
 ghost use Rattle.sched_core.specs.Systems.{IsNext, IsSameFixed};
 
 use crate::listing::{Listing, MOST_HELD, Mark};
@@ -75,8 +71,7 @@ pub fn run_statement(
     listing: &mut Listing,
 ) -> Result<(), SessionFault>
     requires late { (s : ConfigStatement) (has_end : Bool) → statement.now.says ≡ says.Config s has_end → is_some late ≡ true }
-    ensures runs { StatementRuns late system.old statement.now.line statement.now.says listing.old.marks.items listing.old.text.kept
-        result system.new listing.new.marks.items listing.new.text.kept }
+    ensures runs { StatementRunsIn late statement.now system.old listing.old result system.new listing.new }
     ensures left { ListsWhole system.old system.new listing.old.text.kept listing.new.text.kept }
     ensures fixed { IsSameFixed system.old system.new }
     ensures writes_none { is_write_fault result ≡ false }
@@ -111,10 +106,9 @@ pub fn run_from<W: Write>(
     system: &mut System<'_, ChainStore>,
     sink: &mut Sink<'_, W>,
 ) -> Result<SessionEnd, SessionFault>
-    requires configured { (c : Configuration) × IsConfiguredBy statements.now from c × (late ≡ late_in c (drop from statements.now))
-        × IsStarted c (refuses_in (options_in system.old.config)) system.old.config.most_views system.old.config.explains QUEUE_LAYOUT system.old }
+    requires configured { IsReadyToRun statements.now from late system.old }
     requires unfailed { sink.old.failed ≡ false }
-    ensures outcome { WritesOutcome (options_in system.old.config) (sink_state W.contents sink.old) (sink_state W.contents sink.new) [] (session_behind [] statements.now) result }
+    ensures outcome { WritesSession (options_in system.old.config) (sink_state W.contents sink.old) (sink_state W.contents sink.new) statements.now result }
     ensures left { is_write_fault result ≡ false → WritesWhole (sink_state W.contents sink.old) (sink_state W.contents sink.new) system.old system.new }
     ensures failed { sink.new.failed ≡ is_write_fault result }
     ensures same_writer { sink.new.writer.ghost_name ≡ sink.old.writer.ghost_name }
@@ -146,7 +140,7 @@ pub fn run<W: Write>(
     sink: &mut Sink<'_, W>,
 ) -> Result<SessionEnd, SessionFault>
     requires { sink.old.failed ≡ false }
-    ensures outcome { WritesOutcome options (sink_state W.contents sink.old) (sink_state W.contents sink.new) [] (session_behind [] statements.now) result }
+    ensures outcome { WritesSession options (sink_state W.contents sink.old) (sink_state W.contents sink.new) statements.now result }
     ensures failed { sink.new.failed ≡ is_write_fault result }
     ensures same_writer { sink.new.writer.ghost_name ≡ sink.old.writer.ghost_name }
 {

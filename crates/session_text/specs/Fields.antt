@@ -1,6 +1,6 @@
 -- The fields of a statement, and their values. (This profile)
-use Rattle.std.specs.Prelude.{ℕ, ◌+◌, Bool, true, false, not, ◌==◌, nat_eq, List, [], ◌∷◌, length, filter, take, take_while, drop, codes, Option, Some, None, is_none, if◌then◌else◌}
-use Rattle.std.specs.List.{position, slice_split, starts_with}
+use Rattle.std.specs.Prelude.{◌≡◌, ℕ, ◌+◌, Bool, true, false, not, ◌==◌, nat_eq, List, [], ◌∷◌, length, filter, take, take_while, drop, codes, Option, Some, None, is_none, if◌then◌else◌}
+use Rattle.std.specs.List.{list_any, position, slice_split, starts_with}
 use Rattle.std.specs.Str.{bytes_eq}
 use Rattle.jname_core.specs.Characters.{is_letter_or_digit}
 use Rattle.jname_core.specs.Decimals.{number_within}
@@ -72,3 +72,11 @@ times_in text = times_at (star_in text) text
 -- items in a list, with commas between them
 abbrev pub listed_in : List ℕ → List (List ℕ)
 listed_in text = slice_split (λ b. b == 44) text
+
+-- one of the items is no serial
+abbrev pub has_faulty_serial : List ℕ → Bool
+has_faulty_serial text = list_any is_no_serial (listed_in text)
+
+-- the items, each of which is a serial
+abbrev pub AreSerialsIn : List ℕ → List (List ℕ) → Type 0
+AreSerialsIn text serials = (serials ≡ listed_in text) × (has_faulty_serial text ≡ false)

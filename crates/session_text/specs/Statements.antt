@@ -1,5 +1,5 @@
 -- The statements of a session. (This profile)
-use Rattle.std.specs.Prelude.{ℕ, ◌+◌, ◌-◌, Bool, true, false, not, ◌&&◌, nat_le, List, [], ◌∷◌, length, take, codes, Option, Some, None, is_none, if◌then◌else◌}
+use Rattle.std.specs.Prelude.{◌≡◌, ℕ, ◌+◌, ◌-◌, ◌++◌, Bool, true, false, not, ◌&&◌, nat_le, List, [], ◌∷◌, length, take, codes, Option, Some, None, is_none, if◌then◌else◌}
 use Rattle.std.specs.List.{list_any, position}
 use Rattle.std.specs.Result.{result_ok}
 use Rattle.std.specs.Str.{bytes_eq}
@@ -261,3 +261,13 @@ statements_of ending text = statements_from ending 1 (lines_of ending text)
 -- the block that begins with line n and before these rows, and what stands behind it
 abbrev pub block_with : Ending → ℕ → Block → List (List ℕ) → List Statement
 block_with ending n block rows = block_to (position is_end rows) ending n block rows (behind_end ending (n + 1) rows)
+
+-- The block that begins with line n and before this text is taken: the rest of the text is left, and its first line is the next.
+abbrev pub TakesBlock : Ending → List Statement → ℕ → Block → List ℕ → List Statement → ℕ → List ℕ → Type 0
+TakesBlock ending before n block text after next rest =
+    after ++ statements_from ending next (lines_of ending rest) ≡ before ++ block_with ending n block (lines_of ending text)
+
+-- so is what begins with line n, which is this row
+abbrev pub TakesStatement : Ending → List Statement → ℕ → List ℕ → List ℕ → List Statement → ℕ → List ℕ → Type 0
+TakesStatement ending before n row text after next rest =
+    after ++ statements_from ending next (lines_of ending rest) ≡ before ++ statements_from ending n (row ∷ lines_of ending text)

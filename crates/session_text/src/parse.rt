@@ -2,7 +2,7 @@
 ghost use Rattle.std.specs.Prelude.{◌≡◌, ◌≤◌, ◌+◌, ◌++◌, ◌∷◌, [], drop, length, position, take, IfNone, IfOk, IfSome, None, OnOk, Some};
 ghost use Rattle.session_text.specs.Blocks.{block_says, open_says};
 ghost use Rattle.session_text.specs.Lines.{lines_of};
-ghost use Rattle.session_text.specs.Statements.{at_end, block_with, is_end, statements_from, statements_of};
+ghost use Rattle.session_text.specs.Statements.{TakesBlock, TakesStatement, at_end, block_with, is_end, statements_from, statements_of};
 
 use crate::begun::{opened, take_line, told_at_end, told_cut};
 use crate::fault::Fault;
@@ -74,8 +74,7 @@ fn push_block<'a>(
     ending: Ending,
 ) -> Result<Option<Place<'a>>, AllocError>
     requires { line + length text.now + 1 ≤ usize.MAX }
-    ensures next { IfOk result (λ r. IfSome r (λ next. out.new ++ statements_from ending next.line (lines_of ending next.rest.now)
-        ≡ out.old ++ block_with ending line block.now (lines_of ending text.now))) }
+    ensures next { IfOk result (λ r. IfSome r (λ next. TakesBlock ending out.old line block.now text.now out.new next.line next.rest.now)) }
     ensures last { IfOk result (λ r. IfNone r (out.new ≡ out.old ++ block_with ending line block.now (lines_of ending text.now))) }
     ensures lines { IfOk result (λ r. IfSome r (λ next. next.line + length next.rest.now ≤ line + 1 + length text.now)) }
     ensures shorter { IfOk result (λ r. IfSome r (λ next. length next.rest.now ≤ length text.now)) }
@@ -101,8 +100,7 @@ fn push_statement<'a>(
     ending: Ending,
 ) -> Result<Option<Place<'a>>, AllocError>
     requires { line + length text.now + 1 ≤ usize.MAX }
-    ensures next { IfOk result (λ r. IfSome r (λ next. out.new ++ statements_from ending next.line (lines_of ending next.rest.now)
-        ≡ out.old ++ statements_from ending line (row.now ∷ lines_of ending text.now))) }
+    ensures next { IfOk result (λ r. IfSome r (λ next. TakesStatement ending out.old line row.now text.now out.new next.line next.rest.now)) }
     ensures last { IfOk result (λ r. IfNone r (out.new ≡ out.old ++ statements_from ending line (row.now ∷ lines_of ending text.now))) }
     ensures lines { IfOk result (λ r. IfSome r (λ next. next.line + length next.rest.now ≤ line + 1 + length text.now)) }
     ensures shorter { IfOk result (λ r. IfSome r (λ next. length next.rest.now ≤ length text.now)) }

@@ -1,8 +1,6 @@
 //! The values of fields.
-ghost use Rattle.std.specs.Prelude.{◌≡◌, ◌==◌, ◌<◌, IfOk, IfSome, MatchOption, false, true, length, position};
-ghost use Rattle.std.specs.List.{list_any};
-ghost use Rattle.jname_core.specs.Faults.{is_no_serial};
-ghost use Rattle.session_text.specs.Fields.{base_in, before_star, class_of, listed_in, name_in, serial_in, set_name_in, star_in, times_in};
+ghost use Rattle.std.specs.Prelude.{◌≡◌, ◌==◌, ◌<◌, IfOk, IfSome, MatchOption, true, length, position};
+ghost use Rattle.session_text.specs.Fields.{AreSerialsIn, base_in, before_star, class_of, has_faulty_serial, name_in, serial_in, set_name_in, star_in, times_in};
 
 use jname_core::character::is_letter_or_digit;
 use jname_core::decimal::number_within;
@@ -98,9 +96,7 @@ pub(crate) fn comma_in(text: &[u8]) -> Option<usize>
 
 /// The serials between commas, or none where one is no serial.
 pub(crate) fn serials_in(alloc: Global, text: &[u8]) -> Result<Option<Listed<Serial>>, AllocError>
-    ensures { IfOk result (λ r. MatchOption r
-        (list_any is_no_serial (listed_in text.now) ≡ true)
-        (λ l. (l ≡ listed_in text.now) × (list_any is_no_serial (listed_in text.now) ≡ false))) }
+    ensures { IfOk result (λ r. MatchOption r (has_faulty_serial text.now ≡ true) (λ l. AreSerialsIn text.now l)) }
 {
     let mut serials = Listed::empty(alloc);
     let mut rest = text;

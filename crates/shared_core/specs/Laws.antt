@@ -9,6 +9,11 @@ use Rattle.shared_core.specs.Extents.{FollowOn}
 use Rattle.shared_core.specs.Shown.{mounted_in, world_store_of}
 use Rattle.shared_core.specs.Tracks.{ConservesTracks, NothingKept, VolumesAddUp, kept_shown}
 
+-- where nothing changed that a job does not see, it wrote what it sees
+abbrev pub JobWritesWhatItSees : Type 0
+JobWritesWhatItSees = (job : ℕ) (old new : SharedStore) → others_of job new ≡ others_of job old →
+    world_store_of new ≡ put_back job (world_store_of old) (seen job (world_store_of new))
+
 -- where the sets that others alone see are as before, a job wrote what it sees
 abbrev pub SetsOfOthersStay : Type 0
 SetsOfOthersStay = (job : ℕ) (old new : SharedStore) → (others_of job new).set ≡ (others_of job old).set →

@@ -1,5 +1,5 @@
 -- Where a volume is mounted, and what is written on one volume of all.
-use Rattle.std.specs.Prelude.{◌≡◌, ℕ, ◌<◌, ◌&&◌, Bool, List, length, map, Option, Some, None, slice_get, slice_set, if◌then◌else◌}
+use Rattle.std.specs.Prelude.{◌≡◌, ℕ, ◌<◌, ◌&&◌, Bool, true, List, length, map, Option, Some, None, slice_get, slice_set, if◌then◌else◌}
 use Rattle.std.specs.FinMap.{get}
 use Rattle.std.specs.Option.{option_map}
 use Rattle.std.specs.Str.{bytes_eq}
@@ -7,10 +7,12 @@ use Rattle.extent_core.specs.declared.extent.Extent.{Extent}
 use Rattle.vtoc_core.specs.declared.entry.SetKey.{SetKey}
 use Rattle.vtoc_core.specs.Entries.{same_key}
 use Rattle.jcl_meaning.specs.declared.store.DataSet.{DataSet}
+use Rattle.jcl_meaning.specs.Programs.{grown_by}
 use Rattle.mount_core.specs.declared.place.KeptPlace.{KeptPlace}
 use Rattle.mount_core.specs.Mounts.{MountedState}
+use Rattle.store_core.specs.Actions.{new_set_of}
 use Rattle.shared_core.specs.Extents.{GiveUpOn, StayOn, TakeOn}
-use Rattle.shared_core.specs.Rooms.{all_tracks, is_same_place, room_of}
+use Rattle.shared_core.specs.Rooms.{all_tracks, holds_more, holds_new, is_same_place, room_of}
 use Rattle.shared_core.specs.Shown.{kept_extents, mounted_in, set_on}
 
 -- a volume is mounted under a serial
@@ -44,6 +46,11 @@ KeepsOthersOn old new place = (at : KeptPlace) → get new.kept at ≡ if is_sam
 abbrev pub ChangesOn : (DataSet → DataSet) → MountedState → MountedState → SetKey → Type 0
 ChangesOn f old new k = WritesOn old new k (option_map f (set_on (Some old) k)) × KeepsOn old new
 
+-- a set without records is made on a volume that has room for it: what was kept for it at its place is kept no more
+abbrev pub MakesSetOn : MountedState → MountedState → SetKey → KeptPlace → ℕ → Option ℕ → Type 0
+MakesSetOn old new k place tracks expires =
+    WritesOn old new k (Some (new_set_of tracks expires)) × KeepsOthersOn old new place × (holds_new (Some k) (Some old) place tracks ≡ true)
+
 -- The same among all volumes, on that of a serial.
 pub record Writes (old new : List MountedState) (k : SetKey) (serial : List ℕ) (there : Option DataSet) : Type 0 where
   pub set : (q : SetKey) (v : List ℕ) →
@@ -59,6 +66,15 @@ KeepsOthers old new serial place = (v : List ℕ) (at : KeptPlace) →
 
 abbrev pub Changes : (DataSet → DataSet) → List MountedState → List MountedState → SetKey → List ℕ → Type 0
 Changes f old new k serial = Writes old new k serial (option_map f (set_on (mounted_in old serial) k)) × Keeps old new
+
+-- a set is made so on the volume of a serial
+abbrev pub MakesSet : List MountedState → List MountedState → SetKey → List ℕ → KeptPlace → ℕ → Option ℕ → Type 0
+MakesSet old new k serial place tracks expires = Writes old new k serial (Some (new_set_of tracks expires)) × KeepsOthers old new serial place
+    × (holds_new (Some k) (mounted_in old serial) place tracks ≡ true)
+
+-- a set has so many tracks more on a volume that has room for them
+abbrev pub GrowsSet : ℕ → List MountedState → List MountedState → SetKey → List ℕ → Type 0
+GrowsSet tracks old new k serial = Changes (grown_by tracks) old new k serial × (holds_more (Some k) (mounted_in old serial) tracks ≡ true)
 
 -- what becomes of the extents on each volume
 abbrev pub Stay : List MountedState → List MountedState → Type 0

@@ -3,11 +3,10 @@ ghost use Rattle.std.specs.Prelude.{◌≡◌, ◌↔◌, None, Some, Err, IfNon
 ghost use Rattle.std.specs.List.{position};
 ghost use Rattle.jcl_meaning.specs.Programs.{appended, emptied, grown_by};
 ghost use Rattle.jcl_meaning.specs.Stores.{cut};
-ghost use Rattle.store_core.specs.Actions.{new_set_of};
 ghost use Rattle.shared_core.specs.Rooms.{holds_more, holds_new};
 ghost use Rattle.shared_core.specs.Extents.{GiveUpOn, StayOn, TakeOn};
 ghost use Rattle.shared_core.specs.Shown.{kept_extents, set_on, mounted_in};
-ghost use Rattle.shared_core.specs.Writes.{Changes, ChangesOn, GiveUpTracks, IsFirstMounted, Keeps, KeepsOn, KeepsOthers, KeepsOthersOn, Stay, TakeTracks, TakeTracksAt, Writes, WritesOn, is_mounted};
+ghost use Rattle.shared_core.specs.Writes.{Changes, ChangesOn, GiveUpTracks, GrowsSet, IsFirstMounted, Keeps, KeepsOn, MakesSet, MakesSetOn, Stay, TakeTracks, TakeTracksAt, Writes, WritesOn, is_mounted};
 
 use jcl_plan::plan::Record;
 use jname_core::serial::Serial;
@@ -165,8 +164,7 @@ fn make_on(
     expires: Option<u32>,
 ) -> Result<(), RoomFault>
     requires { set_on (Some mounted.old) key.now ≡ None }
-    ensures ok { OnOk result (WritesOn mounted.old mounted.new key.now (Some (new_set_of tracks expires)) × KeepsOthersOn mounted.old mounted.new place.now
-        × (holds_new (Some key.now) (Some mounted.old) place.now tracks ≡ true)) }
+    ensures ok { OnOk result (MakesSetOn mounted.old mounted.new key.now place.now tracks expires) }
     ensures extents { OnOk result (TakeOn (kept_extents (Some mounted.old) place.now) (Some mounted.old) (Some mounted.new)) }
     ensures refused { result ≡ Err RoomFault.NotGranted ↔ holds_new (Some key.now) (Some mounted.old) place.now tracks ≡ false }
     ensures err { OnErr result (mounted.new ≡ mounted.old) }
@@ -191,8 +189,7 @@ pub(crate) fn make_set(
     expires: Option<u32>,
 ) -> Result<(), RoomFault>
     requires { set_on (mounted_in volumes.old serial) key.now ≡ None }
-    ensures ok { OnOk result (Writes volumes.old volumes.new key.now serial (Some (new_set_of tracks expires)) × KeepsOthers volumes.old volumes.new serial place.now
-        × (holds_new (Some key.now) (mounted_in volumes.old serial) place.now tracks ≡ true)) }
+    ensures ok { OnOk result (MakesSet volumes.old volumes.new key.now serial place.now tracks expires) }
     ensures extents { OnOk result (TakeTracksAt serial place.now volumes.old volumes.new) }
     ensures refused { result ≡ Err RoomFault.NotGranted ↔ holds_new (Some key.now) (mounted_in volumes.old serial) place.now tracks ≡ false }
     ensures err { OnErr result (volumes.new ≡ volumes.old) }
@@ -231,8 +228,7 @@ pub(crate) fn grow_set(
     key: &SetKey,
     tracks: u16,
 ) -> Result<(), RoomFault>
-    ensures ok { OnOk result (Changes (grown_by tracks) volumes.old volumes.new key.now serial
-        × (holds_more (Some key.now) (mounted_in volumes.old serial) tracks ≡ true)) }
+    ensures ok { OnOk result (GrowsSet tracks volumes.old volumes.new key.now serial) }
     ensures extents { OnOk result (TakeTracks volumes.old volumes.new) }
     ensures refused { result ≡ Err RoomFault.NotGranted ↔ holds_more (Some key.now) (mounted_in volumes.old serial) tracks ≡ false }
     ensures err { OnErr result (volumes.new ≡ volumes.old) }

@@ -1,5 +1,5 @@
 -- Where the sets of a spool lie, in the order in which they entered.
-use Rattle.std.specs.Prelude.{◌≡◌, ◌≢◌, ℕ, ◌+◌, ◌<◌, ◌≤◌, ◌==◌, ◌&&◌, Bool, true, List, [], length, filter, map, All, AllPairs, get_or, slice_get, Some, false}
+use Rattle.std.specs.Prelude.{◌≡◌, ◌≢◌, ℕ, ◌+◌, ◌<◌, ◌≤◌, ◌==◌, ◌&&◌, ◌++◌, Bool, true, List, [], length, filter, map, All, AllPairs, get_or, slice_get, Some, false}
 use Rattle.std.specs.Option.{unwrap_or}
 use Rattle.slab.specs.Slab.{HasRoomFor, Slab, get, slab_len}
 use Rattle.machine_meaning.specs.declared.machine.SpoolSet.{SpoolSet}
@@ -18,6 +18,11 @@ sets_at sets places = map (λ (p : Place). set_under sets p.key) places
 -- the places whose sets are not written out
 abbrev pub filled_places : List Place → List Place
 filled_places places = filter (λ (p : Place). p.filled) places
+
+-- of these sets those with lines lie after the sets that lay there before
+abbrev pub AddsSets : Slab SpoolSet → List Place → List SpoolSet → Slab SpoolSet → List Place → Type 0
+AddsSets sets places added sets_now places_now =
+    sets_at sets_now (filled_places places_now) ≡ sets_at sets (filled_places places) ++ filter has_lines added
 
 -- a set of the class lies there
 abbrev pub is_of : ℕ → Place → Bool
@@ -47,6 +52,11 @@ pub record IsFirst (places : List Place) (class index : ℕ) : Type 0 where
 -- where the queue of each class begins
 abbrev pub AreStarts : List ℕ → List Place → Type 0
 AreStarts starts places = (class : ℕ) (d : ℕ) → class < length starts → (get_or starts class d ≤ length places) × NoneBefore class (get_or starts class d) places
+
+-- The start of a class is moved: wherever none of its sets lies before the new one, all starts are right again.
+abbrev pub MovesStart : ℕ → ℕ → List ℕ → List ℕ → Type 0
+MovesStart class start old new =
+    (places : List Place) → start ≤ length places → NoneBefore class start places → AreStarts old places → AreStarts new places
 
 -- so many sets more may be entered without memory, where the list of places has this length and this room
 abbrev pub HasRoom : Slab SpoolSet → ℕ → ℕ → ℕ → Type 0

@@ -1,8 +1,8 @@
 //! The spool.
-ghost use Rattle.std.specs.Prelude.{ℕ, List, ◌≡◌, ◌+◌, ◌≤◌, ◌∷◌, ◌++◌, [], IfNone, IfSome, OnErr, OnOk, filter, length, map, vec_capacity};
-ghost use Rattle.machine_meaning.specs.Spools.{HasNoSet, Takes, has_lines, output_set, sets_of, with_sets};
+ghost use Rattle.std.specs.Prelude.{ℕ, List, ◌≡◌, ◌+◌, ◌≤◌, ◌∷◌, ◌++◌, [], IfNone, IfSome, OnErr, OnOk, length, map, vec_capacity};
+ghost use Rattle.machine_meaning.specs.Spools.{HasNoSet, Takes, output_set, sets_of, with_sets};
 ghost use Rattle.spool_core.specs.declared.spool.Place.{Place};
-ghost use Rattle.spool_core.specs.Places.{AreStarts, HasRoom, IsFirst, NoneBefore, Stand, TakesRoom, filled_places, sets_at};
+ghost use Rattle.spool_core.specs.Places.{AddsSets, AreStarts, HasRoom, IsFirst, MovesStart, NoneBefore, Stand, TakesRoom, filled_places};
 ghost use Rattle.spool_core.specs.Sets.{has_set};
 
 use crate::queued::Queued;
@@ -151,8 +151,7 @@ fn start_of(starts: &[usize], class: u8) -> usize
 
 /// From here on it begins at this place.
 fn set_start(starts: &mut Vec<usize>, class: u8, start: usize)
-    ensures { (places : List Place) → start ≤ length places → NoneBefore class start places → AreStarts starts.old.items places
-        → AreStarts starts.new.items places }
+    ensures { MovesStart class start starts.old.items starts.new.items }
 {
     if usize::from(class) < starts.len() {
         starts[usize::from(class)] = start;
@@ -164,7 +163,7 @@ fn put(sets: &mut Slab<Queued>, places: &mut Vec<Place>, queued: Queued)
     requires stand { Stand sets.old (filled_places places.old.items) }
     requires room { HasRoom sets.old (length places.old.items) (vec_capacity places.old) 1 }
     ensures stand { Stand sets.new (filled_places places.new.items) }
-    ensures entered { sets_at sets.new (filled_places places.new.items) ≡ sets_at sets.old (filled_places places.old.items) ++ filter has_lines (queued ∷ []) }
+    ensures entered { AddsSets sets.old places.old.items (queued ∷ []) sets.new places.new.items }
     ensures starts { (starts : List ℕ) → AreStarts starts places.old.items → AreStarts starts places.new.items }
     ensures sets { TakesRoom sets.old sets.new }
     ensures places { length places.new.items ≤ length places.old.items + 1 }
@@ -186,8 +185,7 @@ fn put_outputs(sets: &mut Slab<Queued>, places: &mut Vec<Place>, job: u16, outpu
     requires stand { Stand sets.old (filled_places places.old.items) }
     requires room { HasRoom sets.old (length places.old.items) (vec_capacity places.old) (length outputs) }
     ensures stand { Stand sets.new (filled_places places.new.items) }
-    ensures entered { sets_at sets.new (filled_places places.new.items)
-        ≡ sets_at sets.old (filled_places places.old.items) ++ filter has_lines (map (output_set job) outputs) }
+    ensures entered { AddsSets sets.old places.old.items (map (output_set job) outputs) sets.new places.new.items }
     ensures starts { (starts : List ℕ) → AreStarts starts places.old.items → AreStarts starts places.new.items }
 {
     for output in outputs.into_vec() {

@@ -41,6 +41,10 @@ pub record Passes (own : Own) (from to : List Action) : Type 0 where
   pub same : (answers : Action → Own → Answers) (fixed : Fixed) (seen : Store) (count : ℕ) →
       advance answers fixed from (state_in seen own) count ≡ advance answers fixed to (state_in seen own) (count + passed)
 
+-- so from one place of the agenda to another
+abbrev pub PassesTo : (List ℕ → List Move) → List StepPlan → Own → Todo → Todo → Type 0
+PassesTo moves steps own from to = Passes own (agenda_at moves steps from) (agenda_at moves steps to)
+
 -- the first action from a place on that is not passed over, and the place behind it
 pub record Finds (moves : List ℕ → List Move) (steps : List StepPlan) (own : Own) (place : Todo) (it : Task) (behind : Todo) : Type 0 where
   pub passes : Passes own (agenda_at moves steps place) (action_of steps it ∷ agenda_at moves steps behind)

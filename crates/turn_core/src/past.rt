@@ -1,8 +1,7 @@
 //! Stretches of a job's agenda that a turn passes over at once.
 ghost use Rattle.std.specs.Prelude.{◌≡◌, ◌<◌, ◌≤◌, ℕ, IfSome, IsTrue, false, length, true};
 ghost use Rattle.jcl_meaning.specs.Programs.{moves_of};
-ghost use Rattle.turn_core.specs.Passing.{Passes};
-ghost use Rattle.turn_core.specs.Places.{agenda_at};
+ghost use Rattle.turn_core.specs.Passing.{PassesTo};
 ghost use Rattle.turn_core.specs.declared.todo.Todo.TheVariants as todo;
 
 use crate::todo::Todo;
@@ -27,10 +26,8 @@ fn requests_end<T: JobText>(
     step: usize,
 ) -> Option<Todo>
     requires { T.reads text.now }
-    ensures asks { IfSome result (λ to. (r : ℕ) → Passes own.now (agenda_at (moves_of programs.now) (T.plan text.now).steps (todo.Ask step r))
-        (agenda_at (moves_of programs.now) (T.plan text.now).steps to)) }
-    ensures receives { IfSome result (λ to. (r : ℕ) → Passes own.now (agenda_at (moves_of programs.now) (T.plan text.now).steps (todo.Receive step r))
-        (agenda_at (moves_of programs.now) (T.plan text.now).steps to)) }
+    ensures asks { IfSome result (λ to. (r : ℕ) → PassesTo (moves_of programs.now) (T.plan text.now).steps own.now (todo.Ask step r) to) }
+    ensures receives { IfSome result (λ to. (r : ℕ) → PassesTo (moves_of programs.now) (T.plan text.now).steps own.now (todo.Receive step r) to) }
 {
     if step >= text.step_count() {
         return None;
@@ -58,8 +55,7 @@ fn has_disposed<T: JobText>(text: &T, own: &Own, step: usize, dd: usize) -> bool
 /// The place up to which a turn passes over all actions, as far as is seen at once.
 pub(crate) fn past<T: JobText>(text: &T, programs: &ProgramLibrary, own: &Own, place: Todo) -> Todo
     requires { T.reads text.now }
-    ensures { Passes own.now (agenda_at (moves_of programs.now) (T.plan text.now).steps place)
-        (agenda_at (moves_of programs.now) (T.plan text.now).steps result) }
+    ensures { PassesTo (moves_of programs.now) (T.plan text.now).steps own.now place result }
 {
     match place {
         Todo::Start { .. } => place,

@@ -1,8 +1,6 @@
 //! A job's plan, with what was found of it before.
 ghost use Rattle.std.specs.Prelude.{◌≡◌, IfOk, IfSome, OnErr, OnOk};
-ghost use Rattle.jcl_meaning.specs.Stores.{store_of};
-ghost use Rattle.path_core.specs.Starts.{fixed_from};
-ghost use Rattle.path_meaning.specs.Verdicts.{IsFree};
+ghost use Rattle.verdict_core.specs.Known.{IsFreeFrom};
 
 use crate::same::is_same_start;
 use jcl_meaning::state::Place;
@@ -56,8 +54,7 @@ impl KnownPlan {
         alloc: Global,
         start: &StartView,
     ) -> Result<Option<Vec<Place>>, AllocError>
-        ensures { IfOk result (λ made. IfSome made (λ places.
-            IsFree (fixed_from start.now self.now) self.now (store_of start.now.store) start.now.most_views places.items)) }
+        ensures { IfOk result (λ made. IfSome made (λ places. IsFreeFrom self.now start.now places.items)) }
     {
         match &self.found {
             Some(found) => {
@@ -79,7 +76,7 @@ impl KnownPlan {
         start: StartView,
         made: &[Place],
     ) -> Result<(), AllocError>
-        requires { IsFree (fixed_from start self.old) self.old (store_of start.store) start.most_views made.now }
+        requires { IsFreeFrom self.old start made.now }
         ensures { self.new ≡ self.old }
     {
         let made = Vec::from_slice(alloc, made)?;

@@ -1,18 +1,13 @@
 //! What may become of a job in the store of all jobs.
-ghost use Rattle.std.specs.Prelude.{◌≡◌, Bool, IfOk, [], ℕ};
-ghost use Rattle.jcl_plan.specs.declared.plan.JobPlan.{JobPlan};
+ghost use Rattle.std.specs.Prelude.{◌≡◌, IfOk, []};
 ghost use Rattle.jcl_meaning.specs.Names.{names_of};
 ghost use Rattle.jcl_meaning.specs.Resolutions.{meanings_of};
-ghost use Rattle.jcl_meaning.specs.Solo.{fixed_in};
-ghost use Rattle.jcl_meaning.specs.States.{Fixed};
 ghost use Rattle.jcl_meaning.specs.WellFormed.{IsWellFormedPlan};
 ghost use Rattle.part_laws.specs.Keeping.{HasSoundGroups};
-ghost use Rattle.jcl_meaning.specs.Stores.{Store, store_of};
+ghost use Rattle.jcl_meaning.specs.Stores.{store_of};
 ghost use Rattle.path_core.specs.Starts.{fixed_from};
-ghost use Rattle.path_meaning.specs.Verdicts.{IsFree};
-ghost use Rattle.place_core.specs.Placings.{serials_of};
 ghost use Rattle.shared_core.specs.Shown.{world_store_of};
-ghost use Rattle.verdict_core.specs.Judging.{IsFound, path_of};
+ghost use Rattle.verdict_core.specs.Judging.{IsFound, IsFoundInStore, IsFoundWhereFree, path_of};
 ghost use Rattle.world_meaning.specs.Lenses.{seen};
 
 use crate::known::KnownPlan;
@@ -104,8 +99,7 @@ fn remember(
 
 /// A job that is free makes its sets at these places.
 fn free_at(alloc: Global, made: Vec<Place>) -> Finding
-    ensures { (fixed : Fixed) (plan : JobPlan) (store : Store) (most_views : ℕ) (explains : Bool) → IsFree fixed plan store most_views made.items →
-        IsFound fixed plan store most_views explains result }
+    ensures { IsFoundWhereFree made.items result }
 {
     Finding {
         verdict: Verdict::Safe(made),
@@ -139,8 +133,7 @@ fn find(
 
 /// What is told of a job that is free and makes no set.
 fn free(alloc: Global) -> Finding
-    ensures { (fixed : Fixed) (plan : JobPlan) (store : Store) (most_views : ℕ) (explains : Bool) → IsFree fixed plan store most_views [] →
-        IsFound fixed plan store most_views explains result }
+    ensures { IsFoundWhereFree [] result }
 {
     free_at(alloc, Vec::new(alloc))
 }
@@ -161,8 +154,7 @@ pub fn verdict_in(
     requires plan { IsWellFormedPlan known.old }
     requires groups { HasSoundGroups (seen job (world_store_of store.now)) }
     requires meanings { meanings.now ≡ meanings_of (seen job (world_store_of store.now)) known.old }
-    ensures found { IfOk result (IsFound (fixed_in (serials_of store.now.volumes) (seen job (world_store_of store.now)) known.old places.now date) known.old
-        (seen job (world_store_of store.now)) most_views explains) }
+    ensures found { IfOk result (IsFoundInStore store.now job known.old places.now date most_views explains) }
     ensures same { known.new ≡ known.old }
 {
     if is_plainly_free(known.plan(), store, job, meanings, most_views) {
