@@ -14,7 +14,9 @@ use Rattle.session_core.specs.declared.SessionFault.{SessionFault}
 use Rattle.session_core.specs.declared.SessionFault.TheVariants.{Stopped, WriteFailed, Memory}
 use Rattle.session_core.specs.Failures.{AreTold}
 use Rattle.session_core.specs.Outcomes.{IsRun}
-use Rattle.session_core.specs.Streams.{SinkState, SourceState}
+use Rattle.session_core.specs.Streams.{SinkState, SourceState, sink_state, source_state}
+use Rattle.session_core.specs.declared.stream.Sink.{Sink}
+use Rattle.session_core.specs.declared.stream.Source.{Source}
 use Rattle.session_text.specs.FaultNumbers.{number_of}
 use Rattle.mvt_main.specs.declared.report.Message.{Message}
 use Rattle.mvt_main.specs.declared.report.Message.TheVariants.{Nothing, Fault, OutOfMemory}
@@ -44,6 +46,12 @@ pub record IsReported (o : Options) (source source_after : SourceState) (sink si
   pub failures : AreTold source_after.failed sink_after.failed outcome
   pub told : answer ≡ reported outcome
 
+-- the same of a source and a sink
+abbrev pub ReportsRun : {R W : Type 0} → (R → Option (List ℕ)) → (W → Option (List ℕ)) → Options → Source R → Source R → Sink W → Sink W
+    → ℕ × Message → Type 0
+ReportsRun remaining contents o source source_after sink sink_after answer =
+    IsReported o (source_state remaining source) (source_state remaining source_after) (sink_state contents sink) (sink_state contents sink_after) answer
+
 -- A session was run with these options, and what is told of it is said, where all of that was written. Before it stands from where a
 -- session is read, where that is a terminal.
 pub record EndsSession (o : Options) (at_terminal : Bool) (source source_after : SourceState) (sink sink_after : SinkState)
@@ -51,6 +59,13 @@ pub record EndsSession (o : Options) (at_terminal : Bool) (source source_after :
   pub message : Message
   pub reported : IsReported o source source_after sink sink_after (answer.status, message)
   pub said : OnTrue answer.said (Appends errors errors_after (prompt_of (codes "mvt") at_terminal ++ said_of message))
+
+-- the same of a source, a sink and the stream of errors
+abbrev pub SaysEnd : {R W E : Type 0} → (R → Option (List ℕ)) → (W → Option (List ℕ)) → (E → Option (List ℕ)) → Options → Bool
+    → Source R → Source R → Sink W → Sink W → E → E → Ended → Type 0
+SaysEnd remaining contents said o at_terminal source source_after sink sink_after errors errors_after answer =
+    EndsSession o at_terminal (source_state remaining source) (source_state remaining source_after) (sink_state contents sink) (sink_state contents sink_after)
+    (said errors) (said errors_after) answer
 
 -- The program ended: the words were read, and with the options that they ask for a session was run; or they ask for none, and neither
 -- stream was called.
@@ -67,3 +82,10 @@ pub record IsEnded (words : List Text) (at_terminal : Bool) (source source_after
   pub read : Result Asked Error
   pub read_so : IsRead (codes "mvt") [] words read
   pub ends : EndsAs read at_terminal source source_after sink sink_after errors errors_after answer
+
+-- so it ends over a source, a sink and the stream of errors
+abbrev pub RunsMvt : {R W E : Type 0} → (R → Option (List ℕ)) → (W → Option (List ℕ)) → (E → Option (List ℕ)) → List Text → Bool
+    → Source R → Source R → Sink W → Sink W → E → E → Ended → Type 0
+RunsMvt remaining contents said words at_terminal source source_after sink sink_after errors errors_after answer =
+    IsEnded words at_terminal (source_state remaining source) (source_state remaining source_after) (sink_state contents sink) (sink_state contents sink_after)
+    (said errors) (said errors_after) answer

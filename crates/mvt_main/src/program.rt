@@ -2,8 +2,7 @@
 ghost use Rattle.std.specs.Prelude.{◌≡◌, [], codes, false, map};
 ghost use Rattle.std.specs.Bool.{OnTrue};
 ghost use Rattle.std.specs.Io.KnownBytes.{Appends};
-ghost use Rattle.session_core.specs.Streams.{sink_state, source_state};
-ghost use Rattle.mvt_main.specs.Programs.{EndsSession, IsEnded, said_of};
+ghost use Rattle.mvt_main.specs.Programs.{RunsMvt, SaysEnd, said_of};
 
 use crate::report::{Message, session_report};
 use command_line::ended::{Ended, end_unrun, prompt};
@@ -53,8 +52,8 @@ fn end_session<R: Read, W: Write, E: Write>(
 ) -> Ended
     requires source_unfailed { source.old.failed ≡ false }
     requires sink_unfailed { sink.old.failed ≡ false }
-    ensures { EndsSession options at_terminal (source_state R.remaining source.old) (source_state R.remaining source.new)
-        (sink_state W.contents sink.old) (sink_state W.contents sink.new) (E.contents errors.old) (E.contents errors.new) result }
+    ensures { SaysEnd R.remaining W.contents E.contents options at_terminal source.old source.new sink.old sink.new
+        errors.old errors.new result }
 {
     let prompted = prompt(errors, "mvt", at_terminal);
     let (status, message) = session_report(alloc, source, sink, options);
@@ -77,8 +76,8 @@ pub fn run_program<S: AsStr, R: Read, W: Write, E: Write>(
 ) -> Ended
     requires source_unfailed { source.old.failed ≡ false }
     requires sink_unfailed { sink.old.failed ≡ false }
-    ensures { IsEnded (map S.text words.now) at_terminal (source_state R.remaining source.old) (source_state R.remaining source.new)
-        (sink_state W.contents sink.old) (sink_state W.contents sink.new) (E.contents errors.old) (E.contents errors.new) result }
+    ensures { RunsMvt R.remaining W.contents E.contents (map S.text words.now) at_terminal source.old source.new sink.old sink.new
+        errors.old errors.new result }
 {
     match read_words(alloc, &mvt(), words) {
         Ok(asked) => end_session(alloc, at_terminal, asked.options, source, sink, errors),

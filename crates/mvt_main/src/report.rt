@@ -1,7 +1,6 @@
 //! What the program ends with: a status, and what it says on standard error.
 ghost use Rattle.std.specs.Prelude.{◌≡◌, Some, false};
-ghost use Rattle.session_core.specs.Streams.{sink_state, source_state};
-ghost use Rattle.mvt_main.specs.Programs.{IsReported, reported, text_of};
+ghost use Rattle.mvt_main.specs.Programs.{ReportsRun, reported, text_of};
 
 use command_line::ended::{ALL_READ, SESSION_FAULT, WANT_OF_MEMORY};
 use run_options::Options;
@@ -54,8 +53,7 @@ pub fn session_report<R: Read, W: Write>(
 ) -> (u8, Message)
     requires source_unfailed { source.old.failed ≡ false }
     requires sink_unfailed { sink.old.failed ≡ false }
-    ensures { IsReported options (source_state R.remaining source.old) (source_state R.remaining source.new)
-        (sink_state W.contents sink.old) (sink_state W.contents sink.new) result }
+    ensures { ReportsRun R.remaining W.contents options source.old source.new sink.old sink.new result }
 {
     let outcome = run_streams(alloc, source, sink, options);
     report(outcome)

@@ -1,6 +1,10 @@
 -- What the program ends with. (This profile)
-use Rattle.std.specs.Prelude.{◌≡◌, ◌⊎◌, ℕ, Bool, true, false, List, Result, Ok, Err}
-use Rattle.session_core.specs.Streams.{SinkState, SourceState}
+use Rattle.std.specs.Prelude.{◌≡◌, ◌⊎◌, ℕ, Bool, true, false, List, codes, Option, Result, Ok, Err}
+use Rattle.command_line.specs.CommandLines.{has_text, texts}
+use Rattle.command_line.specs.declared.options.Asked.{Asked}
+use Rattle.session_core.specs.Streams.{SinkState, SourceState, sink_state, source_state}
+use Rattle.session_core.specs.declared.stream.Sink.{Sink}
+use Rattle.session_core.specs.declared.stream.Source.{Source}
 use Rattle.run_options.specs.declared.Options.{Options}
 use Rattle.session_core.specs.declared.SessionEnd.{SessionEnd}
 use Rattle.session_core.specs.declared.SessionFault.{SessionFault}
@@ -46,3 +50,9 @@ pub record PlaysAsText (o : Options) (source source_after : SourceState) (sink s
 abbrev pub PlaysAsAsked : Bool → Options → SourceState → SourceState → SinkState → SinkState → ℕ → Type 0
 PlaysAsAsked true o source source_after sink sink_after status = PlaysAsText o source source_after sink sink_after status
 PlaysAsAsked false o source source_after sink sink_after status = Plays o source source_after sink sink_after status
+
+-- the same of a source and a sink, as the command line asks
+abbrev pub RunsAsAsked : {R W : Type 0} → (R → Option (List ℕ)) → (W → Option (List ℕ)) → Asked → Source R → Source R → Sink W → Sink W → ℕ → Type 0
+RunsAsAsked remaining contents asked source source_after sink sink_after status =
+    PlaysAsAsked (has_text (codes "events") (texts asked.given.items)) asked.options
+    (source_state remaining source) (source_state remaining source_after) (sink_state contents sink) (sink_state contents sink_after) status

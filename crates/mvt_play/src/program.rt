@@ -1,8 +1,6 @@
 //! What the program does, over its streams: its status, and what it says on the stream of errors.
-ghost use Rattle.std.specs.Prelude.{◌≡◌, codes, false};
-ghost use Rattle.command_line.specs.CommandLines.{has_text, texts};
-ghost use Rattle.session_core.specs.Streams.{sink_state, source_state};
-ghost use Rattle.mvt_play.specs.Endings.{IsStatus, PlaysAsAsked, status_of, status_of_text};
+ghost use Rattle.std.specs.Prelude.{◌≡◌, false};
+ghost use Rattle.mvt_play.specs.Endings.{IsStatus, RunsAsAsked, status_of, status_of_text};
 
 use command_line::ended::{ALL_READ, Ended, SESSION_FAULT, end_out_of_memory};
 use command_line::options::Asked;
@@ -121,9 +119,7 @@ pub(crate) fn run_program<R: Read, W: Write, E: Write>(
 ) -> Ended
     requires source_unfailed { source.old.failed ≡ false }
     requires sink_unfailed { sink.old.failed ≡ false }
-    ensures { PlaysAsAsked (has_text (codes "events") (texts asked.now.given.items)) asked.now.options
-        (source_state R.remaining source.old) (source_state R.remaining source.new)
-        (sink_state W.contents sink.old) (sink_state W.contents sink.new) result.status }
+    ensures { RunsAsAsked R.remaining W.contents asked.now source.old source.new sink.old sink.new result.status }
 {
     if asked.has("events") {
         let extended = extend_streams(alloc, source, sink, asked.options);

@@ -1,5 +1,5 @@
 -- Events that are given to a machine one after another, until nothing moves. (This profile)
-use Rattle.std.specs.Prelude.{◌≡◌, ◌⊎◌, ℕ, zero, suc, ◌+◌, ◌≤◌, false, All, List, [], ◌∷◌, ◌++◌, length, Option, None, Some, slice_get}
+use Rattle.std.specs.Prelude.{◌≡◌, ◌⊎◌, ℕ, zero, suc, ◌+◌, ◌<◌, ◌≤◌, false, All, List, [], ◌∷◌, ◌++◌, length, Option, None, Some, slice_get}
 use Rattle.session_input.specs.declared.event.Event.{Event}
 use Rattle.jcl_plan.specs.declared.entry.Entry.{Entry}
 use Rattle.jcl_plan.specs.declared.entry.Entry.TheVariants as entry
@@ -29,6 +29,10 @@ pub record Adds (old : Machine) (before : List Given) (new : Machine) (after : L
   pub more : List Given
   pub after_so : after ≡ before ++ more
   pub gives : Gives old more new
+
+-- there are more of them than before, or the limit of events is reached
+abbrev pub AddsMore : List Given → Machine → List Given → Type 0
+AddsMore before new after = (length before < length after) ⊎ (MOST_EVENTS ≤ (world_of new).events)
 
 -- on no volume an operation is under way
 abbrev pub IsQuiet : Machine → Type 0

@@ -1,17 +1,19 @@
 -- A session that is played on: which events are added, and what is written. (This profile)
-use Rattle.std.specs.Prelude.{◌≡◌, ℕ, ◌<◌, ◌≤◌, List, [], ◌++◌, length, take, true, is_some, Option, Some, None, Result, Err}
+use Rattle.std.specs.Prelude.{◌≡◌, ◌⊎◌, ℕ, ◌<◌, ◌≤◌, List, [], ◌++◌, length, take, true, is_some, Option, Some, None, Result, Err}
 use Rattle.std.specs.Io.KnownBytes.{Appends}
 use Rattle.cb_meaning.specs.declared.layout.TheConstants.{QUEUE_LAYOUT}
 use Rattle.sched_core.specs.Starting.{IsStarted}
 use Rattle.sched_core.specs.Systems.{Machine}
 use Rattle.session_core.specs.Outcomes.{WritesOutcome}
 use Rattle.session_core.specs.Sessions.{Session, configuration_of, refuses_in, session_of}
-use Rattle.session_core.specs.Streams.{IsRead, SinkState, SourceState}
+use Rattle.session_core.specs.Streams.{IsRead, SinkState, SourceState, sink_state, source_state}
 use Rattle.session_core.specs.declared.TheConstants.{MOST_BYTES}
 use Rattle.run_options.specs.declared.Options.{Options}
 use Rattle.session_core.specs.declared.SessionEnd.{SessionEnd}
 use Rattle.session_core.specs.declared.SessionFault.{SessionFault}
 use Rattle.session_core.specs.declared.SessionFault.TheVariants.{Memory}
+use Rattle.session_core.specs.declared.stream.Sink.{Sink}
+use Rattle.session_core.specs.declared.stream.Source.{Source}
 use Rattle.session_text.specs.declared.fault.Fault.{Fault}
 use Rattle.session_text.specs.declared.statement.Ending.{Ending}
 use Rattle.session_text.specs.declared.statement.Statement.{Statement}
@@ -66,6 +68,13 @@ pub record Starves (sink sink_after : SinkState) (given : List Given)
   pub writes : Appends sink.contents sink_after.contents []
   pub none : given ≡ []
 
+-- the session of a source is played on, and its listing is written to a sink; or memory is missing before
+abbrev pub PlaysStreams : {R W : Type 0} → (R → Option (List ℕ)) → (W → Option (List ℕ)) → Options → Source R → Source R → Sink W → Sink W
+    → List Given → Result SessionEnd SessionFault → Type 0
+PlaysStreams remaining contents o source source_after sink sink_after given result =
+    PlaysOn o (source_state remaining source) (source_state remaining source_after) (sink_state contents sink) (sink_state contents sink_after) given result
+    ⊎ Starves (sink_state contents sink) (sink_state contents sink_after) given result
+
 -- The session with its events, as they are written; nothing is written of one with a fault, or where it would be too long.
 abbrev pub IsAdded : Options → Session → List Given → Type 0
 IsAdded o s given = (s.fault ≡ None) × IsPlayedOut o s given
@@ -97,3 +106,10 @@ pub record Extends (o : Options) (source source_after : SourceState) (sink sink_
 pub record ExtendsNone (sink sink_after : SinkState) (result : Extended) : Type 0 where
   pub memory : result ≡ OutOfMemory
   pub writes : Appends sink.contents sink_after.contents []
+
+-- the session of a source is written with its events to a sink; or memory is missing before
+abbrev pub ExtendsStreams : {R W : Type 0} → (R → Option (List ℕ)) → (W → Option (List ℕ)) → Options → Source R → Source R → Sink W → Sink W
+    → Extended → Type 0
+ExtendsStreams remaining contents o source source_after sink sink_after result =
+    Extends o (source_state remaining source) (source_state remaining source_after) (sink_state contents sink) (sink_state contents sink_after) result
+    ⊎ ExtendsNone (sink_state contents sink) (sink_state contents sink_after) result

@@ -1,9 +1,8 @@
 //! A session is played on, and its listing is written.
-ghost use Rattle.std.specs.Prelude.{◌≡◌, ◌+◌, ◌^◌, ◌<◌, ◌≤◌, ◌++◌, ◌⊎◌, [], Err, IfOk, OnOk, false, length};
+ghost use Rattle.std.specs.Prelude.{◌≡◌, ◌+◌, ◌^◌, ◌<◌, ◌≤◌, ◌++◌, [], Err, IfOk, OnOk, false, length};
 ghost use Rattle.session_core.specs.Sessions.{session_behind};
-ghost use Rattle.session_core.specs.Streams.{sink_state, source_state};
 ghost use Rattle.play_core.specs.Given.{statements_at};
-ghost use Rattle.play_core.specs.Playing.{IsFound, PlaysOn, Starves};
+ghost use Rattle.play_core.specs.Playing.{IsFound, PlaysStreams};
 
 use crate::given::Given;
 use crate::giving::Added;
@@ -110,9 +109,7 @@ pub fn play_streams<R: Read, W: Write>(
 ) -> Played
     requires source_unfailed { source.old.failed ≡ false }
     requires sink_unfailed { sink.old.failed ≡ false }
-    ensures plays { PlaysOn options (source_state R.remaining source.old) (source_state R.remaining source.new)
-        (sink_state W.contents sink.old) (sink_state W.contents sink.new) result.given.items result.outcome
-        ⊎ Starves (sink_state W.contents sink.old) (sink_state W.contents sink.new) result.given.items result.outcome }
+    ensures plays { PlaysStreams R.remaining W.contents options source.old source.new sink.old sink.new result.given.items result.outcome }
 {
     let Ok(input) = read_text(alloc, source) else {
         return Played::starved(alloc);

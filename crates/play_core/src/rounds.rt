@@ -1,8 +1,7 @@
 //! Rounds: each initiator acts once, and each operation under way ends.
-ghost use Rattle.std.specs.Prelude.{◌≡◌, ◌⊎◌, ◌<◌, ◌≤◌, IfOk, OnOk, false, length, true};
-ghost use Rattle.machine_meaning.specs.declared.machine.TheConstants.{MOST_EVENTS};
+ghost use Rattle.std.specs.Prelude.{◌≡◌, IfOk, OnOk, false, length, true};
 ghost use Rattle.sched_core.specs.Systems.{world_of};
-ghost use Rattle.play_core.specs.Giving.{Adds, IsOver, IsQuiet, Stays};
+ghost use Rattle.play_core.specs.Giving.{Adds, AddsMore, IsOver, IsQuiet, Stays};
 
 use crate::given::Given;
 use crate::giving::{Added, give, has_room, note};
@@ -15,8 +14,7 @@ use std::alloc::AllocError;
 fn turn_all(system: &mut System<'_, ChainStore>, added: &mut Added) -> Result<bool, AllocError>
     ensures adds { OnOk result (Adds system.old added.old.given.items system.new added.new.given.items) }
     ensures still { IfOk result (λ still. still ≡ true → Stays system.old 0 (length (world_of system.old).initiators) system.new) }
-    ensures more { IfOk result (λ still. still ≡ false → (length added.old.given.items < length added.new.given.items)
-        ⊎ (MOST_EVENTS ≤ (world_of system.new).events)) }
+    ensures more { IfOk result (λ still. still ≡ false → AddsMore added.old.given.items system.new added.new.given.items) }
 {
     let mut still = true;
     let count = system.initiator_count();
@@ -38,8 +36,7 @@ fn turn_all(system: &mut System<'_, ChainStore>, added: &mut Added) -> Result<bo
 fn end_all(system: &mut System<'_, ChainStore>, added: &mut Added) -> Result<bool, AllocError>
     ensures adds { OnOk result (Adds system.old added.old.given.items system.new added.new.given.items) }
     ensures quiet { IfOk result (λ quiet. quiet ≡ true → IsQuiet system.new × (system.new ≡ system.old)) }
-    ensures more { IfOk result (λ quiet. quiet ≡ false → (length added.old.given.items < length added.new.given.items)
-        ⊎ (MOST_EVENTS ≤ (world_of system.new).events)) }
+    ensures more { IfOk result (λ quiet. quiet ≡ false → AddsMore added.old.given.items system.new added.new.given.items) }
 {
     let mut quiet = true;
     let count = system.volume_count();

@@ -1,9 +1,8 @@
 //! The session with the events that are added to it.
-ghost use Rattle.std.specs.Prelude.{◌≡◌, ◌⊎◌, [], false, is_some, true};
+ghost use Rattle.std.specs.Prelude.{◌≡◌, [], false, is_some, true};
 ghost use Rattle.std.specs.Io.KnownBytes.{Appends};
 ghost use Rattle.session_core.specs.Sessions.{session_behind};
-ghost use Rattle.session_core.specs.Streams.{sink_state, source_state};
-ghost use Rattle.play_core.specs.Playing.{Extends, ExtendsNone, IsFaultTold};
+ghost use Rattle.play_core.specs.Playing.{ExtendsStreams, IsFaultTold};
 
 use crate::lines::with_events;
 use crate::search::find;
@@ -55,9 +54,7 @@ pub fn extend_streams<R: Read, W: Write>(
 ) -> Extended
     requires source_unfailed { source.old.failed ≡ false }
     requires sink_unfailed { sink.old.failed ≡ false }
-    ensures { Extends options (source_state R.remaining source.old) (source_state R.remaining source.new)
-        (sink_state W.contents sink.old) (sink_state W.contents sink.new) result
-        ⊎ ExtendsNone (sink_state W.contents sink.old) (sink_state W.contents sink.new) result }
+    ensures { ExtendsStreams R.remaining W.contents options source.old source.new sink.old sink.new result }
 {
     let Ok(input) = read_text(alloc, source) else {
         return Extended::OutOfMemory;

@@ -13,6 +13,7 @@ use Rattle.queue_images.specs.declared.image.TheConstants.{IMAGE_BYTES}
 use Rattle.queue_images.specs.declared.image.WaitingJob.{WaitingJob}
 use Rattle.queue_images.specs.declared.migrate.MigrateFault.{MigrateFault}
 use Rattle.queue_images.specs.declared.migrate.MigrateFault.TheVariants.{Memory, Numbers, Size}
+use Rattle.queue_images.specs.declared.migrate.Sorted.{Sorted}
 use Rattle.queue_images.specs.Images.{are_job_numbers, dropped_of, fault_in, kept_of, records_in}
 use Rattle.queue_images.specs.Waiting.{Wait, greatest}
 
@@ -32,6 +33,10 @@ pub record AreCarried (image : List ℕ) (units : ℕ) (jobs : List WaitingJob) 
   pub layout : q.layout ≡ LAYOUT_2
   pub owned : (n : ℕ) → owner_at q n ≢ 0 → list_any (λ w. w.job == owner_at q n) stay ≡ true
   pub fresh : (n : ℕ) → owner_at q n ≢ 0 → IsFresh LAYOUT_2 ((shown q).at n)
+
+-- so they are sorted into those that are kept and those that are dropped
+abbrev pub AreSorted : List ℕ → ℕ → List WaitingJob → RecordQueue → Sorted → Type 0
+AreSorted image units jobs q sorted = AreCarried image units jobs q sorted.kept.items sorted.dropped.items
 
 -- and they wait there in the order of their numbers, so that a machine may begin with them
 pub record AreWaiting (jobs : List WaitingJob) (q : RecordQueue) (stay : List WaitingJob) (ns : List ℕ) (last : ℕ) : Type 0 where

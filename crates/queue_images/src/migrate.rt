@@ -2,7 +2,7 @@
 ghost use Rattle.std.specs.Prelude.{◌≡◌, [], ℕ, List, IfErr, IfOk, OnOk, length, map, true};
 ghost use Rattle.cb_meaning.specs.declared.layout.TheConstants.{LAYOUT_2};
 ghost use Rattle.cb_queue.specs.RecordQueues.{empty_queue};
-ghost use Rattle.queue_images.specs.Carrying.{AreCarried, AreWaiting, IsNoted, IsRefused, IsTakenOver};
+ghost use Rattle.queue_images.specs.Carrying.{AreCarried, AreSorted, AreWaiting, IsNoted, IsRefused, IsTakenOver};
 ghost use Rattle.queue_images.specs.declared.image.TheConstants.{IMAGE_BYTES};
 ghost use Rattle.queue_images.specs.Images.{are_job_numbers};
 ghost use Rattle.queue_images.specs.Loading.{IsLoaded};
@@ -86,7 +86,7 @@ fn carry_jobs(
     requires nothing { (sorted.old.kept.items ≡ []) × (sorted.old.dropped.items ≡ []) }
     requires numbers { are_job_numbers (map (λ w. w.job) jobs.now) ≡ true }
     ensures carried { (image : List ℕ) → IsLoaded image old.now.queue →
-        OnOk result (AreCarried image units jobs.now new.new.queue sorted.new.kept.items sorted.new.dropped.items) }
+        OnOk result (AreSorted image units jobs.now new.new.queue sorted.new) }
     ensures nobody { OnOk result (new.new.queue.waiting ≡ []) }
 {
     the_layouts_hold_jobs();

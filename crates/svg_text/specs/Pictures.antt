@@ -1,7 +1,7 @@
 -- The elements of a picture. (SVG 1.1: rect, line, polyline, text, title, g, pattern, svg)
 use Rattle.std.specs.Prelude.{ℕ, List, [], ◌∷◌, ◌++◌, codes, decimal, Option, Some, None}
 use Rattle.std.specs.List.{flat_map}
-use Rattle.svg_text.specs.Elements.{Attribute, Element, element, Content, nothing, text, child, attribute_text, attributes_text, content_text, element_text}
+use Rattle.svg_text.specs.Elements.{Attribute, Element, element, Content, nothing, text, child, attribute_text, attributes_text, content_text, element_text, escaped}
 use Rattle.svg_text.specs.declared.shape.Point.{Point}
 use Rattle.svg_text.specs.declared.shape.Size.{Size}
 use Rattle.svg_text.specs.declared.shape.Form.{Form}
@@ -122,6 +122,10 @@ picture_element p =
 
 abbrev pub picture_text : Picture → List ℕ
 picture_text p = element_text (picture_element p) ++ codes "\n"
+
+-- what stands after the attributes of an element that has a title and this text
+abbrev pub rest_text : List ℕ → Option (List ℕ) → List ℕ → List ℕ
+rest_text name title t = codes ">" ++ content_text (titled title nothing) ++ escaped t ++ codes "</" ++ name ++ codes ">"
 
 -- what stands before the shapes of a group, and behind them
 abbrev pub head_text : Head → List ℕ

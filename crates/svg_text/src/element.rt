@@ -1,8 +1,8 @@
 //! The elements of shapes.
 ghost use Rattle.std.specs.Prelude.{◌≡◌, ◌∷◌, ◌++◌, OnOk, codes};
-ghost use Rattle.svg_text.specs.Elements.{attribute_text, attributes_text, content_text, element_text, escaped, nothing};
+ghost use Rattle.svg_text.specs.Elements.{attribute_text, attributes_text, content_text, element_text, nothing};
 ghost use Rattle.svg_text.specs.declared.shape.Head.TheVariants as head;
-ghost use Rattle.svg_text.specs.Pictures.{head_attributes, head_text, mark_element, pair_text, said, start_text, tail_text, text_element, titled};
+ghost use Rattle.svg_text.specs.Pictures.{head_attributes, head_text, mark_element, pair_text, rest_text, said, start_text, tail_text, text_element, titled};
 
 use crate::attribute::{push_counted, push_points_attribute, push_said, push_size, push_start};
 use crate::shape::{Form, Head, Mark, Name, Point, Size};
@@ -78,8 +78,7 @@ fn push_rest(
     text: &[u8],
 ) -> Result<(), AllocError>
     ensures kept { out.new.kept ≡ out.old.kept }
-    ensures ok { OnOk result (out.new.begun ≡ out.old.begun
-        ++ (codes ">" ++ content_text (titled title.now nothing) ++ escaped text.now ++ codes "</" ++ tag.now ++ codes ">")) }
+    ensures ok { OnOk result (out.new.begun ≡ out.old.begun ++ rest_text tag.now title.now text.now) }
 {
     push(out, b">")?;
     push_title(out, title)?;
