@@ -7,6 +7,7 @@ pub mod Parts
 pub mod Places
 pub mod Short
 pub mod Spots
+pub mod Stands
 pub mod Statements
 pub mod Tried
 pub mod Walks

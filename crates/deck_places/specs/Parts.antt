@@ -78,6 +78,14 @@ abbrev pub mark_of : ℕ → Option ℕ → List (List ℕ) → List Card → Ma
 mark_of n None parts cards = record { card = n; column = None }
 mark_of n (Some part) parts cards = place_on n (start_of parts part) cards
 
+-- the mark of a statement that is refused for this at a place in the deck; it begins with the first of these cards, which is the n-th
+abbrev pub IsMarkAt : Place → Statement → Cause → ℕ → List Card → Mark → Type 0
+IsMarkAt place s cause n cards mark = (part : Option ℕ) × IsPart place s cause part × (mark ≡ mark_of n part (places_of s.operand) cards)
+
+-- on these cards as many statements begin as there are
+abbrev pub BeginAsMany : List Card → List Statement → Type 0
+BeginAsMany cards statements = length (walk_from false 0 0 cards).begun ≡ length statements
+
 -- the mark of these statements of these cards, of which the k-th is refused for this
 pub record IsMarkAmong (cards : List Card) (statements : List Statement) (k : ℕ) (cause : Cause) (mark : Mark) : Type 0 where
   pub place : Place

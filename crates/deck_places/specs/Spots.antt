@@ -1,6 +1,10 @@
 -- The cards of the statement at which a deck is refused. Cards and statements count from 0. (This profile)
 use Rattle.std.specs.Prelude.{◌≡◌, ◌⊎◌, ◌<◌, ◌≤◌, ℕ, ◌+◌, List, length, Some, slice_get}
 use Rattle.std.specs.List.{Contains}
+use Rattle.jcl_plan.specs.declared.fault.Cause.{Cause}
+use Rattle.proc_library.specs.declared.library.LibraryProcedure.{LibraryProcedure}
+use Rattle.deck_places.specs.Cards.{walk_of}
+use Rattle.deck_places.specs.Places.{IsPlace}
 use Rattle.deck_places.specs.declared.judge.At.{At}
 use Rattle.deck_places.specs.declared.judge.At.TheVariants as place
 
@@ -26,3 +30,9 @@ IsWithin begun (place.Statement k) = k < length begun
 IsWithin begun place.End = Unit {0}
 IsWithin begun (place.Call k) = k < length begun
 IsWithin begun (place.Planned part k) = k < length begun
+
+-- where a deck is refused at a statement, one begins
+abbrev pub PlacesHaveStatements : Type 0
+PlacesHaveStatements =
+    (units : List (List ℕ)) (library : List LibraryProcedure) (lines : List (List ℕ)) (cause : Cause) (at : At) →
+    IsPlace units library lines cause at → IsWithin (walk_of lines).begun at

@@ -33,7 +33,7 @@ pub fn copy_of(alloc: Global, statement: &Statement) -> Result<Statement, AllocE
 }
 
 /// Whether what follows a statement is inside a procedure a statement.
-fn inside_behind(statement: &Statement, inside: bool) -> bool
+pub(crate) fn inside_behind(statement: &Statement, inside: bool) -> bool
     ensures { result ≡ inside_behind statement.now inside }
 {
     match operation_of(statement.operation.as_slice()) {

@@ -1,17 +1,10 @@
 //! What holds of places, whatever the deck. A law has no code: its contract is the law.
-ghost use Rattle.std.specs.Prelude.{ℕ, List};
-ghost use Rattle.jcl_plan.specs.declared.fault.Cause.{Cause};
-ghost use Rattle.proc_library.specs.declared.library.LibraryProcedure.{LibraryProcedure};
 ghost use Rattle.deck_places.specs.Called.{CallsAreRefused, ProceduresStand, StatementsAreOnLines};
-ghost use Rattle.deck_places.specs.Cards.{walk_of};
-ghost use Rattle.deck_places.specs.Places.{IsPlace};
-ghost use Rattle.deck_places.specs.Spots.{IsWithin};
-ghost use Rattle.deck_places.specs.declared.judge.At.{At};
+ghost use Rattle.deck_places.specs.Spots.{PlacesHaveStatements};
 
 /// Where a deck is refused at a statement, one begins.
 pub fn each_place_has_a_statement()
-    ensures { (units : List (List ℕ)) (library : List LibraryProcedure) (lines : List (List ℕ)) (cause : Cause) (at : At) →
-        IsPlace units library lines cause at → IsWithin (walk_of lines).begun at }
+    ensures { PlacesHaveStatements }
 {}
 
 /// The procedure that a call finds in a deck is what stands behind the first PROC statement of its name.

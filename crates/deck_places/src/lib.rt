@@ -1,4 +1,4 @@
-//! Why a deck is refused, and where: on which card, or by which statement.
+//! Why a deck is refused, and where: on which card, or by which statement; and on which cards the steps and DDs of its job stand.
 #![tactic(auto)]
 
 pub mod called;
@@ -12,4 +12,5 @@ mod parts;
 mod refusing;
 mod same;
 mod short;
+pub mod stands;
 pub mod walk;

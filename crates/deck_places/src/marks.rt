@@ -1,14 +1,11 @@
 //! Where the refusal of a statement is marked.
-ghost use Rattle.std.specs.Prelude.{◌≡◌, ◌+◌, ◌-◌, ℕ, IfOk, List, None, Ok, Option, Some, drop, false, length};
+ghost use Rattle.std.specs.Prelude.{◌≡◌, ◌+◌, ◌-◌, IfOk, List, None, Ok, Some, drop, length};
 ghost use Rattle.std.specs.Option.{option_copied};
 ghost use Rattle.card_core.specs.declared.statement.Statement.{Statement};
-ghost use Rattle.jcl_deck.specs.Decks.{start};
 ghost use Rattle.jcl_deck.specs.Places.{denoted};
 ghost use Rattle.jcl_job.specs.Jobs.{statements_in};
-ghost use Rattle.operand_core.specs.Operands.{places_of};
-ghost use Rattle.deck_places.specs.Cards.{walk_from};
-ghost use Rattle.deck_places.specs.Parts.{IsMark, IsMarkAmong, IsPart, is_behind, left_behind, mark_of, place_on};
-ghost use Rattle.deck_places.specs.Statements.{RefusedAt, read_from};
+ghost use Rattle.deck_places.specs.Parts.{BeginAsMany, IsMark, IsMarkAmong, IsMarkAt, is_behind, left_behind, place_on};
+ghost use Rattle.deck_places.specs.Statements.{IsRefusedAt};
 
 use crate::judge::{Read, read_all};
 use crate::lines::{Lined, cards_of};
@@ -105,8 +102,7 @@ fn mark_behind(
     statement: &Statement,
     cause: Cause,
 ) -> Result<Mark, AllocError>
-    ensures { IfOk result (λ mark. (part : Option ℕ) × IsPart (denoted place) statement.now cause part
-        × (mark ≡ mark_of first part (places_of statement.now.operand) (drop first cards.now))) }
+    ensures { IfOk result (IsMarkAt (denoted place) statement.now cause first (drop first cards.now)) }
 {
     let parts = parts_of(alloc, statement.operand.as_slice())?;
     match refused_part(alloc, place, statement, parts.as_slice(), cause)? {
@@ -127,7 +123,7 @@ fn mark_among(
     k: usize,
     cause: Cause,
 ) -> Result<Mark, AllocError>
-    ensures { read_from 0 start statements.now ≡ RefusedAt k cause → length (walk_from false 0 0 cards.now).begun ≡ length statements.now →
+    ensures { IsRefusedAt statements.now k cause → BeginAsMany cards.now statements.now →
         IfOk result (IsMarkAmong cards.now statements.now k cause) }
 {
     let begun = walk_cards(alloc, cards)?.begun;
@@ -151,7 +147,7 @@ pub fn statement_mark(
     k: usize,
     cause: Cause,
 ) -> Result<Mark, AllocError>
-    ensures { (statements : List Statement) → statements_in lines.now ≡ Ok statements → read_from 0 start statements ≡ RefusedAt k cause →
+    ensures { (statements : List Statement) → statements_in lines.now ≡ Ok statements → IsRefusedAt statements k cause →
         IfOk result (IsMark lines.now k cause) }
 {
     let statements = match read_statements(alloc, lines) {
