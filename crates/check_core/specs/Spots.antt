@@ -2,13 +2,16 @@
 use Rattle.std.specs.Prelude.{◌≡◌, ◌⊎◌, ◌<◌, ◌≤◌, ℕ, ◌+◌, List, [], length, Option, None, Some, slice_get}
 use Rattle.std.specs.List.{Contains}
 use Rattle.jcl_plan.specs.declared.fault.Cause.{Cause}
+use Rattle.proc_library.specs.declared.library.LibraryProcedure.{LibraryProcedure}
 use Rattle.deck_places.specs.Cards.{walk_of}
 use Rattle.deck_places.specs.Parts.{IsMark}
+use Rattle.deck_places.specs.Places.{IsPlace}
 use Rattle.deck_places.specs.Spots.{IsCardOf}
 use Rattle.deck_places.specs.declared.judge.At.{At}
 use Rattle.deck_places.specs.declared.judge.At.TheVariants as place
 use Rattle.deck_places.specs.declared.marks.Mark.{Mark}
 use Rattle.check_core.specs.declared.mended.Span.{Span}
+use Rattle.check_core.specs.declared.report.Report.{Report}
 use Rattle.check_core.specs.declared.report.Spot.{Spot}
 
 -- the card that is shown is one of the place; none is at the end of a deck without statements alone
@@ -27,6 +30,14 @@ IsSpotOf lines cause (place.Statement k) spot = (mark : Mark) × IsMark lines k 
 IsSpotOf lines cause place.End spot = IsCardShown (walk_of lines).begun place.End spot.card
 IsSpotOf lines cause (place.Call k) spot = IsCardShown (walk_of lines).begun (place.Call k) spot.card
 IsSpotOf lines cause (place.Planned part k) spot = IsCardShown (walk_of lines).begun (place.Planned part k) spot.card
+
+-- a report is marked there
+abbrev pub HasSpot : List (List ℕ) → Cause → At → Report → Type 0
+HasSpot lines cause at report = IsSpotOf lines cause at report.spot
+
+-- what holds where a deck is refused for this at a place, whatever the names of units and the procedures of the session
+abbrev pub IfRefusedAt : List (List ℕ) → Cause → At → Type 0 → Type 0
+IfRefusedAt lines cause at fact = (units : List (List ℕ)) (library : List LibraryProcedure) → IsPlace units library lines cause at → fact
 
 -- one on which a statement begins; none where none begins
 abbrev pub IsAtFirst : List ℕ → Option ℕ → Type 0

@@ -1,5 +1,5 @@
 -- What is told of a deck, as text. Lines of the session count from 1, cards from 0. (This profile)
-use Rattle.std.specs.Prelude.{◌≡◌, ℕ, ◌+◌, ◌-◌, ◌==◌, Bool, true, false, not, ◌&&◌, nat_eq, nat_le, min, List, [], ◌∷◌, ◌++◌, map, replicate, take, slice_get, Option, None, Some, codes, decimal, if◌then◌else◌}
+use Rattle.std.specs.Prelude.{◌≡◌, ℕ, ◌+◌, ◌-◌, ◌==◌, Bool, false, not, ◌&&◌, nat_eq, nat_le, min, List, [], ◌∷◌, ◌++◌, map, replicate, take, slice_get, Option, None, Some, codes, decimal, if◌then◌else◌}
 use Rattle.std.specs.List.{starts_with}
 use Rattle.std.specs.Option.{option_map_or}
 use Rattle.jcl_plan.specs.Texts.{cause_text}
@@ -80,10 +80,14 @@ abbrev pub TellsPlace : List (List ℕ) → Report → List ℕ → Type 0
 TellsPlace lines report text =
     (words : List ℕ) × (rest : List ℕ) × (text ≡ words ++ 10 ∷ spot_text lines report.spot ++ inside_text report.inside ++ rest)
 
+-- Of a deck that is refused there come the warnings of cards before that of its refusal, then the line and the number of this, then its words and its place.
+abbrev pub AddsRefusedText : ℕ → List (List ℕ) → Report → List Warned → List ℕ → List ℕ → Type 0
+AddsRefusedText first lines report warned old new =
+    (rest : List ℕ) × (new ≡ old ++ warnings_text first (take (count_before report.spot.card warned) warned)
+    ++ head (line_of first report.spot.card) report.cause ++ rest) × TellsPlace lines report rest
+
 -- Behind a text nothing is added of a deck that denotes a job. Of another there come the warnings of cards before that of its refusal, then the line and the
 -- number of this, then its words and its place.
 abbrev pub AddsToldText : ℕ → List (List ℕ) → Checked → List Warned → List ℕ → List ℕ → Type 0
 AddsToldText first lines (Taken plan) warned old new = new ≡ old
-AddsToldText first lines (Refused report later) warned old new =
-    (rest : List ℕ) × (new ≡ old ++ warnings_text first (take (count_before report.spot.card warned) warned)
-    ++ head (line_of first report.spot.card) report.cause ++ rest) × TellsPlace lines report rest
+AddsToldText first lines (Refused report later) warned old new = AddsRefusedText first lines report warned old new

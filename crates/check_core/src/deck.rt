@@ -1,10 +1,8 @@
 //! What is wrong with a deck.
-ghost use Rattle.std.specs.Prelude.{◌≡◌, ℕ, IfOk, List, false};
-ghost use Rattle.proc_library.specs.declared.library.LibraryProcedure.{LibraryProcedure};
-ghost use Rattle.deck_places.specs.Places.{IsPlace};
+ghost use Rattle.std.specs.Prelude.{◌≡◌, IfOk, false};
 ghost use Rattle.check_core.specs.Insides.{IsInsideAt};
 ghost use Rattle.check_core.specs.Reports.{AreTold};
-ghost use Rattle.check_core.specs.Spots.{IsSpotOf};
+ghost use Rattle.check_core.specs.Spots.{HasSpot, IfRefusedAt};
 
 use crate::advice::{guess_inside, hint_at};
 use crate::called::brought_in;
@@ -60,8 +58,8 @@ fn report_of(
 ) -> Result<Report, AllocError>
     ensures told { IfOk result (λ r. (r.cause ≡ cause) × (r.at ≡ at)) }
     ensures inside { IfOk result (λ r. IsInsideAt sources.now.library.now mended.now.lines.items cause at r.inside) }
-    ensures spot { mended.now.has_job_in_front ≡ false → (units : List (List ℕ)) (library : List LibraryProcedure) →
-        IsPlace units library mended.now.lines.items cause at → IfOk result (λ r. IsSpotOf mended.now.lines.items cause at r.spot) }
+    ensures spot { mended.now.has_job_in_front ≡ false →
+        IfRefusedAt mended.now.lines.items cause at (IfOk result (HasSpot mended.now.lines.items cause at)) }
 {
     let spot = spot_of(alloc, mended, cause, at)?;
     let inside = inside_at(alloc, sources, mended, cause, at)?;

@@ -11,6 +11,5 @@ mod known;
 mod mark;
 mod mended;
 pub mod report;
-pub mod stands;
 pub mod text;
 pub mod warnings;

@@ -1,10 +1,8 @@
 //! The place on a card where a statement is refused.
-ghost use Rattle.std.specs.Prelude.{◌≡◌, ℕ, IfOk, List};
-ghost use Rattle.proc_library.specs.declared.library.LibraryProcedure.{LibraryProcedure};
+ghost use Rattle.std.specs.Prelude.{IfOk};
 ghost use Rattle.deck_places.specs.Cards.{walk_of};
-ghost use Rattle.deck_places.specs.Places.{IsPlace};
 ghost use Rattle.deck_places.specs.Spots.{IsWithin};
-ghost use Rattle.check_core.specs.Spots.{IsAtFirst, IsCardShown, IsFirstOrWithin, IsSpotOf};
+ghost use Rattle.check_core.specs.Spots.{IfRefusedAt, IsAtFirst, IsCardShown, IsFirstOrWithin, IsSpotOf};
 
 use crate::mended::{Mended, Span, card_at};
 use crate::report::Spot;
@@ -123,8 +121,8 @@ fn statement_spot(
     k: usize,
     cause: Cause,
 ) -> Result<Spot, AllocError>
-    ensures { (units : List (List ℕ)) (library : List LibraryProcedure) → IsPlace units library mended.now.lines.items cause (At.Statement k) →
-        IfOk result (IsSpotOf mended.now.lines.items cause (At.Statement k)) }
+    ensures { IfRefusedAt mended.now.lines.items cause (At.Statement k)
+        (IfOk result (IsSpotOf mended.now.lines.items cause (At.Statement k))) }
 {
     let lent = mended.lent(alloc)?;
     let mark = statement_mark(alloc, lent.as_slice(), k, cause)?;
@@ -160,8 +158,7 @@ pub(crate) fn spot_of(
     cause: Cause,
     at: At,
 ) -> Result<Spot, AllocError>
-    ensures { (units : List (List ℕ)) (library : List LibraryProcedure) → IsPlace units library mended.now.lines.items cause at →
-        IfOk result (IsSpotOf mended.now.lines.items cause at) }
+    ensures { IfRefusedAt mended.now.lines.items cause at (IfOk result (IsSpotOf mended.now.lines.items cause at)) }
 {
     each_place_has_a_statement();
     match at {

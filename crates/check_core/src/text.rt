@@ -1,8 +1,8 @@
 //! Refusals as text.
-ghost use Rattle.std.specs.Prelude.{◌≡◌, ℕ, ◌++◌, ◌∷◌, List, IfOk, OnOk, Some, decimal, map, replicate, take};
+ghost use Rattle.std.specs.Prelude.{◌≡◌, ◌++◌, ◌∷◌, IfOk, OnOk, Some, decimal, map, replicate, take};
 ghost use Rattle.jcl_plan.specs.Texts.{cause_text};
-ghost use Rattle.check_core.specs.Texts.{AddsToldText, TellsPlace, card_text, column_count, cut_mark, has_text, head, inside_text, is_cut, line_of, mark_text, marked_text, of_session_text, shown, spot_text};
-ghost use Rattle.check_core.specs.Warnings.{count_before, warned_of, warnings_text};
+ghost use Rattle.check_core.specs.Texts.{AddsRefusedText, AddsToldText, TellsPlace, card_text, column_count, cut_mark, has_text, head, inside_text, is_cut, line_of, mark_text, marked_text, of_session_text, shown, spot_text};
+ghost use Rattle.check_core.specs.Warnings.{warned_of};
 
 use crate::report::{Checked, Inside, Report, Spot};
 use crate::warnings::{Warned, count_before, push_warned, warnings_of};
@@ -346,9 +346,7 @@ fn push_refused(
     later: &[Report],
     warned: &[Warned],
 ) -> Result<(), AllocError>
-    ensures { OnOk result ((rest : List ℕ) × (text.new.items ≡ text.old.items
-        ++ warnings_text first_line (take (count_before first.now.spot.card warned.now) warned.now)
-        ++ head (line_of first_line first.now.spot.card) first.now.cause ++ rest) × TellsPlace lines.now first.now rest) }
+    ensures { OnOk result (AddsRefusedText first_line lines.now first.now warned.now text.old.items text.new.items) }
 {
     let (due, behind) = warned.split_at(count_before(first.spot.card, warned));
     let rest = rest_of(*text.allocator(), first_line, lines, first, later, behind)?;

@@ -4,14 +4,23 @@ use Rattle.std.proofs.lemmas.List.{at_drop_more}
 use Rattle.mvt_check.specs.declared.answers.answer.Answer.{Answer}
 use Rattle.proc_library.specs.declared.library.LibraryProcedure.{LibraryProcedure}
 use Rattle.session_text.specs.declared.statement.Statement.{Statement}
-use Rattle.mvt_check.specs.Checking.{AddsAll, AddsSaid, is_refused, is_risk, one, refused_decks, risks_in, some_refused}
+use Rattle.mvt_check.specs.Checking.{AddsAll, AddsSaid, is_refused, is_risk, one, refused_decks, risks_in, some_refused, AddsStatements, deck_for, decks_left}
+use Rattle.mvt_check.specs.declared.answers.answer.Answers.{Answers}
+use Rattle.mvt_check.specs.declared.answers.answer.DeckRead.{DeckRead}
 
 module _ (units : List (List ℕ)) (library : List LibraryProcedure) (statements : List Statement) (n : ℕ) (s : Statement)
     (cut : drop n statements ≡ s ∷ drop (n + 1) statements) where
-  pub adds_on : (above : ℕ) (old now new : List ℕ) → AddsSaid units library above s.line s.says now new →
-      ((last : List ℕ) → AddsAll units library above (drop n statements) now last → AddsAll units library above statements old last) →
-      (last : List ℕ) → AddsAll units library above (drop (n + 1) statements) new last → AddsAll units library above statements old last
-  adds_on above old now new said before last h = before last (subst (λ l. AddsAll units library above l now last) (sym cut) (new, said, h))
+  pub adds_on : (answers : Answers) (decks left : List DeckRead) (deck : Option DeckRead) (above : ℕ) (old now new : List ℕ) →
+      deck ≡ deck_for decks n → left ≡ decks_left decks n → AddsSaid units library answers deck above s.line s.says now new →
+      ((last : List ℕ) → AddsAll units library answers decks above n (drop n statements) now last → AddsStatements units library answers above statements old last) →
+      (last : List ℕ) → AddsAll units library answers left above (n + 1) (drop (n + 1) statements) new last →
+      AddsStatements units library answers above statements old last
+  adds_on answers decks left deck above old now new its behind said before last h =
+      before last (subst (λ l. AddsAll units library answers decks above n l now last) (sym cut) (
+        new,
+        subst (λ d. AddsSaid units library answers d above s.line s.says now new) its said,
+        subst (λ d. AddsAll units library answers d above (n + 1) (drop (n + 1) statements) new last) behind h,
+      ))
 
   either : (a b c : Bool) → (a || (b || c)) ≡ (a || b || c)
   either true b c = refl

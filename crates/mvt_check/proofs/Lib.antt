@@ -1,4 +1,5 @@
 pub mod Adding
+pub mod Among
 pub mod Decks
 pub mod Faults
 pub mod Later

@@ -76,6 +76,10 @@ answer_for job before (Some (other, answer)) = if nat_eq other job then Some ans
 abbrev pub last_answer : ℕ → List (List Entry) → Option Answer
 last_answer job entries = fold (λ before lines. answer_for job before (answered_in lines)) None entries
 
+-- each job has what it was answered last, where one of them is answered this
+abbrev pub AreNoted : Option (ℕ × Answer) → List (Option Answer) → List (Option Answer) → Type 0
+AreNoted told old new = (job : ℕ) → slice_index_or new job None ≡ answer_for job (slice_index_or old job None) told
+
 -- each job has what these events answered it last
 abbrev pub AreKept : List (List Entry) → List (Option Answer) → Type 0
 AreKept entries answers = (job : ℕ) → slice_index_or answers job None ≡ last_answer job entries

@@ -14,6 +14,7 @@ use Rattle.check_core.specs.Reports.{AreTold}
 use Rattle.check_core.specs.Texts.{AddsToldText}
 use Rattle.check_core.specs.Warnings.{warned_of}
 use Rattle.config_core.specs.Configs.{unit_names}
+use Rattle.config_core.specs.declared.start.Fixed.{Fixed}
 use Rattle.session_input.specs.declared.event.Event.{Event}
 use Rattle.session_input.specs.declared.event.Event.TheVariants as event
 use Rattle.jcl_job.specs.Jobs.{job_of}
@@ -27,7 +28,9 @@ use Rattle.session_text.specs.FaultNumbers.{number_of}
 use Rattle.session_text.specs.Statements.{statements_of}
 use Rattle.session_core.specs.Opening.{IsOpened}
 use Rattle.session_core.specs.Sessions.{session_behind}
-use Rattle.session_core.specs.Streams.{IsRead, SinkState, SourceState}
+use Rattle.session_core.specs.Streams.{IsRead, SinkState, SourceState, sink_state, source_state}
+use Rattle.session_core.specs.declared.stream.Sink.{Sink}
+use Rattle.session_core.specs.declared.stream.Source.{Source}
 use Rattle.run_options.specs.declared.Options.{Options}
 use Rattle.session_core.specs.declared.SessionFault.{SessionFault}
 use Rattle.session_core.specs.declared.SessionFault.TheVariants.{Memory, Stopped, WriteFailed}
@@ -36,6 +39,12 @@ use Rattle.mvt_check.specs.declared.program.Wishes.{Wishes}
 use Rattle.mvt_check.specs.declared.session.Found.{Found}
 use Rattle.lone_deck.specs.declared.Framed.{Framed}
 use Rattle.lone_deck.specs.Framing.{IsFramed}
+use Rattle.mvt_check.specs.Cards.{TellsChecked}
+use Rattle.deck_places.specs.Stands.{stood_in}
+use Rattle.mvt_check.specs.declared.answers.answer.DeckRead.{DeckRead}
+use Rattle.mvt_check.specs.declared.session.Looked.{Looked}
+use Rattle.check_core.specs.declared.deck.Sources.{Sources}
+use Rattle.mvt_check.specs.declared.known.Known.{Known}
 
 -- a deck that is read denotes no job
 abbrev pub is_refused_event : List (List ℕ) → List LibraryProcedure → Event → Bool
@@ -49,47 +58,96 @@ is_refused units library other = false
 abbrev pub some_refused : List (List ℕ) → List LibraryProcedure → List Statement → Bool
 some_refused units library statements = list_any (λ s. is_refused units library s.says) statements
 
+-- a deck of these statements is refused, with the units and procedures of a configuration
+abbrev pub has_refused : Fixed → List Statement → Bool
+has_refused fixed statements = some_refused (unit_names fixed.units) fixed.library statements
+
 -- a text is longer than another
 abbrev pub GoesOn : List ℕ → List ℕ → Type 0
 GoesOn old new = (more : List ℕ) × (new ≡ old ++ more)
 
--- Behind a text comes what is found of a deck, whose first card stands on this line, with what its cards warn of; and behind that, what is told of its job.
-pub record AddsFound (first : ℕ) (lines : List (List ℕ)) (checked : Checked) (old new : List ℕ) : Type 0 where
+-- Behind a text comes what is found of a deck, whose first card stands on this line, with what its cards warn of; and behind that, what is told of its job,
+-- among that at which card admission answers it what.
+pub record AddsFound (library : List LibraryProcedure) (answers : Answers) (deck : Option DeckRead) (first : ℕ) (lines : List (List ℕ)) (checked : Checked)
+    (old new : List ℕ) : Type 0 where
   pub between : List ℕ
   pub added : AddsToldText first lines checked (warned_of checked lines) old between
-  pub on : GoesOn between new
+  pub asides : List ℕ
+  pub on : new ≡ between ++ asides
+  pub answered : TellsChecked first (stood_in library lines) checked answers deck asides
+
+abbrev pub AddsLooked : Looked → Answers → Option DeckRead → List ℕ → List ℕ → Type 0
+AddsLooked found answers deck old new = AddsFound found.library.now answers deck found.first found.lines.now found.checked.now old new
 
 -- so of what is found of it with these units and procedures
-pub record AddsDeck (units : List (List ℕ)) (library : List LibraryProcedure) (first : ℕ) (lines : List (List ℕ)) (old new : List ℕ) : Type 0 where
+pub record AddsDeck (units : List (List ℕ)) (library : List LibraryProcedure) (answers : Answers) (deck : Option DeckRead) (first : ℕ)
+    (lines : List (List ℕ)) (old new : List ℕ) : Type 0 where
   pub checked : Checked
   pub told : AreTold units library lines checked
-  pub adds : AddsFound first lines checked old new
+  pub adds : AddsFound library answers deck first lines checked old new
 
 -- a deck of which this is found is refused
 abbrev pub is_refused_so : Checked → Bool
 is_refused_so (Taken plan) = false
 is_refused_so (Refused first later) = true
 
-abbrev pub AddsEvent : List (List ℕ) → List LibraryProcedure → ℕ → Event → List ℕ → List ℕ → Type 0
-AddsEvent units library first (event.Read lines) old new = AddsDeck units library first lines old new
-AddsEvent units library first other old new = new ≡ old
+abbrev pub AddsEvent : List (List ℕ) → List LibraryProcedure → Answers → Option DeckRead → ℕ → Event → List ℕ → List ℕ → Type 0
+AddsEvent units library answers deck first (event.Read lines) old new = AddsDeck units library answers deck first lines old new
+AddsEvent units library answers deck first other old new = new ≡ old
 
 -- So of an event on this line, where so many lines are above a deck that stands alone. A deck above that one keeps its lines of the session, and says so.
-abbrev pub AddsRead : Bool → List (List ℕ) → List LibraryProcedure → ℕ → ℕ → Event → List ℕ → List ℕ → Type 0
-AddsRead true units library above line event old new =
-    (own : List ℕ) × AddsEvent units library (line + 1) event [] own × (new ≡ old ++ text_above own)
-AddsRead false units library above line event old new = AddsEvent units library (line + 1 - above) event old new
+abbrev pub AddsRead : Bool → List (List ℕ) → List LibraryProcedure → Answers → Option DeckRead → ℕ → ℕ → Event → List ℕ → List ℕ → Type 0
+AddsRead true units library answers deck above line event old new =
+    (own : List ℕ) × AddsEvent units library answers deck (line + 1) event [] own × (new ≡ old ++ text_above own)
+AddsRead false units library answers deck above line event old new = AddsEvent units library answers deck (line + 1 - above) event old new
+
+-- the same, where the line tells whether it is above
+abbrev pub AddsReadAt : List (List ℕ) → List LibraryProcedure → Answers → Option DeckRead → ℕ → ℕ → Event → List ℕ → List ℕ → Type 0
+AddsReadAt units library answers deck above line event old new = AddsRead (is_above above line) units library answers deck above line event old new
 
 -- so of a statement, which has a deck or none
-abbrev pub AddsSaid : List (List ℕ) → List LibraryProcedure → ℕ → ℕ → Says → List ℕ → List ℕ → Type 0
-AddsSaid units library above line (says.Events event times) old new = AddsRead (is_above above line) units library above line event old new
-AddsSaid units library above line other old new = new ≡ old
+abbrev pub AddsSaid : List (List ℕ) → List LibraryProcedure → Answers → Option DeckRead → ℕ → ℕ → Says → List ℕ → List ℕ → Type 0
+AddsSaid units library answers deck above line (says.Events event times) old new = AddsReadAt units library answers deck above line event old new
+AddsSaid units library answers deck above line other old new = new ≡ old
 
--- and of statements one after another
-abbrev pub AddsAll : List (List ℕ) → List LibraryProcedure → ℕ → List Statement → List ℕ → List ℕ → Type 0
-AddsAll units library above [] old new = new ≡ old
-AddsAll units library above (s ∷ statements) old new =
-    (between : List ℕ) × AddsSaid units library above s.line s.says old between × AddsAll units library above statements between new
+-- the same of a statement with its line
+abbrev pub AddsStatement : List (List ℕ) → List LibraryProcedure → Answers → Option DeckRead → ℕ → Statement → List ℕ → List ℕ → Type 0
+AddsStatement units library answers deck above s old new = AddsSaid units library answers deck above s.line s.says old new
+
+-- of the decks that are left the first is that of a statement, or of a later one
+abbrev pub deck_for : List DeckRead → ℕ → Option DeckRead
+deck_for [] at = None
+deck_for (deck ∷ decks) at = if deck.statement == at then Some deck else None
+
+abbrev pub decks_left : List DeckRead → ℕ → List DeckRead
+decks_left [] at = []
+decks_left (deck ∷ decks) at = if deck.statement == at then decks else deck ∷ decks
+
+-- and of statements one after another, of which the first has this number
+abbrev pub AddsAll : List (List ℕ) → List LibraryProcedure → Answers → List DeckRead → ℕ → ℕ → List Statement → List ℕ → List ℕ → Type 0
+AddsAll units library answers decks above at [] old new = new ≡ old
+AddsAll units library answers decks above at (s ∷ statements) old new =
+    (between : List ℕ) × AddsStatement units library answers (deck_for decks at) above s old between
+    × AddsAll units library answers (decks_left decks at) above (at + 1) statements between new
+
+abbrev pub AddsStatements : List (List ℕ) → List LibraryProcedure → Answers → ℕ → List Statement → List ℕ → List ℕ → Type 0
+AddsStatements units library answers above statements old new = AddsAll units library answers answers.decks.items above 0 statements old new
+
+-- so with what is known of a session
+abbrev pub AddsDeckOf : Sources → Known → Option DeckRead → ℕ → List (List ℕ) → List ℕ → List ℕ → Type 0
+AddsDeckOf s k deck first lines old new = AddsDeck s.units.now s.library.now k.answers.now deck first lines old new
+
+abbrev pub AddsEventOf : Sources → Known → Option DeckRead → ℕ → Event → List ℕ → List ℕ → Type 0
+AddsEventOf s k deck first event old new = AddsEvent s.units.now s.library.now k.answers.now deck first event old new
+
+abbrev pub AddsReadOf : Sources → Known → Option DeckRead → ℕ → Event → List ℕ → List ℕ → Type 0
+AddsReadOf s k deck line event old new = AddsReadAt s.units.now s.library.now k.answers.now deck k.above line event old new
+
+abbrev pub AddsStatementOf : Sources → Known → Option DeckRead → Statement → List ℕ → List ℕ → Type 0
+AddsStatementOf s k deck statement old new = AddsStatement s.units.now s.library.now k.answers.now deck k.above statement old new
+
+abbrev pub AddsStatementsOf : Sources → Known → List Statement → List ℕ → List ℕ → Type 0
+AddsStatementsOf s k statements old new = AddsStatements s.units.now s.library.now k.answers.now k.above statements old new
 
 -- one for a deck that is refused
 abbrev pub one : Bool → ℕ
@@ -172,22 +230,27 @@ TellsStop above (WriteFailed line) found = ⊥
 TellsStop above Memory found = ⊥
 
 -- what is found of all decks comes behind a text, and then the sums
-pub record AddsOpened (units : List (List ℕ)) (library : List LibraryProcedure) (above : ℕ) (statements : List Statement)
-    (risks : ℕ) (old new : List ℕ) : Type 0 where
+pub record AddsOpened (units : List (List ℕ)) (library : List LibraryProcedure) (answers : Answers) (above : ℕ) (statements : List Statement)
+    (old new : List ℕ) : Type 0 where
   pub body : List ℕ
-  pub decks : AddsAll units library above statements old body
-  pub sums : new ≡ body ++ sums_text (refused_decks units library statements) risks (warnings_in body)
+  pub decks : AddsStatements units library answers above statements old body
+  pub sums : new ≡ body ++ sums_text (refused_decks units library statements) (risks_in answers.by_job.items) (warnings_in body)
+
+-- so with the units and procedures of a configuration, where jobs are answered this
+abbrev pub AddsDecks : Fixed → Answers → ℕ → List Statement → List ℕ → List ℕ → Type 0
+AddsDecks fixed answers above statements old new =
+    AddsOpened (unit_names fixed.units) fixed.library answers above statements old new
 
 -- the decks are looked at with the units and procedures that the session configures
 pub record IsLookedAt (o : Options) (above : ℕ) (statements : List Statement) (found : Found) : Type 0 where
   pub opened : Opened
   pub is : IsOpened statements opened
-  pub refused : found.refused ≡ (is_some (fault_of statements) || some_refused (unit_names opened.fixed.units) opened.fixed.library statements)
+  pub refused : found.refused ≡ (is_some (fault_of statements) || has_refused opened.fixed statements)
   pub answers : Answers
   pub answered : AreAnswered o statements answers
   pub told : List ℕ
   pub fault : TellsFault above (fault_of statements) told
-  pub text : AddsOpened (unit_names opened.fixed.units) opened.fixed.library above statements (risks_in answers.by_job.items) told found.text.items
+  pub text : AddsDecks opened.fixed answers above statements told found.text.items
   pub risk : found.at_risk ≡ list_any is_risk answers.by_job.items
 
 -- what is found of a session, where so many lines are above a deck that stands alone; 0 where none does
@@ -221,3 +284,10 @@ pub record Checks (o : Options) (w : Wishes) (source source_after : SourceState)
 pub record Starves (sink sink_after : SinkState) (status : ℕ) : Type 0 where
   pub starved : status ≡ 3
   pub writes : Appends sink.contents sink_after.contents []
+
+-- the session of a source is looked at, and what is found is written to a sink; or memory is missing
+abbrev pub ChecksStreams : {R W : Type 0} → (R → Option (List ℕ)) → (W → Option (List ℕ)) → Options → Wishes → Source R → Source R → Sink W → Sink W
+    → ℕ → Type 0
+ChecksStreams remaining contents o w source source_after sink sink_after status =
+    Checks o w (source_state remaining source) (source_state remaining source_after) (sink_state contents sink) (sink_state contents sink_after) status
+    ⊎ Starves (sink_state contents sink) (sink_state contents sink_after) status

@@ -1,3 +1,4 @@
+pub mod Cards
 pub mod Checking
 pub mod Answers
 pub mod Reading

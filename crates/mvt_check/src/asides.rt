@@ -1,4 +1,7 @@
 //! What is told of a deck beside its refusals, card by card: what its job asks for in vain, and what admission answers it.
+ghost use Rattle.std.specs.Prelude.{◌≡◌, ◌^◌, ◌≤◌, IfOk, OnErr, OnOk, option_map, Some};
+ghost use Rattle.mvt_check.specs.Cards.{BeginsWith, OneAnswers, answer_to, card_told, head_of, line_at, stood_of, IsPutAmong};
+
 use crate::answers::answer::{Answer, Answers, DeckRead};
 use crate::answers::words::push_answer;
 use crate::known::Known;
@@ -6,17 +9,17 @@ use crate::trials::deck::deck_of;
 use crate::trials::run::{Played, Trial, Tried, run_trial};
 use crate::trials::same::is_idle_of;
 use crate::trials::words::trial_words;
-use check_core::stands::Stands;
-use check_core::text::push_card;
 use check_core::warnings::push_warning;
 use config_core::start::Fixed;
 use deck_places::judge::{Judged, judge};
+use deck_places::stands::Stands;
 use jcl_meaning::program::is_iefbr14;
 use jcl_plan::plan::JobPlan;
 use jname_core::name8::Name8;
-use job_warnings::warned::{Configured, warnings_of};
+use job_warnings::warned::{Configured, JobWarning, warnings_of};
 use plain::lent::Lent;
 use plain::text::Text;
+use proc_library::library::ProcLibrary;
 use std::alloc::{AllocError, Global};
 
 /// Whether an initiator selects from the class.
@@ -41,6 +44,7 @@ fn has_turn_behind(known: Known<'_, '_, '_, '_, '_>, class: u8, place: usize) ->
 pub(crate) struct Taken<'a, 'b> {
     pub(crate) first: usize,
     pub(crate) lines: &'a [Lent<'b>],
+    pub(crate) library: &'a ProcLibrary,
     pub(crate) plan: &'a JobPlan,
 }
 
@@ -52,7 +56,9 @@ pub(crate) struct Aside {
 }
 
 /// Puts it behind what is told at this card or before it.
-fn put_aside(asides: &mut Vec<Aside>, aside: Aside) -> Result<(), AllocError> {
+fn put_aside(asides: &mut Vec<Aside>, aside: Aside) -> Result<(), AllocError>
+    ensures { OnOk result (IsPutAmong aside asides.new.items) }
+{
     let behind = asides
         .iter()
         .take_while(|other| other.card <= aside.card)
@@ -102,6 +108,11 @@ fn no_program(alloc: Global, program: &Name8) -> Result<Vec<u8>, AllocError> {
     Ok(words)
 }
 
+/// Whether a program is not there.
+fn is_missing(fixed: &Fixed, program: &Name8) -> bool {
+    !is_iefbr14(program) && !fixed.programs.has(program)
+}
+
 /// Warns of each program that is not there, at the EXEC statement that runs it.
 fn warn_of_programs(
     alloc: Global,
@@ -111,7 +122,7 @@ fn warn_of_programs(
     asides: &mut Vec<Aside>,
 ) -> Result<(), AllocError> {
     for (n, step) in deck.plan.steps.as_slice().iter().enumerate() {
-        if !is_iefbr14(&step.program) && !fixed.programs.has(&step.program) {
+        if is_missing(fixed, &step.program) {
             let words = no_program(alloc, &step.program)?;
             let card = stands.step_card(n.saturating_add(1)).unwrap_or(0);
             put_aside(
@@ -126,9 +137,27 @@ fn warn_of_programs(
 /// Warns of what a job asks for that is never given, or that is rarely meant.
 fn warn_of_job(
     alloc: Global,
+    first: usize,
+    stands: &Stands,
+    warnings: Vec<JobWarning>,
+    asides: &mut Vec<Aside>,
+) -> Result<(), AllocError> {
+    for warning in warnings {
+        let card = match warning.dd {
+            Some(dd) => stands.dd_card(alloc, warning.step, dd)?,
+            None => stands.step_card(warning.step),
+        };
+        let words = warning.words.as_slice();
+        put_aside(asides, warning_at(alloc, first, card.unwrap_or(0), words)?)?;
+    }
+    Ok(())
+}
+
+/// Warns of what stands at cards of steps and DDs. Where these stand is looked for if there is something to warn of.
+fn warn_at_cards(
+    alloc: Global,
     known: Known<'_, '_, '_, '_, '_>,
     deck: Taken<'_, '_>,
-    stands: &Stands,
     asides: &mut Vec<Aside>,
 ) -> Result<(), AllocError> {
     let configured = Configured {
@@ -136,26 +165,24 @@ fn warn_of_job(
         units: known.fixed.units.volumes(),
         rooms: known.site.rooms.as_slice(),
     };
-    for warning in warnings_of(alloc, deck.plan, configured)? {
-        let card = match warning.dd {
-            Some(dd) => stands.dd_card(deck.plan, warning.step, dd),
-            None => stands.step_card(warning.step),
-        };
-        put_aside(
-            asides,
-            warning_at(
-                alloc,
-                deck.first,
-                card.unwrap_or(0),
-                warning.words.as_slice(),
-            )?,
-        )?;
+    let warnings = warnings_of(alloc, deck.plan, configured)?;
+    let steps = deck.plan.steps.as_slice();
+    if warnings.is_empty()
+        && !steps
+            .iter()
+            .any(|step| is_missing(known.fixed, &step.program))
+    {
+        return Ok(());
     }
-    Ok(())
+    let stands = Stands::of(alloc, deck.library, deck.lines)?;
+    warn_of_programs(alloc, known.fixed, deck, &stands, asides)?;
+    warn_of_job(alloc, deck.first, &stands, warnings, asides)
 }
 
 /// What admission answers the job of a deck, if it came so far.
-fn answer_of<'a>(answers: &'a Answers, deck: &DeckRead) -> Option<&'a Answer> {
+fn answer_of<'a>(answers: &'a Answers, deck: &DeckRead) -> Option<&'a Answer>
+    ensures { option_map (λ a. a.now) result ≡ answer_to answers.now deck.now.job }
+{
     match deck.job {
         Some(job) => answers.of_job(job),
         None => None,
@@ -163,22 +190,43 @@ fn answer_of<'a>(answers: &'a Answers, deck: &DeckRead) -> Option<&'a Answer> {
 }
 
 /// The card of which an answer tells, if it tells of one: that of the DD which may fail, or of the step that has too many paths.
-fn card_of(stands: &Stands, plan: &JobPlan, answer: Option<&Answer>) -> Option<usize> {
+fn card_of(
+    alloc: Global,
+    deck: Taken<'_, '_>,
+    answer: Option<&Answer>,
+) -> Result<Option<usize>, AllocError>
+    ensures { IfOk result (λ card. card ≡ card_told (stood_of deck.entry) (option_map (λ a. a.now) answer.entry)) }
+{
     match answer {
-        Some(Answer::Risk { step, dd, .. }) => stands.dd_card(plan, *step, *dd),
-        Some(Answer::TooMany(step)) => stands.step_card(*step),
-        _ => None,
+        Some(Answer::Risk { step, dd, .. }) => {
+            let stands = Stands::of(alloc, deck.library, deck.lines)?;
+            stands.dd_card(alloc, *step, *dd)
+        }
+        Some(Answer::TooMany(step)) => {
+            let stands = Stands::of(alloc, deck.library, deck.lines)?;
+            Ok(stands.step_card(*step))
+        }
+        _ => Ok(None),
     }
 }
 
-/// What is said of a card, with the card behind its first line.
-fn with_card(alloc: Global, said: &[u8], card: &[u8]) -> Result<Vec<u8>, AllocError> {
-    let line = said.iter().take_while(|c| **c != b'\n').count();
-    let (first, behind) = said.split_at(line.saturating_add(1).min(said.len()));
-    let mut text = Vec::from_slice(alloc, first)?;
-    push_card(&mut text, card)?;
-    text.extend_from_slice(behind)?;
-    Ok(text)
+/// The line of a card, of a deck whose first card stands on this line.
+fn line_at(first: usize, card: Option<usize>) -> Result<usize, AllocError>
+    ensures ok { IfOk result (λ line. line ≡ line_at first card) }
+    ensures err { OnErr result (2 ^ 64 ≤ line_at first card) }
+{
+    match first.checked_add(card.unwrap_or(0)) {
+        Some(line) => Ok(line),
+        None => Err(AllocError),
+    }
+}
+
+/// A card of a deck, where there is one.
+fn shown_of<'a>(lines: &'a [Lent<'_>], card: Option<usize>) -> Option<&'a [u8]> {
+    match lines.get(card?) {
+        Some(line) => Some(line.as_slice()),
+        None => None,
+    }
 }
 
 /// Whether these cards denote the job with IEFBR14 in place of its programs.
@@ -239,25 +287,53 @@ fn answer_at(
     alloc: Global,
     known: Known<'_, '_, '_, '_, '_>,
     deck: Taken<'_, '_>,
-    card: Option<usize>,
     read: &DeckRead,
-) -> Result<Aside, AllocError> {
-    let place = card.unwrap_or(0);
-    let line = deck.first.saturating_add(place);
-    let mut text = Vec::new(alloc);
+) -> Result<Aside, AllocError>
+    ensures { IfOk result (λ aside. BeginsWith (head_of deck.entry known.entry.answers.now read.now) aside.text.items) }
+{
     let answer = answer_of(known.answers, read);
-    push_answer(&mut text, line, deck.plan, read.job, answer)?;
+    let card = card_of(alloc, deck, answer)?;
+    let line = line_at(deck.first, card)?;
+    let mut text = Vec::new(alloc);
+    let shown = shown_of(deck.lines, card);
+    push_answer(&mut text, line, deck.plan, read.job, answer, shown)?;
     let tried = tried_by(alloc, known, deck.plan, read)?;
     let said = trial_words(alloc, deck.plan, answer, tried.as_ref())?;
     text.extend_from_slice(said.as_slice())?;
-    let shown = match card {
-        Some(n) => deck.lines.get(n),
-        None => None,
-    };
-    if let Some(shown) = shown {
-        text = with_card(alloc, text.as_slice(), shown.as_slice())?;
+    Ok(Aside {
+        card: card.unwrap_or(0),
+        text,
+    })
+}
+
+/// Puts what admission answers the job of a deck that is read among what is told of it.
+fn put_read(
+    alloc: Global,
+    known: Known<'_, '_, '_, '_, '_>,
+    deck: Taken<'_, '_>,
+    read: &DeckRead,
+    asides: &mut Vec<Aside>,
+) -> Result<(), AllocError>
+    ensures { OnOk result (OneAnswers deck.entry known.entry.answers.now (Some read.now) asides.new.items) }
+{
+    let aside = answer_at(alloc, known, deck, read)?;
+    put_aside(asides, aside)
+}
+
+/// The same, if the deck is read.
+fn put_answer(
+    alloc: Global,
+    known: Known<'_, '_, '_, '_, '_>,
+    deck: Taken<'_, '_>,
+    read: Option<DeckRead>,
+    asides: &mut Vec<Aside>,
+) -> Result<(), AllocError>
+    ensures { OnOk result (OneAnswers deck.entry known.entry.answers.now read asides.new.items) }
+{
+    match read {
+        Some(one) => put_read(alloc, known, deck, &one, asides),
+        None => Ok(()),
     }
-    Ok(Aside { card: place, text })
 }
 
 /// What else is told of a job, card by card: what is not configured for it, and what admission answers it.
@@ -266,19 +342,16 @@ pub(crate) fn job_asides(
     known: Known<'_, '_, '_, '_, '_>,
     deck: Taken<'_, '_>,
     read: Option<DeckRead>,
-) -> Result<Vec<Aside>, AllocError> {
-    let stands = Stands::of(alloc, &known.fixed.library, deck.lines)?;
+) -> Result<Vec<Aside>, AllocError>
+    ensures { IfOk result (λ asides. OneAnswers deck.entry known.entry.answers.now read asides.items) }
+{
     let mut asides = Vec::new(alloc);
     let statement = match &read {
         Some(read) if read.job.is_some() => Some(read.statement),
         _ => None,
     };
     warn_of_class(alloc, known, deck, statement, &mut asides)?;
-    warn_of_programs(alloc, known.fixed, deck, &stands, &mut asides)?;
-    warn_of_job(alloc, known, deck, &stands, &mut asides)?;
-    if let Some(read) = read {
-        let card = card_of(&stands, deck.plan, answer_of(known.answers, &read));
-        put_aside(&mut asides, answer_at(alloc, known, deck, card, &read)?)?;
-    }
+    warn_at_cards(alloc, known, deck, &mut asides)?;
+    put_answer(alloc, known, deck, read, &mut asides)?;
     Ok(asides)
 }

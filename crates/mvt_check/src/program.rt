@@ -1,8 +1,8 @@
 //! What the program does, over its streams: its status, and what it says on the stream of errors.
-ghost use Rattle.std.specs.Prelude.{◌≡◌, ◌⊎◌, IfOk, false, if◌then◌else◌};
-ghost use Rattle.session_core.specs.Streams.{sink_state, source_state};
+ghost use Rattle.std.specs.Prelude.{◌≡◌, IfOk, false, if◌then◌else◌};
+ghost use Rattle.session_core.specs.Streams.{sink_state};
 ghost use Rattle.mvt_check.specs.Brief.{brief_of};
-ghost use Rattle.mvt_check.specs.Checking.{Checks, IsFoundIn, IsTold, Starves};
+ghost use Rattle.mvt_check.specs.Checking.{ChecksStreams, IsFoundIn, IsTold};
 
 use crate::brief::brief_of;
 use crate::session::{Found, check_session};
@@ -115,9 +115,7 @@ pub(crate) fn run_program<R: Read, W: Write, E: Write>(
 ) -> Ended
     requires source_unfailed { source.old.failed ≡ false }
     requires sink_unfailed { sink.old.failed ≡ false }
-    ensures { Checks options wishes (source_state R.remaining source.old) (source_state R.remaining source.new)
-        (sink_state W.contents sink.old) (sink_state W.contents sink.new) result.status
-        ⊎ Starves (sink_state W.contents sink.old) (sink_state W.contents sink.new) result.status }
+    ensures { ChecksStreams R.remaining W.contents options wishes source.old source.new sink.old sink.new result.status }
 {
     let Ok(input) = read_text(alloc, source) else {
         return end_out_of_memory(errors);

@@ -1,13 +1,11 @@
 //! All decks of a session, looked at.
-ghost use Rattle.std.specs.Prelude.{◌≡◌, ◌≤◌, ◌++◌, ◌||◌, ℕ, List, IfOk, OnOk, Some, decimal, false, is_err, is_some, true};
+ghost use Rattle.std.specs.Prelude.{◌≡◌, ◌≤◌, ◌++◌, ◌||◌, IfOk, OnOk, Some, decimal, false, is_err, is_some, true, All};
 ghost use Rattle.std.specs.List.{list_any};
-ghost use Rattle.check_core.specs.Reports.{AreTold};
-ghost use Rattle.config_core.specs.Configs.{unit_names};
 ghost use Rattle.jcl_job.specs.Jobs.{job_of};
-ghost use Rattle.proc_library.specs.declared.library.LibraryProcedure.{LibraryProcedure};
 ghost use Rattle.session_core.specs.Opening.{IsOpened};
-ghost use Rattle.mvt_check.specs.Above.{is_above, told_at, told_line};
-ghost use Rattle.mvt_check.specs.Checking.{AddsAll, AddsDeck, AddsEvent, AddsFound, AddsOpened, AddsRead, AddsSaid, GoesOn, IsFound, IsLookedAt, TellsFault, TellsStop, fault_at, fault_of, fault_text, is_refused, is_refused_event, is_refused_so, is_risk, one, refused_decks, risks_in, some_refused, sums_text, warnings_text};
+ghost use Rattle.mvt_check.specs.Above.{told_at, told_line};
+ghost use Rattle.mvt_check.specs.Checking.{AddsDecks, GoesOn, IsFound, IsLookedAt, TellsFault, TellsStop, fault_at, fault_of, fault_text, has_refused, is_refused, is_refused_event, is_refused_so, is_risk, one, refused_decks, risks_in, some_refused, sums_text, warnings_text, AddsLooked, deck_for, decks_left, AddsDeckOf, AddsEventOf, AddsReadOf, AddsStatementOf, AddsStatementsOf};
+ghost use Rattle.mvt_check.specs.Cards.{HasAside, TellsLooked, TellsTaken};
 
 use crate::above::{is_above, text_above, told_line};
 use crate::answers::answer::{Answer, Answers, DeckRead};
@@ -23,6 +21,7 @@ use itoa::Buffer;
 use plain::lent::Lent;
 use plain::text::Text;
 use play_core::play::added_events;
+use proc_library::library::ProcLibrary;
 use run_options::Options;
 use session_core::SessionFault;
 use session_core::open::{Opened, open};
@@ -224,7 +223,9 @@ fn push_in_order(
     first: usize,
     warned: &[Warned],
     asides: &[Aside],
-) -> Result<(), AllocError> {
+) -> Result<(), AllocError>
+    ensures { OnOk result (All (HasAside text.new.items) asides.now) }
+{
     let mut left = warned;
     for aside in asides {
         let count = count_up_to(left, aside.card).min(left.len());
@@ -236,22 +237,53 @@ fn push_in_order(
     push_warned(text, first, left)
 }
 
-/// What else is told of a deck that denotes a job: what it warns of, and what is told of its job, in the order of cards.
+/// A deck that was looked at: the line of the session on which its first card stands, its lines, the procedures of the session, and what was found.
+#[derive(Clone, Copy)]
+struct Looked<'a, 'b> {
+    first: usize,
+    lines: &'a [Lent<'b>],
+    library: &'a ProcLibrary,
+    checked: &'a Checked,
+}
+
+/// What is told of a deck that denotes a job: what it warns of, and what is told of its job, in the order of cards.
+fn taken_asides(
+    alloc: Global,
+    known: Known<'_, '_, '_, '_, '_>,
+    taken: Taken<'_, '_>,
+    warned: &[Warned],
+    deck: Option<DeckRead>,
+) -> Result<Vec<u8>, AllocError>
+    ensures { IfOk result (λ text. TellsTaken taken.entry known.entry.answers.now deck text.items) }
+{
+    let asides = job_asides(alloc, known, taken, deck)?;
+    let mut text = Vec::new(alloc);
+    push_in_order(&mut text, taken.first, warned, asides.as_slice())?;
+    Ok(text)
+}
+
+/// What else is told of a deck, if it denotes a job.
 fn asides_of(
     alloc: Global,
     known: Known<'_, '_, '_, '_, '_>,
-    first: usize,
-    lines: &[Lent<'_>],
-    checked: &Checked,
+    found: Looked<'_, '_>,
     warned: &[Warned],
     deck: Option<DeckRead>,
-) -> Result<Vec<u8>, AllocError> {
-    let mut text = Vec::new(alloc);
-    if let Checked::Taken(plan) = checked {
-        let asides = job_asides(alloc, known, Taken { first, lines, plan }, deck)?;
-        push_in_order(&mut text, first, warned, asides.as_slice())?;
+) -> Result<Vec<u8>, AllocError>
+    ensures { IfOk result (λ text. TellsLooked found.entry known.entry.answers.now deck text.items) }
+{
+    match found.checked {
+        Checked::Taken(plan) => {
+            let taken = Taken {
+                first: found.first,
+                lines: found.lines,
+                library: found.library,
+                plan,
+            };
+            taken_asides(alloc, known, taken, warned, deck)
+        }
+        Checked::Refused { .. } => Ok(Vec::new(alloc)),
     }
-    Ok(text)
 }
 
 /// Whether the deck of which this is told is refused.
@@ -268,19 +300,17 @@ fn is_refused(checked: &Checked) -> bool
 fn tell_deck(
     alloc: Global,
     known: Known<'_, '_, '_, '_, '_>,
-    first: usize,
-    lines: &[Lent<'_>],
-    checked: &Checked,
+    found: Looked<'_, '_>,
     deck: Option<DeckRead>,
     text: &mut Vec<u8>,
 ) -> Result<bool, AllocError>
-    ensures refused { IfOk result (λ refused. refused ≡ is_refused_so checked.now) }
-    ensures added { OnOk result (AddsFound first lines.now checked.now text.old.items text.new.items) }
+    ensures refused { IfOk result (λ refused. refused ≡ is_refused_so found.entry.checked.now) }
+    ensures added { OnOk result (AddsLooked found.entry known.entry.answers.now deck text.old.items text.new.items) }
 {
-    let warned = push_found(alloc, text, first, lines, checked)?;
-    let asides = asides_of(alloc, known, first, lines, checked, warned.as_slice(), deck)?;
+    let warned = push_found(alloc, text, found.first, found.lines, found.checked)?;
+    let asides = asides_of(alloc, known, found, warned.as_slice(), deck)?;
     text.extend_from_slice(asides.as_slice())?;
-    Ok(is_refused(checked))
+    Ok(is_refused(found.checked))
 }
 
 /// Looks at a deck, whose first card stands on this line of the session, and tells whether it is refused.
@@ -294,10 +324,16 @@ fn check_lines(
     text: &mut Vec<u8>,
 ) -> Result<bool, AllocError>
     ensures refused { IfOk result (λ refused. refused ≡ is_err (job_of sources.now.units.now sources.now.library.now lines.now)) }
-    ensures added { OnOk result (AddsDeck sources.now.units.now sources.now.library.now first lines.now text.old.items text.new.items) }
+    ensures added { OnOk result (AddsDeckOf sources.now known.entry deck first lines.now text.old.items text.new.items) }
 {
     let checked = check_deck(alloc, sources, lines)?;
-    tell_deck(alloc, known, first, lines, &checked, deck, text)
+    let found = Looked {
+        first,
+        lines,
+        library: sources.library,
+        checked: &checked,
+    };
+    tell_deck(alloc, known, found, deck, text)
 }
 
 /// Looks at the deck of an event, if it has one, and tells whether it is refused.
@@ -311,7 +347,7 @@ fn check_event(
     text: &mut Vec<u8>,
 ) -> Result<bool, AllocError>
     ensures refused { IfOk result (λ refused. refused ≡ is_refused_event sources.now.units.now sources.now.library.now event.now) }
-    ensures added { OnOk result (AddsEvent sources.now.units.now sources.now.library.now first event.now text.old.items text.new.items) }
+    ensures added { OnOk result (AddsEventOf sources.now known.entry deck first event.now text.old.items text.new.items) }
 {
     match event {
         Event::Read(cards) => {
@@ -333,8 +369,7 @@ fn check_read(
     text: &mut Vec<u8>,
 ) -> Result<bool, AllocError>
     ensures refused { IfOk result (λ refused. refused ≡ is_refused_event sources.now.units.now sources.now.library.now event.now) }
-    ensures added { OnOk result (AddsRead (is_above known.entry.above line) sources.now.units.now sources.now.library.now known.entry.above line event.now
-        text.old.items text.new.items) }
+    ensures added { OnOk result (AddsReadOf sources.now known.entry deck line event.now text.old.items text.new.items) }
 {
     let Some(behind) = line.checked_add(1) else {
         return Err(AllocError);
@@ -360,8 +395,7 @@ fn check_statement(
     text: &mut Vec<u8>,
 ) -> Result<bool, AllocError>
     ensures refused { IfOk result (λ refused. refused ≡ is_refused sources.now.units.now sources.now.library.now statement.now.says) }
-    ensures added { OnOk result (AddsSaid sources.now.units.now sources.now.library.now known.entry.above statement.now.line statement.now.says
-        text.old.items text.new.items) }
+    ensures added { OnOk result (AddsStatementOf sources.now known.entry deck statement.now text.old.items text.new.items) }
 {
     match &statement.says {
         Says::Events(event, _) => {
@@ -386,11 +420,23 @@ fn one(refused: bool) -> usize
     if refused { 1 } else { 0 }
 }
 
-/// The deck at this place, if it is that of this statement.
-fn deck_at(decks: &[DeckRead], place: usize, statement: usize) -> Option<DeckRead> {
-    match decks.get(place) {
-        Some(deck) if deck.statement == statement => Some(*deck),
+/// The first of these decks, if it is that of the statement at this place.
+fn deck_for(decks: &[DeckRead], at: usize) -> Option<DeckRead>
+    ensures { result ≡ deck_for decks.now at }
+{
+    match decks.split_first() {
+        Some((deck, _)) if deck.statement == at => Some(*deck),
         _ => None,
+    }
+}
+
+/// The decks of the statements behind this place.
+fn decks_left<'a>(decks: &'a [DeckRead], at: usize) -> &'a [DeckRead]
+    ensures { result.now ≡ decks_left decks.now at }
+{
+    match decks.split_first() {
+        Some((deck, behind)) if deck.statement == at => behind,
+        _ => decks,
     }
 }
 
@@ -404,16 +450,14 @@ fn check_statements(
 ) -> Result<(bool, usize), AllocError>
     ensures refused { IfOk result (λ r. r.0 ≡ some_refused sources.now.units.now sources.now.library.now statements.now) }
     ensures counted { IfOk result (λ r. r.1 ≡ refused_decks sources.now.units.now sources.now.library.now statements.now) }
-    ensures added { OnOk result (AddsAll sources.now.units.now sources.now.library.now known.entry.above statements.now text.old.items text.new.items) }
+    ensures added { OnOk result (AddsStatementsOf sources.now known.entry statements.now text.old.items text.new.items) }
 {
     let mut refused = false;
     let mut count = 0;
-    let mut place: usize = 0;
+    let mut decks = known.answers.decks.as_slice();
     for (n, statement) in statements.iter().enumerate() {
-        let deck = deck_at(known.answers.decks.as_slice(), place, n);
-        if deck.is_some() {
-            place = place.saturating_add(1);
-        }
+        let deck = deck_for(decks, n);
+        decks = decks_left(decks, n);
         let own = check_statement(alloc, sources, known, statement, deck, text)?;
         refused = either(refused, own);
         count += one(own);
@@ -519,10 +563,8 @@ fn check_opened(
     statements: &[Statement<'_>],
     found: &mut Found,
 ) -> Result<(), AllocError>
-    ensures text { OnOk result (AddsOpened (unit_names known.now.fixed.now.units) known.now.fixed.now.library known.now.above statements.now
-        (risks_in known.now.answers.now.by_job.items) found.old.text.items found.new.text.items) }
-    ensures refused { OnOk result (found.new.refused
-        ≡ (found.old.refused || some_refused (unit_names known.now.fixed.now.units) known.now.fixed.now.library statements.now)) }
+    ensures text { OnOk result (AddsDecks known.now.fixed.now known.now.answers.now known.now.above statements.now found.old.text.items found.new.text.items) }
+    ensures refused { OnOk result (found.new.refused ≡ (found.old.refused || has_refused known.now.fixed.now statements.now)) }
     ensures risk { OnOk result (found.new.at_risk ≡ list_any is_risk known.now.answers.now.by_job.items) }
 {
     let names = names_in(alloc, statements)?;

@@ -1,6 +1,6 @@
 //! What an event answers a job is noted at the job's number.
 ghost use Rattle.std.specs.Prelude.{◌≡◌, ◌≤◌, ℕ, None, OnOk, length, slice_index_or};
-ghost use Rattle.mvt_check.specs.Answers.{answer_for, answered_by};
+ghost use Rattle.mvt_check.specs.Answers.{AreNoted, answered_by};
 
 use crate::answers::answer::Answer;
 use crate::answers::told::answer_by;
@@ -26,8 +26,7 @@ pub(crate) fn note_answer(
     told: Option<(u16, JobLine)>,
     path: Listed<JobLine>,
 ) -> Result<(), AllocError>
-    ensures { OnOk result ((job : ℕ) →
-        slice_index_or by_job.new.items job None ≡ answer_for job (slice_index_or by_job.old.items job None) (answered_by path told)) }
+    ensures { OnOk result (AreNoted (answered_by path told) by_job.old.items by_job.new.items) }
 {
     let Some((job, line)) = told else {
         return Ok(());

@@ -1,10 +1,11 @@
 //! The words for an answer.
-ghost use Rattle.std.specs.Prelude.{◌≡◌, ℕ, ◌++◌, List, OnOk, codes, decimal, option_map};
-ghost use Rattle.mvt_check.specs.Words.{beginning, number_text, verdict_text};
+ghost use Rattle.std.specs.Prelude.{◌≡◌, ℕ, ◌++◌, List, OnOk, option_map};
+ghost use Rattle.mvt_check.specs.Words.{number_text, verdict_text, beginning};
 
 use crate::answers::answer::Answer;
 use crate::answers::names::{Shown, push_count, push_number, push_step};
 use crate::answers::risk::{Met, push_risk};
+use check_core::text::push_card;
 use jcl_plan::entry::JobLine;
 use jcl_plan::plan::JobPlan;
 use std::alloc::{AllocError, Global};
@@ -129,25 +130,48 @@ fn push_job_number(text: &mut Vec<u8>, job: Option<u16>) -> Result<(), AllocErro
     Ok(())
 }
 
-/// Writes what admission answers the job of a deck, which has this number, as a paragraph of one line. It is told at this line of the session, which counts
-/// from 1, and the plan is what the deck denotes.
+/// What is said of an answer in the session, with a card behind its first line.
+fn said_with(
+    alloc: Global,
+    plan: &JobPlan,
+    answer: Option<&Answer>,
+    card: Option<&[u8]>,
+) -> Result<Vec<u8>, AllocError> {
+    let said = said_of(alloc, plan, answer, false)?;
+    match card {
+        Some(card) => with_card(alloc, said.as_slice(), card),
+        None => Ok(said),
+    }
+}
+
+/// What is said, with a card behind its first line.
+fn with_card(alloc: Global, said: &[u8], card: &[u8]) -> Result<Vec<u8>, AllocError> {
+    let line = said.iter().take_while(|c| **c != b'\n').count();
+    let (first, behind) = said.split_at(line.saturating_add(1).min(said.len()));
+    let mut text = Vec::from_slice(alloc, first)?;
+    push_card(&mut text, card)?;
+    text.extend_from_slice(behind)?;
+    Ok(text)
+}
+
+/// Writes what admission answers the job of a deck, which has this number: a line, the card of which it tells, and what can be done about it. It is told at
+/// this line of the session, which counts from 1, and the plan is what the deck denotes.
 pub fn push_answer(
-    text: &mut Vec<u8>,
+    out: &mut Vec<u8>,
     line: usize,
     plan: &JobPlan,
     job: Option<u16>,
     answer: Option<&Answer>,
+    card: Option<&[u8]>,
 ) -> Result<(), AllocError>
-    ensures line { OnOk result ((rest : List ℕ) × (text.new.items ≡ text.old.items ++ codes "line " ++ decimal line ++ codes ": job " ++ rest)) }
-    ensures verdict { OnOk result ((rest : List ℕ) ×
-        (text.new.items ≡ text.old.items ++ beginning line job plan.now.name (option_map (λ a. a.now) answer.entry) ++ rest)) }
+    ensures { OnOk result ((rest : List ℕ) × (out.new.items ≡ out.old.items ++ beginning line job plan.now.name (option_map (λ a. a.now) answer.entry) ++ rest)) }
 {
-    let said = said_of(*text.allocator(), plan, answer, false)?;
-    text.extend_from_slice(b"line ")?;
-    push_number(text, line as u64)?;
-    text.extend_from_slice(b": job ")?;
-    push_job_number(text, job)?;
-    text.extend_from_slice(plan.name.as_slice())?;
-    text.extend_from_slice(verdict_of(answer))?;
-    text.extend_from_slice(said.as_slice())
+    let said = said_with(*out.allocator(), plan, answer, card)?;
+    out.extend_from_slice(b"line ")?;
+    push_number(out, line as u64)?;
+    out.extend_from_slice(b": job ")?;
+    push_job_number(out, job)?;
+    out.extend_from_slice(plan.name.as_slice())?;
+    out.extend_from_slice(verdict_of(answer))?;
+    out.extend_from_slice(said.as_slice())
 }

@@ -16,7 +16,7 @@ returns c =
       refused = IfOk-weaker c.tell_deck.result (λ r. r ≡ is_refused_so checked) (λ r. r ≡ is_err (job_of units library lines))
           (λ r so. so ∙ refused_so units library lines checked c.in_ok-checked.ensures) c.tell_deck.ensures.refused;
       added = on_ok_weaker c.tell_deck.result
-          (λ (adds : AddsFound c.args.first lines checked c.args.text.now.items c.tell_deck.new.text.items).
+          (λ (adds : AddsFound library c.args.known.answers.now c.args.deck c.args.first lines checked c.args.text.now.items c.tell_deck.new.text.items).
           record { checked = checked; told = c.in_ok-checked.ensures; adds = adds })
           c.tell_deck.ensures.added;
     }

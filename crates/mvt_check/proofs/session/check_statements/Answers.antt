@@ -16,7 +16,7 @@ loop-n-preserved c =
       counted = counted_on units library statements c.loop-n.n s cut c.loop-n.count c.in_ok-own.own c.one-count.result
           c.loop-n.invariant.counted c.in_ok-own.ensures.refused c.one-count.ensures.number;
       few = omega (arith, c.loop-n.invariant.few, c.one-count.ensures.bound);
-      added = adds_on units library statements c.loop-n.n s cut c.args.known.above c.args.text.now.items c.loop-n.text.items
-          c.check_statement.new.text.items
-          c.in_ok-own.ensures.added c.loop-n.invariant.added;
+      added = adds_on units library statements c.loop-n.n s cut c.args.known.answers.now c.loop-n.decks.now c.decks_left-decks.result.now c.deck_for-deck.result
+          c.args.known.above c.args.text.now.items c.loop-n.text.items c.check_statement.new.text.items
+          c.deck_for-deck.ensures c.decks_left-decks.ensures c.in_ok-own.ensures.added c.loop-n.invariant.added;
     }
