@@ -203,7 +203,7 @@ def fault_lines(listing, job):
         found = re.match(r"DISP (\d+) \S+ (F\d)$", line)
         if admitted and found:
             return found[2], running
-        found = re.match(r"LEFT STEP (\d+) DD (\d+) .*(F\d)$", line) or re.match(r"LEFT (\d+) (\d+) .*(F\d)$", line)
+        found = re.match(r"LEFT (\d+)\.(\d+) .*(F\d)$", line)
         if admitted and found:
             return found[3], int(found[1])
         if line == "END":
