@@ -20,7 +20,7 @@ use Rattle.world_meaning.specs.Worlds.{World}
 use Rattle.world_meaning.specs.Zaps.{ZapsRecord, has_initiator, may_be_zapped, not_owned, selected as zaps_selected, zapped}
 use Rattle.world_meaning.specs.Cancels.{RunsNot}
 use Rattle.case_laws.specs.Cases.{CanBeWritten}
-use Rattle.case_laws.proofs.Dates.{Dated, dated}
+use Rattle.date_core.proofs.Dates.{Dated, dated}
 use Rattle.case_laws.proofs.Finding.{Found, Has, contains_at, found_or_none, running_of, waiting_of}
 use Rattle.case_laws.proofs.Freed.{freed, released_conserves}
 use Rattle.case_laws.proofs.Spools.{Given, given_or_none}

@@ -2,7 +2,6 @@ mod Firsts
 mod Blocks
 mod Queues
 mod Spools
-mod Dates
 mod Placing
 mod Unmade
 mod Sums

@@ -16,7 +16,7 @@ use Rattle.world_meaning.specs.declared.event.Event.{Event}
 use Rattle.world_meaning.specs.declared.event.Event.TheVariants as event
 use Rattle.world_meaning.specs.Cancels.{CancelsJob, RunsNot, admitted as cancels_admitted, is_admitted, no_job, selected as cancels_selected, waiting as cancels_waiting}
 use Rattle.world_meaning.specs.Devices.{EndsDevice, Writes, ended, idle, no_volume, nothing_written, wrote}
-use Rattle.world_meaning.specs.Displays.{SetsDate, days_before, set as dated}
+use Rattle.world_meaning.specs.Displays.{SetsDate, set as dated}
 use Rattle.world_meaning.specs.Readings.{Denoting, IsWritten, Reads, full, no_number, read, read_line, rejected}
 use Rattle.world_meaning.specs.Selections.{Selects, nothing, selected}
 use Rattle.world_meaning.specs.Transitions.{Acts, Does, Transition, Turns, acts, past, shown, taken, unknown, GoesOn, explained_by, told_with}
@@ -30,7 +30,8 @@ use Rattle.case_laws.proofs.Needed.{needed}
 use Rattle.case_laws.proofs.Queues.{not_both as not_both_selected, same_job}
 use Rattle.case_laws.proofs.Spools.{not_both as not_both_written, same_line, same_taken_job}
 use Rattle.case_laws.proofs.Supplies.{get_number, same_place}
-use Rattle.case_laws.proofs.Dates.{one_day, one_year}
+use Rattle.date_core.specs.Dates.{days_before}
+use Rattle.date_core.proofs.Dates.{one_day, one_year}
 use Rattle.case_laws.proofs.TurnLines.{goes_same}
 
 -- a job is written only where there are records enough for it

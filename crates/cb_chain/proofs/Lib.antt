@@ -9,3 +9,4 @@ pub mod Small
 pub mod SoFar
 pub mod Stored
 pub mod Whole
+pub mod DaysHeld

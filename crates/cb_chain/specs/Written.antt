@@ -1,8 +1,15 @@
 -- What writing a job's plan into a store leaves there. (This profile)
 use Rattle.std.specs.Prelude.{◌≡◌, ◌≢◌, ℕ, ◌*◌, ◌^◌, ◌<◌, ◌==◌, true, false, List, All, drop, replicate, slice_get, take, Some}
 use Rattle.std.specs.List.{list_any}
+use Rattle.jcl_plan.specs.declared.plan.DdKind.{DdKind}
+use Rattle.jcl_plan.specs.declared.plan.DdKind.TheVariants.{Cards, Dummy, Set, Sysout}
+use Rattle.jcl_plan.specs.declared.plan.DdPlan.{DdPlan}
+use Rattle.jcl_plan.specs.declared.plan.Expiry.{Expiry}
 use Rattle.jcl_plan.specs.declared.plan.JobPlan.{JobPlan}
+use Rattle.jcl_plan.specs.declared.plan.StepPlan.{StepPlan}
 use Rattle.cb_meaning.specs.declared.layout.Layout.{Layout}
+use Rattle.cb_meaning.specs.declared.layout.TheConstants.{LAST_DAY}
+use Rattle.cb_meaning.specs.Codes.{expiry_code, expiry_number}
 use Rattle.cb_meaning.specs.Layouts.{all_apart, card_places, jct_places, jfcb_places, sct_places, siot_places}
 use Rattle.cb_meaning.specs.Fields.{byte_at, part}
 use Rattle.cb_meaning.specs.Needs.{IsPacked, records_needed}
@@ -27,6 +34,28 @@ pub record HoldsJobs (l : Layout) : Type 0 where
   pub step_count : l.most_steps < 256 ^ l.steps.width
   pub dd_count : most_dds < 256 ^ l.dds.width
   pub card_count : 2 * l.most_records < 256 ^ l.cards.width
+
+-- The fields of a layout are wide enough for what is said of a set's expiry, and so for all that is said of those of a job.
+pub record HoldsExpiry (l : Layout) (e : Expiry) : Type 0 where
+  pub kind : expiry_code e < 256 ^ l.expiry_kind.width
+  pub days : expiry_number e < 256 ^ l.expiry_days.width
+
+abbrev pub HoldsKind : Layout → DdKind → Type 0
+HoldsKind l (Set p) = HoldsExpiry l p.expiry
+HoldsKind l Dummy = Unit {0}
+HoldsKind l (Sysout class) = Unit {0}
+HoldsKind l (Cards cards) = Unit {0}
+
+abbrev pub HoldsDds : Layout → List DdPlan → Type 0
+HoldsDds l dds = All (λ dd. HoldsKind l dd.kind) dds
+
+abbrev pub HoldsSteps : Layout → List StepPlan → Type 0
+HoldsSteps l steps = All (λ step. HoldsDds l step.dds) steps
+
+-- A layout in which a set can have any day.
+pub record HasDays (l : Layout) : Type 0 where
+  pub kind : 2 < 256 ^ l.expiry_kind.width
+  pub days : LAST_DAY < 256 ^ l.expiry_days.width
 
 -- nothing stands in the status bytes of a record: all of its bytes from 168 on are zeros
 abbrev pub HasNoStatus : List ℕ → Type 0

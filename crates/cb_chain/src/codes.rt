@@ -1,8 +1,8 @@
 //! The numbers by which records tell words.
 ghost use Rattle.std.specs.Prelude.{◌≡◌};
-ghost use Rattle.cb_meaning.specs.Codes.{after_abend_code, conditional_code, normal_code, operator_code, status_code};
+ghost use Rattle.cb_meaning.specs.Codes.{after_abend_code, conditional_code, expiry_code, expiry_number, normal_code, operator_code, status_code};
 
-use jcl_plan::plan::{AfterAbend, ConditionalWord, Operator, Status, Word};
+use jcl_plan::plan::{AfterAbend, ConditionalWord, Expiry, Operator, Status, Word};
 
 pub(crate) fn operator_code(operator: Operator) -> u8
     ensures { result ≡ operator_code operator }
@@ -24,6 +24,28 @@ pub(crate) fn after_abend_code(after: AfterAbend) -> u8
         AfterAbend::Unsaid => 0,
         AfterAbend::Even => 1,
         AfterAbend::Only => 2,
+    }
+}
+
+/// What is said of a set's expiry.
+pub(crate) fn expiry_code(expiry: Expiry) -> u32
+    ensures { result ≡ expiry_code expiry }
+{
+    match expiry {
+        Expiry::NotCoded => 0,
+        Expiry::Day(_) => 1,
+        Expiry::DaysFromToday(_) => 2,
+    }
+}
+
+/// The day of a set, or how many days it is kept from the job's date.
+pub(crate) fn expiry_number(expiry: Expiry) -> u32
+    ensures { result ≡ expiry_number expiry }
+{
+    match expiry {
+        Expiry::NotCoded => 0,
+        Expiry::Day(day) => day.number(),
+        Expiry::DaysFromToday(days) => u32::from(days),
     }
 }
 

@@ -2,6 +2,7 @@
 ghost use Rattle.std.specs.Prelude.{◌≡◌, ◌≢◌, ◌≤◌, ◌+◌, [], ◌∷◌, IsTrue, length};
 ghost use Rattle.cb_meaning.specs.Needs.{records_below};
 ghost use Rattle.cb_chain.specs.Taking.{DdsFrom, IsReady, IsTaken, Links, OfDds, OfKind, Writes, dds_needed};
+ghost use Rattle.cb_chain.specs.Written.{HoldsDds, HoldsExpiry, HoldsKind};
 
 use crate::cards::write_cards;
 use crate::dd_record::siot_record;
@@ -16,6 +17,7 @@ fn write_set<S: RecordStore>(store: &mut S, layout: &Layout, job: u16, set: &Set
     requires owner { job ≢ 0 }
     requires ready { IsReady (S.queue store.old) }
     requires layout { layout.now ≡ (S.queue store.old).layout }
+    requires expiry { HoldsExpiry layout.now set.now.expiry }
     requires room { S.lacking store.old + 1 ≤ length (S.queue store.old).free }
     ensures value { Writes 1 (OfKind layout.now job (DdKind.Set set.now)) (S.queue store.old) (S.queue store.new) result }
     ensures room { S.lacking store.new ≡ S.lacking store.old }
@@ -30,6 +32,7 @@ fn write_below<S: RecordStore>(store: &mut S, layout: &Layout, job: u16, kind: &
     requires owner { job ≢ 0 }
     requires ready { IsReady (S.queue store.old) }
     requires layout { layout.now ≡ (S.queue store.old).layout }
+    requires days { HoldsKind layout.now kind.now }
     requires room { S.lacking store.old + records_below kind.now ≤ length (S.queue store.old).free }
     ensures value { Writes (records_below kind.now) (OfKind layout.now job kind.now) (S.queue store.old) (S.queue store.new) result }
     ensures room { S.lacking store.new ≡ S.lacking store.old }
@@ -56,6 +59,7 @@ fn write_dd<S: RecordStore>(
     requires ready { IsReady (S.queue store.old) }
     requires layout { layout.now ≡ (S.queue store.old).layout }
     requires taken { IsTaken job (S.queue store.old) here }
+    requires days { HoldsKind layout.now dd.now.kind }
     requires room { S.lacking store.old + records_below dd.now.kind ≤ length (S.queue store.old).free }
     requires next { IsTrue more → S.lacking store.old + records_below dd.now.kind + 1 ≤ length (S.queue store.old).free }
     ensures value { Links job (records_below dd.now.kind) (DdsFrom layout.now job) (dd.now ∷ []) more here (S.queue store.old) (S.queue store.new) result }
@@ -77,6 +81,7 @@ pub(crate) fn write_dds<S: RecordStore>(
     requires owner { job ≢ 0 }
     requires ready { IsReady (S.queue store.old) }
     requires layout { layout.now ≡ (S.queue store.old).layout }
+    requires days { HoldsDds layout.now dds.now }
     requires room { S.lacking store.old + dds_needed dds.now ≤ length (S.queue store.old).free }
     ensures value { Writes (dds_needed dds.now) (OfDds layout.now job dds.now) (S.queue store.old) (S.queue store.new) result }
     ensures room { S.lacking store.new ≡ S.lacking store.old }

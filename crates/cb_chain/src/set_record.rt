@@ -4,8 +4,9 @@ ghost use Rattle.cb_meaning.specs.Fields.{filled, filled_or_blank};
 ghost use Rattle.cb_meaning.specs.Spelled.{key_code, name_referred, relative_bytes, serial_coded, sign_code};
 ghost use Rattle.cb_chain.specs.Composed.{IsJfcb, key_entries};
 ghost use Rattle.cb_chain.specs.Entries.{AreEntered};
-ghost use Rattle.cb_chain.specs.Written.{HoldsJobs};
+ghost use Rattle.cb_chain.specs.Written.{HoldsExpiry, HoldsJobs};
 
+use crate::codes::{expiry_code, expiry_number};
 use crate::dd_words::pair_bytes;
 use crate::head::headed;
 use crate::texts::two_bytes;
@@ -111,7 +112,8 @@ fn referred_text(volume: &VolumePlan) -> &[u8]
 
 /// The record of a data set.
 pub(crate) fn jfcb_record(layout: &Layout, job: u16, set: &SetPlan) -> Rec
-    requires { HoldsJobs layout.now }
+    requires holds { HoldsJobs layout.now }
+    requires expiry { HoldsExpiry layout.now set.now.expiry }
     ensures { IsJfcb layout.now job set.now result }
 {
     let mut rec = headed(4, job);
@@ -120,5 +122,7 @@ pub(crate) fn jfcb_record(layout: &Layout, job: u16, set: &SetPlan) -> Rec
     write_name(&mut rec, &set.key);
     rec.write_text(jfcb::SERIAL, serial_text(&set.volume));
     rec.write_text(jfcb::VOLUME_NAME, referred_text(&set.volume));
+    rec.write_number(layout.expiry_kind, expiry_code(set.expiry));
+    rec.write_number(layout.expiry_days, expiry_number(set.expiry));
     rec
 }

@@ -2,6 +2,7 @@
 ghost use Rattle.std.specs.Prelude.{◌≡◌, ◌≢◌, ◌≤◌, ◌+◌, [], ◌∷◌, All, IsTrue, length};
 ghost use Rattle.cb_meaning.specs.Writable.{most_dds};
 ghost use Rattle.cb_chain.specs.Taking.{IsReady, IsTaken, Links, OfSteps, StepsFrom, Writes, dds_needed, steps_needed};
+ghost use Rattle.cb_chain.specs.Written.{HoldsDds, HoldsSteps};
 
 use crate::dds::write_dds;
 use crate::step_record::sct_record;
@@ -24,6 +25,7 @@ fn write_step<S: RecordStore>(
     requires layout { layout.now ≡ (S.queue store.old).layout }
     requires taken { IsTaken job (S.queue store.old) here }
     requires few { length step.now.dds ≤ most_dds }
+    requires days { HoldsDds layout.now step.now.dds }
     requires room { S.lacking store.old + dds_needed step.now.dds ≤ length (S.queue store.old).free }
     requires next { IsTrue more → S.lacking store.old + dds_needed step.now.dds + 1 ≤ length (S.queue store.old).free }
     ensures value { Links job (dds_needed step.now.dds) (StepsFrom layout.now job) (step.now ∷ []) more here (S.queue store.old) (S.queue store.new) result }
@@ -46,6 +48,7 @@ pub(crate) fn write_steps<S: RecordStore>(
     requires ready { IsReady (S.queue store.old) }
     requires layout { layout.now ≡ (S.queue store.old).layout }
     requires few { All (λ step. length step.dds ≤ most_dds) steps.now }
+    requires days { HoldsSteps layout.now steps.now }
     requires room { S.lacking store.old + steps_needed steps.now ≤ length (S.queue store.old).free }
     ensures value { Writes (steps_needed steps.now) (OfSteps layout.now job steps.now) (S.queue store.old) (S.queue store.new) result }
     ensures room { S.lacking store.new ≡ S.lacking store.old }

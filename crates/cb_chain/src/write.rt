@@ -4,7 +4,7 @@ ghost use Rattle.cb_meaning.specs.Needs.{records_needed};
 ghost use Rattle.cb_meaning.specs.Writable.{IsWritable};
 ghost use Rattle.cb_queue.specs.RecordQueues.{next_free, taken};
 ghost use Rattle.cb_chain.specs.Taking.{IsReady, IsTaken, IsWrittenFrom, TakesIf};
-ghost use Rattle.cb_chain.specs.Written.{HoldsJobs, Written};
+ghost use Rattle.cb_chain.specs.Written.{HoldsJobs, HoldsSteps, Written};
 
 use crate::job_record::jct_record;
 use crate::room::is_room;
@@ -34,6 +34,7 @@ pub fn write_from<S: RecordStore>(store: &mut S, job: u16, plan: &JobPlan, first
     requires owner { job ≢ 0 }
     requires ready { IsReady (S.queue store.old) }
     requires writable { (units : ℕ) × IsWritable (S.queue store.old).layout.most_steps units plan.now }
+    requires days { HoldsSteps (S.queue store.old).layout plan.now.steps }
     requires taken { IsTaken job (S.queue store.old) first }
     requires room { S.lacking store.old + records_needed plan.now ≤ length (S.queue store.old).free + 1 }
     ensures written { IsWrittenFrom job plan.now (S.queue store.old) (S.queue store.new) first }
@@ -50,6 +51,7 @@ pub fn write_job<S: RecordStore>(store: &mut S, job: u16, plan: &JobPlan) -> Res
     requires owner { job ≢ 0 }
     requires holds { HoldsJobs (S.queue store.old).layout }
     requires writable { (units : ℕ) × IsWritable (S.queue store.old).layout.most_steps units plan.now }
+    requires days { HoldsSteps (S.queue store.old).layout plan.now.steps }
     requires memory { records_needed plan.now ≤ length (S.queue store.old).free → S.lacking store.old + records_needed plan.now ≤ length (S.queue store.old).free }
     ensures room { IsOk result ↔ records_needed plan.now ≤ length (S.queue store.old).free }
     ensures written { IfOk result (Written job plan.now (S.queue store.old) (S.queue store.new)) }

@@ -4,6 +4,8 @@ use Rattle.jcl_plan.specs.declared.plan.AfterAbend.{AfterAbend}
 use Rattle.jcl_plan.specs.declared.plan.AfterAbend.TheVariants as after
 use Rattle.jcl_plan.specs.declared.plan.ConditionalWord.{ConditionalWord}
 use Rattle.jcl_plan.specs.declared.plan.ConditionalWord.TheVariants as conditional
+use Rattle.jcl_plan.specs.declared.plan.Expiry.{Expiry}
+use Rattle.jcl_plan.specs.declared.plan.Expiry.TheVariants as expiry
 use Rattle.jcl_plan.specs.declared.plan.Operator.{Operator}
 use Rattle.jcl_plan.specs.declared.plan.Operator.TheVariants as operator
 use Rattle.jcl_plan.specs.declared.plan.Status.{Status}
@@ -46,6 +48,17 @@ conditional_code (Some conditional.Delete) = 1
 conditional_code (Some conditional.Keep) = 2
 conditional_code (Some conditional.Catlg) = 4
 conditional_code (Some conditional.Uncatlg) = 5
+
+-- what a set's label says of its expiry, and the day or the days
+abbrev pub expiry_code : Expiry → ℕ
+expiry_code expiry.NotCoded = 0
+expiry_code (expiry.Day day) = 1
+expiry_code (expiry.DaysFromToday days) = 2
+
+abbrev pub expiry_number : Expiry → ℕ
+expiry_number expiry.NotCoded = 0
+expiry_number (expiry.Day day) = day
+expiry_number (expiry.DaysFromToday days) = days
 
 -- a test of the JOB statement, and one of a step, where 0 is all earlier steps
 abbrev pub job_test_bytes : Test → List ℕ

@@ -1,8 +1,9 @@
 -- Worked examples: one change each of the records of two dummies, and the fault that is told. (This profile)
 use Rattle.std.specs.Prelude.{◌≡◌, ℕ, ◌+◌, List, [], ◌∷◌, ◌++◌, take, drop, length, Option, Some, None}
-use Rattle.cb_meaning.specs.declared.layout.TheConstants.{LAYOUT_1}
-use Rattle.cb_meaning.specs.Examples.{first_dd_of_dummies, first_dd_of_set, four, jct_of_dummies, jct_of_set, last_of_dummies, last_of_set, sct_of_dummies, sct_of_set}
-use Rattle.cb_meaning.specs.Walks.{first_fault}
+use Rattle.cb_meaning.specs.declared.layout.Layout.{Layout}
+use Rattle.cb_meaning.specs.declared.layout.TheConstants.{LAYOUT_1, QUEUE_LAYOUT}
+use Rattle.cb_meaning.specs.Examples.{first_dd_of_dummies, first_dd_of_set, four, jct_of_dummies, jct_of_set, jfcb_of_day, last_of_dummies, last_of_set, sct_of_dummies, sct_of_set}
+use Rattle.cb_meaning.specs.Walks.{first_fault, jfcb_faults, lowest}
 
 -- a record with these bytes from a place on
 abbrev pub with : List ℕ → ℕ → List ℕ → List ℕ
@@ -23,6 +24,20 @@ damaged_dd at bytes = told jct_of_dummies sct_of_dummies (with first_dd_of_dummi
 
 abbrev pub damaged_last : ℕ → List ℕ → Option ℕ
 damaged_last at bytes = told jct_of_dummies sct_of_dummies first_dd_of_dummies (with last_of_dummies at bytes)
+
+-- the fault of a JFCB that has a day, with these bytes from 106 on
+abbrev pub day_fault : Layout → List ℕ → Option ℕ
+day_fault l bytes = lowest (jfcb_faults l [] 1 1 first_dd_of_set (with jfcb_of_day 106 bytes))
+
+pub record TellsNoDays : Type 0 where
+  pub last_day : day_fault QUEUE_LAYOUT (1 ∷ 0 ∷ 1 ∷ 109 ∷ 61 ∷ []) ≡ None
+  pub past_the_last : day_fault QUEUE_LAYOUT (1 ∷ 0 ∷ 1 ∷ 109 ∷ 62 ∷ []) ≡ Some 12
+  pub most_days : day_fault QUEUE_LAYOUT (2 ∷ 0 ∷ 0 ∷ 39 ∷ 15 ∷ []) ≡ None
+  pub too_many_days : day_fault QUEUE_LAYOUT (2 ∷ 0 ∷ 0 ∷ 39 ∷ 16 ∷ []) ≡ Some 12
+  pub no_kind : day_fault QUEUE_LAYOUT (3 ∷ 0 ∷ 0 ∷ 0 ∷ 0 ∷ []) ≡ Some 12
+  pub number_without_kind : day_fault QUEUE_LAYOUT (0 ∷ 0 ∷ 0 ∷ 0 ∷ 1 ∷ []) ≡ Some 12
+  pub none : day_fault QUEUE_LAYOUT (0 ∷ 0 ∷ 0 ∷ 0 ∷ 0 ∷ []) ≡ None
+  pub no_place_in_images : day_fault LAYOUT_1 (1 ∷ 0 ∷ 0 ∷ 107 ∷ 100 ∷ []) ≡ Some 12
 
 pub record TellsDamages : Type 0 where
   pub dummies : told jct_of_dummies sct_of_dummies first_dd_of_dummies last_of_dummies ≡ None

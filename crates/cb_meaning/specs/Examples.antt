@@ -6,13 +6,15 @@ use Rattle.jcl_plan.specs.declared.plan.DdKind.TheVariants as kind
 use Rattle.jcl_plan.specs.declared.plan.DdPlan.{DdPlan}
 use Rattle.jcl_plan.specs.declared.plan.Expiry.TheVariants as expiry
 use Rattle.jcl_plan.specs.declared.plan.JobPlan.{JobPlan}
+use Rattle.jcl_plan.specs.declared.plan.SetPlan.{SetPlan}
 use Rattle.jcl_plan.specs.declared.plan.Status.TheVariants as status
 use Rattle.jcl_plan.specs.declared.plan.VolumePlan.TheVariants as volume
 use Rattle.jcl_plan.specs.declared.plan.Word.TheVariants as word
-use Rattle.cb_meaning.specs.declared.layout.TheConstants.{LAYOUT_1}
+use Rattle.cb_meaning.specs.declared.layout.TheConstants.{LAYOUT_1, QUEUE_LAYOUT}
+use Rattle.cb_meaning.specs.Fields.{number_at}
 use Rattle.cb_meaning.specs.Needs.{records_needed}
-use Rattle.cb_meaning.specs.Readings.{plan_read}
-use Rattle.cb_meaning.specs.Spelled.{Records, Spell}
+use Rattle.cb_meaning.specs.Readings.{expiry_read, plan_read}
+use Rattle.cb_meaning.specs.Spelled.{Records, Spell, SpellsJfcb}
 
 abbrev pub job_with : List ℕ → List DdPlan → JobPlan
 job_with name dds = record {
@@ -31,20 +33,23 @@ job_with name dds = record {
   } ∷ [];
 }
 
+abbrev pub a_set : SetPlan
+a_set = record {
+  key = Named (codes "PAY.DATA");
+  status = status.New;
+  normal = Some word.Catlg;
+  conditional = None;
+  volume = volume.NotCoded;
+  units = Some 1;
+  space = Some (record { primary = 3; secondary = 0; release = false });
+  expiry = expiry.NotCoded;
+}
+
 -- //OUT DD DSN=PAY.DATA,DISP=(NEW,CATLG),UNIT=SYSDA,SPACE=(TRK,3), where SYSDA is the first list of volumes
 abbrev pub catalogs_a_set : JobPlan
 catalogs_a_set = job_with (codes "PAY") (record {
   name = Some (codes "OUT");
-  kind = kind.Set (record {
-    key = Named (codes "PAY.DATA");
-    status = status.New;
-    normal = Some word.Catlg;
-    conditional = None;
-    volume = volume.NotCoded;
-    units = Some 1;
-    space = Some (record { primary = 3; secondary = 0; release = false });
-    expiry = expiry.NotCoded;
-  });
+  kind = kind.Set a_set;
 } ∷ [])
 
 abbrev pub two_dummies : JobPlan
@@ -77,6 +82,15 @@ first_dd_of_dummies = (3 ∷ 0 ∷ 0 ∷ 1 ∷ []) ++ (replicate 5 0 ++ ((4 ∷ 
 
 abbrev pub last_of_dummies : List ℕ
 last_of_dummies = (3 ∷ 0 ∷ 0 ∷ 1 ∷ []) ++ (replicate 8 0 ++ ((2 ∷ 0 ∷ 0 ∷ 0 ∷ 66 ∷ []) ++ (replicate 7 32 ++ (replicate 152 0))))
+
+-- the JFCB of such a set with LABEL=EXPDT=75100, in the layout of a session's queue
+abbrev pub jfcb_of_day : List ℕ
+jfcb_of_day = (4 ∷ 0 ∷ 0 ∷ 1 ∷ []) ++ (replicate 4 0 ++ ((1 ∷ 0 ∷ 0 ∷ 0 ∷ 80 ∷ 65 ∷ 89 ∷ 46 ∷ 68 ∷ 65 ∷ 84 ∷ 65 ∷ []) ++ (replicate 86 32
+    ++ ((1 ∷ 0 ∷ 0 ∷ 107 ∷ 100 ∷ []) ++ replicate 65 0))))
+
+pub record SpellsADay : Type 0 where
+  pub spelled : SpellsJfcb QUEUE_LAYOUT (record a_set { expiry = expiry.Day 27492 }) jfcb_of_day
+  pub read : expiry_read (number_at jfcb_of_day QUEUE_LAYOUT.expiry_kind) (number_at jfcb_of_day QUEUE_LAYOUT.expiry_days) ≡ expiry.Day 27492
 
 pub record SpellsAJobOfOneSet : Type 0 where
   pub needs : records_needed catalogs_a_set ≡ 4

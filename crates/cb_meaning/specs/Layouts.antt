@@ -25,8 +25,9 @@ abbrev pub siot_places : Layout → List Field
 siot_places l = common l ++ l.next_dd ∷ l.below ∷ field 12 1 ∷ field 13 1 ∷ field 14 1 ∷ field 15 1 ∷ field 16 8 ∷ field 24 1 ∷ field 25 1 ∷ l.cards ∷ field 28 1
     ∷ field 30 4 ∷ field 34 2 ∷ field 36 2 ∷ field 38 2 ∷ status_bytes ∷ []
 
+-- a JFCB has no status; none of its fields stands where another record has one
 abbrev pub jfcb_places : Layout → List Field
-jfcb_places l = common l ++ field 8 1 ∷ field 9 3 ∷ field 12 44 ∷ field 56 6 ∷ field 62 44 ∷ []
+jfcb_places l = common l ++ field 8 1 ∷ field 9 3 ∷ field 12 44 ∷ field 56 6 ∷ field 62 44 ∷ l.expiry_kind ∷ l.expiry_days ∷ status_bytes ∷ []
 
 abbrev pub card_places : Layout → List Field
 card_places l = common l ++ l.next_cards ∷ field 10 1 ∷ field 16 160 ∷ []

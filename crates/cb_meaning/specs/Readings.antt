@@ -13,6 +13,7 @@ use Rattle.jcl_plan.specs.declared.plan.ConditionalWord.TheVariants as condition
 use Rattle.jcl_plan.specs.declared.plan.DdKind.{DdKind}
 use Rattle.jcl_plan.specs.declared.plan.DdKind.TheVariants.{Cards, Dummy, Set, Sysout}
 use Rattle.jcl_plan.specs.declared.plan.DdPlan.{DdPlan}
+use Rattle.jcl_plan.specs.declared.plan.Expiry.{Expiry}
 use Rattle.jcl_plan.specs.declared.plan.Expiry.TheVariants as expiry
 use Rattle.jcl_plan.specs.declared.plan.JobPlan.{JobPlan}
 use Rattle.jcl_plan.specs.declared.plan.Operator.{Operator}
@@ -102,8 +103,12 @@ space_read s =
     if has_space s then Some (record { primary = number_at s (field 34 2); secondary = number_at s (field 36 2); release = releases s })
     else None
 
-abbrev pub set_read : List ℕ → List ℕ → SetPlan
-set_read s r = record {
+-- the day of a set, by its kind and its number
+abbrev pub expiry_read : ℕ → ℕ → Expiry
+expiry_read kind days = if kind == 1 then expiry.Day days else (if kind == 2 then expiry.DaysFromToday days else expiry.NotCoded)
+
+abbrev pub set_read : Layout → List ℕ → List ℕ → SetPlan
+set_read l s r = record {
   key = key_read r;
   status = status_read (byte_at s 13);
   normal = normal_read (byte_at s 14);
@@ -111,7 +116,7 @@ set_read s r = record {
   volume = volume_read s r;
   units = number_read (number_at s (field 38 2));
   space = space_read s;
-  expiry = expiry.NotCoded;
+  expiry = expiry_read (number_at r l.expiry_kind) (number_at r l.expiry_days);
 }
 
 -- the cards of one record, and of a chain of so many records at most
@@ -124,7 +129,7 @@ cards_read l q (suc fuel) n = if n == 0 then [] else cards_of_record (q.at n) ++
 
 abbrev pub kind_read : Layout → Records → List ℕ → DdKind
 kind_read l q s =
-    if byte_at s 12 == 1 then Set (set_read s (q.at (number_at s l.below)))
+    if byte_at s 12 == 1 then Set (set_read l s (q.at (number_at s l.below)))
     else (if byte_at s 12 == 3 then Sysout (byte_at s 25)
     else (if byte_at s 12 == 4 then Cards (cards_read l q (l.most_records + 1) (number_at s l.below))
     else Dummy))

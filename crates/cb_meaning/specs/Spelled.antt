@@ -18,7 +18,7 @@ use Rattle.jcl_plan.specs.declared.plan.VolumePlan.TheVariants as volume
 use Rattle.cb_meaning.specs.declared.layout.Field.{Field}
 use Rattle.cb_meaning.specs.declared.layout.Layout.{Layout}
 use Rattle.cb_meaning.specs.declared.layout.TheConstants.{RECORD_BYTES}
-use Rattle.cb_meaning.specs.Codes.{after_abend_code, conditional_code, job_test_bytes, mark, normal_code, or_zero, status_code, step_test_bytes}
+use Rattle.cb_meaning.specs.Codes.{after_abend_code, conditional_code, expiry_code, expiry_number, job_test_bytes, mark, normal_code, or_zero, status_code, step_test_bytes}
 use Rattle.cb_meaning.specs.Writable.{IsWritable}
 use Rattle.cb_meaning.specs.Fields.{byte_at, field, filled, filled_or_blank, is_zero_but, number_at, part, then_zeros, two_bytes}
 use Rattle.plain.specs.Lists.{are_different}
@@ -194,7 +194,7 @@ name_referred (volume.OfName name) = Some name
 name_referred (volume.OfDd step dd) = None
 
 abbrev pub jfcb_fields : Layout → List Field
-jfcb_fields l = common l ++ field 8 98 ∷ []
+jfcb_fields l = common l ++ field 8 98 ∷ l.expiry_kind ∷ l.expiry_days ∷ []
 
 pub record SpellsJfcb (l : Layout) (p : SetPlan) (r : List ℕ) : Type 0 where
   pub kind : byte_at r 8 ≡ key_code p.key
@@ -202,6 +202,8 @@ pub record SpellsJfcb (l : Layout) (p : SetPlan) (r : List ℕ) : Type 0 where
   pub name : part r 12 44 ≡ name_bytes p.key
   pub serial : part r 56 6 ≡ filled_or_blank 6 (serial_coded p.volume)
   pub reference : part r 62 44 ≡ filled_or_blank 44 (name_referred p.volume)
+  pub expiry_kind : number_at r l.expiry_kind ≡ expiry_code p.expiry
+  pub expiry_days : number_at r l.expiry_days ≡ expiry_number p.expiry
   pub unused : is_zero_but (jfcb_fields l) r ≡ true
 
 -- records of cards: one or two each

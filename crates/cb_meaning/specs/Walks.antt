@@ -10,6 +10,7 @@ use Rattle.jcl_plan.specs.declared.outcome.TheConstants.{GREATEST_CODE}
 use Rattle.jcl_plan.specs.Texts.{trimmed}
 use Rattle.cb_meaning.specs.declared.layout.Field.{Field}
 use Rattle.cb_meaning.specs.declared.layout.Layout.{Layout}
+use Rattle.cb_meaning.specs.declared.layout.TheConstants.{LAST_DAY, MOST_DAYS}
 use Rattle.cb_meaning.specs.Fields.{byte_at, field, is_zero_but, number_at, number_of, part}
 use Rattle.cb_meaning.specs.Spelled.{Records, card_fields, card_record, common, jct, jct_fields, jfcb, jfcb_fields, sct, sct_fields, siot, status_bytes}
 use Rattle.cb_meaning.specs.Writable.{most_dds, most_tracks}
@@ -182,13 +183,20 @@ abbrev pub stems_forward : List (List Bool) → ℕ → ℕ → List ℕ → Boo
 stems_forward steps k d r = byte_at r 8 == 5
     && not ((number_at r (field 12 2) == k && number_at r (field 14 2) == d) || is_earlier_set steps k d (number_at r (field 12 2)) (number_at r (field 14 2)))
 
+-- a kind that is none, a number where there is no day, one past the last day, or too many days
+abbrev pub is_no_expiry : ℕ → ℕ → Bool
+is_no_expiry kind days = nat_lt 2 kind || (kind == 0 && nat_lt 0 days) || (kind == 1 && nat_lt LAST_DAY days) || (kind == 2 && nat_lt MOST_DAYS days)
+
+abbrev pub expiry_bad : Layout → List ℕ → Bool
+expiry_bad l r = is_no_expiry (number_at r l.expiry_kind) (number_at r l.expiry_days)
+
 abbrev pub jfcb_faults : Layout → List (List Bool) → ℕ → ℕ → List ℕ → List ℕ → List ℕ
 jfcb_faults l steps k d s r =
     told_if 6 (set_name_bad r || (if byte_at s 28 == 1 then not (is_serial (part r 56 6)) else not (is_blank (part r 56 6)))
     || (if byte_at s 28 == 2 then not (is_ds_name 44 (part r 62 44)) else not (is_blank (part r 62 44))))
     ++ told_if 9 (stems_forward steps k d r)
     ++ told_if 12 (nat_lt (byte_at r 8) 1 || nat_lt 5 (byte_at r 8) || (is_relative r && (nat_lt 1 (byte_at r 9) || nat_lt 255 (number_at r (field 10 2))))
-    || (not (is_relative r) && not (list_all (λ b. b == 0) (part r 9 3))) || not (is_zero_but (jfcb_fields l) r))
+    || (not (is_relative r) && not (list_all (λ b. b == 0) (part r 9 3))) || expiry_bad l r || not (is_zero_but (jfcb_fields l) r))
 
 -- records of cards
 abbrev pub are_printable : List ℕ → Bool

@@ -9,6 +9,7 @@ use Rattle.jcl_plan.specs.declared.outcome.TheConstants.{GREATEST_CODE}
 use Rattle.jcl_plan.specs.declared.plan.DdKind.{DdKind}
 use Rattle.jcl_plan.specs.declared.plan.DdKind.TheVariants.{Cards, Dummy, Set, Sysout}
 use Rattle.jcl_plan.specs.declared.plan.DdPlan.{DdPlan}
+use Rattle.jcl_plan.specs.declared.plan.Expiry.{Expiry}
 use Rattle.jcl_plan.specs.declared.plan.Expiry.TheVariants as expiry
 use Rattle.jcl_plan.specs.declared.plan.JobPlan.{JobPlan}
 use Rattle.jcl_plan.specs.declared.plan.SetPlan.{SetPlan}
@@ -18,6 +19,7 @@ use Rattle.jcl_plan.specs.declared.plan.Test.{Test}
 use Rattle.jcl_plan.specs.declared.plan.VolumePlan.{VolumePlan}
 use Rattle.jcl_plan.specs.declared.plan.TheConstants.{MOST_DDS, MOST_TRACKS}
 use Rattle.jcl_plan.specs.declared.plan.VolumePlan.TheVariants as volume
+use Rattle.cb_meaning.specs.declared.layout.TheConstants.{LAST_DAY, MOST_DAYS}
 
 abbrev pub most_dds : ℕ
 most_dds = MOST_DDS
@@ -89,13 +91,18 @@ abbrev pub IsUnits : ℕ → Option ℕ → Type 0
 IsUnits units None = Unit {0}
 IsUnits units (Some n) = (1 ≤ n) × (n ≤ units)
 
--- in this layout there is no place for a day
+-- a day that a date has, or so many days at most from the job's date
+abbrev pub IsExpiry : Expiry → Type 0
+IsExpiry expiry.NotCoded = Unit {0}
+IsExpiry (expiry.Day day) = day ≤ LAST_DAY
+IsExpiry (expiry.DaysFromToday days) = days ≤ MOST_DAYS
+
 pub record IsSetAt (units : ℕ) (steps : List StepPlan) (k d : ℕ) (p : SetPlan) : Type 0 where
   pub key : IsKeyAt steps k d p.key
   pub volume : IsVolumeAt steps k d p.volume
   pub space : IsSpace p.space
   pub unit : IsUnits units p.units
-  pub no_day : p.expiry ≡ expiry.NotCoded
+  pub expiry_fits : IsExpiry p.expiry
 
 -- a card has 80 printable characters
 pub record IsCard (card : List ℕ) : Type 0 where

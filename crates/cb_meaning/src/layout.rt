@@ -3,6 +3,12 @@
 /// The bytes of a record.
 pub const RECORD_BYTES: usize = 176;
 
+/// The number of the last day that a date has, 2155/365.
+pub const LAST_DAY: u32 = 93_501;
+
+/// The most days that a set is kept from the job's date.
+pub const MOST_DAYS: u16 = 9_999;
+
 /// A number's first byte, and how many bytes it has, the highest first.
 #[derive(Clone, Copy, PartialEq, Eq)]
 pub struct Field {
@@ -30,11 +36,14 @@ pub struct Layout {
     pub next_dd: Field,
     pub below: Field,
     pub cards: Field,
+    /// In a JFCB: what is said of its expiry, and the day or the number of days.
+    pub expiry_kind: Field,
+    pub expiry_days: Field,
     /// In a record of cards: the next.
     pub next_cards: Field,
 }
 
-/// Records of 4,096 and jobs of 32 steps: that of images that are carried over.
+/// Records of 4,096 and jobs of 32 steps, whose sets have no day: that of images that are carried over.
 pub const LAYOUT_1: Layout = Layout {
     number: 1,
     most_records: 4096,
@@ -48,6 +57,8 @@ pub const LAYOUT_1: Layout = Layout {
     next_dd: Field { at: 8, width: 2 },
     below: Field { at: 10, width: 2 },
     cards: Field { at: 26, width: 2 },
+    expiry_kind: Field { at: 106, width: 0 },
+    expiry_days: Field { at: 106, width: 0 },
     next_cards: Field { at: 8, width: 2 },
 };
 
@@ -65,6 +76,8 @@ pub const LAYOUT_2: Layout = Layout {
     next_dd: Field { at: 40, width: 4 },
     below: Field { at: 44, width: 4 },
     cards: Field { at: 48, width: 4 },
+    expiry_kind: Field { at: 106, width: 1 },
+    expiry_days: Field { at: 107, width: 4 },
     next_cards: Field { at: 12, width: 4 },
 };
 

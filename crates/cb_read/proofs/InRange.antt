@@ -31,7 +31,7 @@ module _ (units : ℕ) (all : List StepPlan) (k : ℕ) where
   kind_in_range d (Sysout class) h = tt
   kind_in_range d Dummy h = tt
   kind_in_range d (Cards cards) h = tt
-  kind_in_range d (Set p) h = record { key = key_in_range d p.key h.key; volume = volume_in_range d p.volume h.volume }
+  kind_in_range d (Set p) h = record { key = key_in_range d p.key h.key; volume = volume_in_range d p.volume h.volume; expiry = h.expiry_fits }
 
   dds_in_range : (d : ℕ) (dds : List DdPlan) → AreDds units all k d dds → All IsDdInRange dds
   dds_in_range d [] h = All-nil IsDdInRange

@@ -13,7 +13,7 @@ use Rattle.jcl_plan.specs.declared.plan.StepPlan.{StepPlan}
 use Rattle.jcl_plan.specs.declared.plan.Test.{Test}
 use Rattle.jcl_plan.specs.declared.plan.VolumePlan.{VolumePlan}
 use Rattle.jcl_plan.specs.declared.plan.VolumePlan.TheVariants as volume
-use Rattle.cb_meaning.specs.Writable.{IsName}
+use Rattle.cb_meaning.specs.Writable.{IsExpiry, IsName}
 
 abbrev pub IsTestInRange : Test → Type 0
 IsTestInRange t = t.code ≤ GREATEST_CODE
@@ -33,6 +33,7 @@ IsVolumeInRange (volume.OfDd step dd) = Unit {0}
 pub record IsSetInRange (p : SetPlan) : Type 0 where
   pub key : IsKeyInRange p.key
   pub volume : IsVolumeInRange p.volume
+  pub expiry : IsExpiry p.expiry
 
 abbrev pub IsKindInRange : DdKind → Type 0
 IsKindInRange (Sysout class) = Unit {0}

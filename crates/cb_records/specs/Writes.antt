@@ -25,6 +25,8 @@ pub record FitsRecord (l : Layout) : Type 0 where
   pub next_dd : HoldsNumber l.next_dd
   pub below : HoldsNumber l.below
   pub cards : HoldsNumber l.cards
+  pub expiry_kind : HoldsNumber l.expiry_kind
+  pub expiry_days : HoldsNumber l.expiry_days
   pub next_cards : HoldsNumber l.next_cards
 
 -- one field of a record changes, and no other byte

@@ -114,4 +114,18 @@ impl<'a> JfcbView<'a> {
     {
         self.bytes.text(VOLUME_NAME)
     }
+
+    /// What is said of the set's expiry: 0 nothing, 1 its day, 2 days from the job's date.
+    pub fn expiry_kind(&self) -> u32
+        ensures { result ≡ number_at self.now.bytes.now self.now.layout.now.expiry_kind }
+    {
+        self.bytes.number(self.layout.expiry_kind)
+    }
+
+    /// The number of the day, or of the days from the job's date.
+    pub fn expiry_days(&self) -> u32
+        ensures { result ≡ number_at self.now.bytes.now self.now.layout.now.expiry_days }
+    {
+        self.bytes.number(self.layout.expiry_days)
+    }
 }

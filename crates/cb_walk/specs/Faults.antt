@@ -7,7 +7,7 @@ use Rattle.jcl_plan.specs.Texts.{trimmed}
 use Rattle.cb_meaning.specs.declared.layout.Layout.{Layout}
 use Rattle.cb_meaning.specs.Fields.{byte_at, field, is_zero_but, number_at, part}
 use Rattle.cb_meaning.specs.Spelled.{jfcb_fields}
-use Rattle.cb_meaning.specs.Walks.{are_printable, continues, has_space, is_blank, is_ds_name, is_earlier_set, is_known_kind, is_relative, is_serial, is_set, is_sysout, releases, set_name_bad, set_numbers_bad, siot_fields_used}
+use Rattle.cb_meaning.specs.Walks.{are_printable, continues, expiry_bad, has_space, is_blank, is_ds_name, is_earlier_set, is_known_kind, is_relative, is_serial, is_set, is_sysout, releases, set_name_bad, set_numbers_bad, siot_fields_used}
 
 -- of a record of cards: the second card is not printable, or its place is not zero where there is one card
 abbrev pub second_card_bad : List ℕ → Bool
@@ -51,4 +51,4 @@ amount_bad r = (is_relative r && (nat_lt 1 (byte_at r 9) || nat_lt 255 (number_a
 -- its kind, the amount, or bytes that it does not use
 abbrev pub rest_bad : Layout → List ℕ → Bool
 rest_bad l r = nat_lt (byte_at r 8) 1 || nat_lt 5 (byte_at r 8) || (is_relative r && (nat_lt 1 (byte_at r 9) || nat_lt 255 (number_at r (field 10 2))))
-    || (not (is_relative r) && not (list_all (λ b. b == 0) (part r 9 3))) || not (is_zero_but (jfcb_fields l) r)
+    || (not (is_relative r) && not (list_all (λ b. b == 0) (part r 9 3))) || expiry_bad l r || not (is_zero_but (jfcb_fields l) r)

@@ -2,7 +2,8 @@
 ghost use Rattle.std.specs.Prelude.{◌≡◌, ◌+◌, ◌||◌, ◌&&◌, ◌++◌, ◌==◌, length};
 ghost use Rattle.cb_meaning.specs.Fields.{field, is_zero_but};
 ghost use Rattle.cb_meaning.specs.Spelled.{jfcb_fields};
-ghost use Rattle.cb_meaning.specs.Walks.{is_blank, is_ds_name, is_name, is_relative, is_serial, jfcb_faults, lowest, set_name_bad, stems_forward, told_if, with_dds};
+ghost use Rattle.cb_meaning.specs.Walks.{expiry_bad, is_blank, is_ds_name, is_name, is_no_expiry, is_relative, is_serial, jfcb_faults, lowest, set_name_bad, stems_forward, told_if, with_dds};
+ghost use Rattle.cb_records.specs.Writes.{FitsRecord};
 ghost use Rattle.cb_walk.specs.Faults.{amount_bad, names_bad, permanent_name_bad, reference_bad, rest_bad, serial_bad};
 
 use crate::fields::{field, is_zero_but};
@@ -10,16 +11,23 @@ use crate::sets::is_earlier_set;
 use crate::texts::{
     is_base, is_blank, is_ds_name, is_name, is_no_generation, is_no_plain_name, is_serial, is_zero,
 };
-use cb_meaning::layout::{Field, Layout};
+use cb_meaning::layout::{Field, LAST_DAY, Layout, MOST_DAYS};
 use cb_records::jfcb;
 use cb_records::rec::Rec;
 use cb_records::siot::VOLUME;
 use plain::listed::Listed;
 
-fn jfcb_fields(layout: &Layout) -> [Field; 4]
+fn jfcb_fields(layout: &Layout) -> [Field; 6]
     ensures { result ≡ jfcb_fields layout.now }
 {
-    [field(0, 1), field(2, 2), layout.link, field(8, 98)]
+    [
+        field(0, 1),
+        field(2, 2),
+        layout.link,
+        field(8, 98),
+        layout.expiry_kind,
+        layout.expiry_days,
+    ]
 }
 
 /// The lowest number of those that hold.
@@ -108,12 +116,31 @@ fn is_amount_bad(r: &Rec) -> bool
         || !is_relative(r) && !is_zero(r.text(jfcb::RELATIVE))
 }
 
+/// Whether a number of a kind is no day and no number of days.
+fn is_no_expiry(kind: u32, days: u32) -> bool
+    ensures { result ≡ is_no_expiry kind days }
+{
+    kind > 2
+        || kind == 0 && days > 0
+        || kind == 1 && days > LAST_DAY
+        || kind == 2 && days > u32::from(MOST_DAYS)
+}
+
+fn is_expiry_bad(layout: &Layout, r: &Rec) -> bool
+    requires { FitsRecord layout.now }
+    ensures { result ≡ expiry_bad layout.now r.now }
+{
+    is_no_expiry(r.number(layout.expiry_kind), r.number(layout.expiry_days))
+}
+
 fn is_rest_bad(layout: &Layout, r: &Rec) -> bool
+    requires { FitsRecord layout.now }
     ensures { result ≡ rest_bad layout.now r.now }
 {
     r.byte(jfcb::KEY_KIND) < 1
         || r.byte(jfcb::KEY_KIND) > 5
         || is_amount_bad(r)
+        || is_expiry_bad(layout, r)
         || !is_zero_but(&jfcb_fields(layout), r)
 }
 
@@ -131,6 +158,7 @@ pub(crate) fn jfcb_fault(
     siot: &Rec,
     r: &Rec,
 ) -> Option<u8>
+    requires { FitsRecord layout.now }
     ensures { result ≡ lowest (jfcb_faults layout.now (with_dds steps.now dds.now) (length steps.now + 1) (length dds.now + 1) siot.now r.now) }
 {
     lowest_of_set(

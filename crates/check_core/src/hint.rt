@@ -81,7 +81,7 @@ static VALUES: [Value; 14] = [
     Value {
         keyword: "LABEL",
         words: "EXPDT RETPD",
-        form: "LABEL is EXPDT=yyddd or RETPD=nnnn",
+        form: "LABEL is EXPDT=yyddd, EXPDT=yyyy/ddd or RETPD=nnnn",
     },
     Value {
         keyword: "SYSOUT",

@@ -58,7 +58,7 @@ named_by false key name entry there is old h = old h
 
 named_sets : (extents : List Extent) (s : SetStatement) (m : MountedState) → HasNamedSets m → HasNamedSets (with_set_on m extents s)
 named_sets extents s m old key h =
-    let entry : SetEntry = record { extents = record { items = extents }; expires = None; records = s.records } in
+    let entry : SetEntry = record { extents = record { items = extents }; expires = s.expires; records = s.records } in
     named_by (eq_by_cmp key_cmp key (Named s.name)) key s.name entry (get m.volume.sets key) (tied_equal key (Named s.name)) (old key)
     (subst IsSome (get-insert key_total m.volume.sets (Named s.name) entry key) h)
 

@@ -80,6 +80,8 @@ fits_record l = record {
   next_dd = in_two_bytes 8 (omega arith);
   below = in_two_bytes 10 (omega arith);
   cards = in_two_bytes 26 (omega arith);
+  expiry_kind = record { few = omega arith; within = omega arith };
+  expiry_days = record { few = omega arith; within = omega arith };
   next_cards = in_two_bytes 8 (omega arith);
 }
 

@@ -121,7 +121,7 @@ abbrev pub with_set_on : MountedState → List Extent → SetStatement → Mount
 with_set_on m extents s = record m {
   volume = record {
     tracks = marked InSet extents m.volume.tracks;
-    sets = finite.insert m.volume.sets (Named s.name) (record { extents = record { items = extents }; expires = None; records = s.records });
+    sets = finite.insert m.volume.sets (Named s.name) (record { extents = record { items = extents }; expires = s.expires; records = s.records });
   };
 }
 

@@ -1,5 +1,5 @@
 -- A set on its way onto a volume.
-use Rattle.std.specs.Prelude.{◌≡◌, ℕ, ◌<◌, true, List, [], All, length, None, Some, slice_get, slice_set}
+use Rattle.std.specs.Prelude.{◌≡◌, ℕ, ◌<◌, true, List, [], All, length, Option, None, Some, slice_get, slice_set}
 use Rattle.std.specs.FinMap as finite
 use Rattle.extent_core.specs.declared.extent.Extent.{Extent}
 use Rattle.vtoc_core.specs.declared.entry.SetKey.{SetKey}
@@ -12,24 +12,25 @@ use Rattle.shared_core.specs.Shown.{mounted_in}
 use Rattle.config_core.specs.Configs.{changed_at, with_set_on}
 use Rattle.session_input.specs.declared.statement.SetStatement.{SetStatement}
 
--- a set of these extents and records
-abbrev pub with_records_on : MountedState → List Extent → SetKey → List (List ℕ) → MountedState
-with_records_on m extents key records = record m {
+-- a set of these extents and records, with its day, if it has one
+abbrev pub with_records_on : MountedState → List Extent → SetKey → Option ℕ → List (List ℕ) → MountedState
+with_records_on m extents key expires records = record m {
   volume = record {
     tracks = marked InSet extents m.volume.tracks;
-    sets = finite.insert m.volume.sets key (record { extents = record { items = extents }; expires = None; records = records });
+    sets = finite.insert m.volume.sets key (record { extents = record { items = extents }; expires = expires; records = records });
   };
 }
 
 -- a set that was made without records is given these
 abbrev pub GivesRecords : MountedState → SetKey → List (List ℕ) → MountedState → Type 0
 GivesRecords old key records new =
-    (m : MountedState) (extents : List Extent) → old ≡ with_records_on m extents key [] → new ≡ with_records_on m extents key records
+    (m : MountedState) (extents : List Extent) (expires : Option ℕ) → old ≡ with_records_on m extents key expires [] →
+    new ≡ with_records_on m extents key expires records
 
 -- a set that was made is taken off its volume again, which is then as it was before
 abbrev pub TakesOff : MountedState → SetKey → MountedState → Type 0
-TakesOff old key new = (m : MountedState) (extents : List Extent) (records : List (List ℕ)) (n : ℕ) →
-    planned (free_extents m.volume.tracks) n ≡ Some extents → finite.get m.volume.sets key ≡ None → old ≡ with_records_on m extents key records → new ≡ m
+TakesOff old key new = (m : MountedState) (extents : List Extent) (expires : Option ℕ) (records : List (List ℕ)) (n : ℕ) →
+    planned (free_extents m.volume.tracks) n ≡ Some extents → finite.get m.volume.sets key ≡ None → old ≡ with_records_on m extents key expires records → new ≡ m
 
 -- no track is kept on any of these volumes
 abbrev pub NothingKept : List MountedState → Type 0

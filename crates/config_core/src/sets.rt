@@ -6,6 +6,7 @@ ghost use Rattle.config_core.specs.Configs.{catalog_with, extents_on, has_room, 
 ghost use Rattle.config_core.specs.Sets.{CanHold, GivesRecords, IsMade, IsPlaceOf, TakesOff};
 
 use cat_core::catalog::Catalog;
+use jcl_plan::day::Day;
 use jname_core::serial::Serial;
 use mount_core::mounted::Mounted;
 use mount_core::place::KeptPlace;
@@ -48,6 +49,16 @@ fn take_off(mounted: &mut Mounted, key: &SetKey)
     }
 }
 
+/// The number of a day, if there is one.
+fn day_number(expires: Option<Day>) -> Option<u32>
+    ensures { result ≡ expires }
+{
+    match expires {
+        None => None,
+        Some(day) => Some(day.number()),
+    }
+}
+
 /// Makes a set with its records on a volume that has room for it. An `Err` changes nothing.
 fn make_on(alloc: Global, mounted: &mut Mounted, set: &SetStatement) -> Result<(), AllocError>
     requires { CanHold mounted.old set.now }
@@ -56,7 +67,7 @@ fn make_on(alloc: Global, mounted: &mut Mounted, set: &SetStatement) -> Result<(
 {
     let key = SetKey::Named(set.name);
     let records = set.records.copied(alloc)?;
-    match mounted.make(alloc, &no_place(), key, set.tracks, None) {
+    match mounted.make(alloc, &no_place(), key, set.tracks, day_number(set.expires)) {
         Ok(()) => {}
         Err(_) => return Err(AllocError),
     }

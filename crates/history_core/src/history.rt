@@ -1,4 +1,5 @@
 //! What is kept of a session, event by event,
+use crate::dates::Dates;
 use crate::initiators::InitiatorLane;
 use crate::jobs::Jobs;
 use crate::levels::VolumeLane;
@@ -23,6 +24,7 @@ pub struct History {
     pub names: Names,
     pub volumes: Vec<VolumeLane>,
     pub stills: Stills,
+    pub dates: Dates,
     draft: Draft,
 }
 
@@ -38,6 +40,7 @@ impl History {
             names: Names::empty(alloc),
             volumes: Vec::new(alloc),
             stills: Stills::empty(alloc),
+            dates: Dates::empty(alloc),
             draft: Draft::empty(alloc),
         }
     }
@@ -127,6 +130,7 @@ impl History {
             .add(alloc, self.events, moment.lines, &mut self.draft)?;
         self.add_names(alloc, moment)?;
         self.add_volumes(alloc, moment)?;
+        self.dates.add(self.events, moment.lines)?;
         if !moment.acts {
             self.stills.add(self.events)?;
         }

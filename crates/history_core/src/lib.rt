@@ -2,6 +2,7 @@
 //! volumes' tracks.
 #![tactic(auto)]
 
+pub mod dates;
 pub mod history;
 pub mod initiators;
 pub mod jobs;

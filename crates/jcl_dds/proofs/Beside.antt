@@ -2,6 +2,7 @@
 use Rattle.std.proofs.Common.{◌≡◌, ℕ, List, [], ◌++◌, codes, Option, Some, None, Result, Ok, Err, refl, sym, ap, ◌∙◌}
 use Rattle.std.specs.List.{flat_map}
 use Rattle.jcl_plan.specs.declared.fault.Cause.{Cause}
+use Rattle.jcl_plan.specs.declared.plan.Expiry.{Expiry}
 use Rattle.jcl_plan.specs.declared.plan.Space.{Space}
 use Rattle.operand_core.specs.Faults.{earlier, or_fault, told}
 use Rattle.operand_core.specs.Operands.{Keyword, Operand, first_of}
@@ -23,7 +24,8 @@ use Rattle.jcl_cards.specs.Keywords.{coded_in, spelled, twice_faults}
 use Rattle.jcl_dds.specs.declared.dd.DdCard.{DdCard}
 use Rattle.jcl_dds.specs.declared.dd.Word.{Word}
 use Rattle.jcl_dds.specs.declared.dd_faults.DdFaults.{DdFaults}
-use Rattle.jcl_dds.specs.DdCards.{dd_name, dd_name_faults, dd_name_of, dd_with, is_key, keyword_faults, label, positional_faults, qualifier_of, sysout, unknown_on_dd, word_of}
+use Rattle.jcl_dds.specs.DdCards.{dd_name, dd_name_faults, dd_name_of, dd_with, is_key, keyword_faults, positional_faults, qualifier_of, sysout, unknown_on_dd, word_of}
+use Rattle.value_core.specs.Labels.{label}
 use Rattle.jcl_dds.specs.DdFaults.{told_of}
 use Rattle.jcl_dds.specs.DdKeys.{AreRead}
 use Rattle.jcl_dds.specs.Dds.{excluded_faults}
@@ -68,7 +70,7 @@ of_class ks = coded_in (is_key (codes "SYSOUT")) sysout ks
 abbrev pub later : List Keyword → Read (Coded (List ℕ))
 later ks = coded_in (is_key (codes "DDNAME")) dd_name ks
 
-abbrev pub labelled : List Keyword → Read (Coded (Unit {0}))
+abbrev pub labelled : List Keyword → Read (Coded Expiry)
 labelled ks = coded_in (is_key (codes "LABEL")) label ks
 
 abbrev pub referring : List Keyword → Read (Coded (List DdReference))
@@ -136,7 +138,7 @@ faultless a b c d e f g h i u none =
 -- a card by its parts
 pub card_parts : {qualifier name other_qualifier other_name : Option (List ℕ)} {word other_word : Option Word}
     {set other_set : Coded SetName} {disp other_disp : Coded Disposition} {on other_on : Coded (List ℕ)} {vol other_vol : Coded VolumeName}
-    {room other_room : Coded Space} {class other_class : Coded ℕ} {dd other_dd : Coded (List ℕ)} {form other_form : Coded (Unit {0})}
+    {room other_room : Coded Space} {class other_class : Coded ℕ} {dd other_dd : Coded (List ℕ)} {form other_form : Coded Expiry}
     {refs other_refs : Coded (List DdReference)} {characters other_characters forms other_forms limit other_limit : Coded (Unit {0})} →
     qualifier ≡ other_qualifier → name ≡ other_name → word ≡ other_word → set ≡ other_set → disp ≡ other_disp → on ≡ other_on → vol ≡ other_vol →
     room ≡ other_room → class ≡ other_class → dd ≡ other_dd → form ≡ other_form → refs ≡ other_refs → characters ≡ other_characters → forms ≡ other_forms →

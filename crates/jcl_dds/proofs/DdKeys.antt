@@ -22,7 +22,8 @@ use Rattle.jcl_dds.specs.declared.dd.DdCard.{DdCard}
 use Rattle.jcl_dds.specs.declared.dd_faults.DdFaults.{DdFaults}
 use Rattle.jcl_dds.specs.declared.dd_key.DdKey.{DdKey}
 use Rattle.jcl_dds.specs.declared.dd_key.DdKey.TheVariants.{SetName, Disposition, Unit, Volume, Space, Sysout, DdName, Label, ControlBlocks, CharacterSet, FormsControl, OutputLimit, Other}
-use Rattle.jcl_dds.specs.DdCards.{any_text, dd_name, is_key, known_on_dd, label, left_out_on_dd, sysout, unknown_on_dd}
+use Rattle.jcl_dds.specs.DdCards.{any_text, dd_name, is_key, known_on_dd, left_out_on_dd, sysout, unknown_on_dd}
+use Rattle.value_core.specs.Labels.{label}
 use Rattle.jcl_dds.specs.DdKeys.{AreRead, IsBeside, IsPut, dd_key}
 
 -- the keyword that a key spells

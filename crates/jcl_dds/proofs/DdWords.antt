@@ -17,7 +17,8 @@ use Rattle.jcl_cards.specs.Keywords.{and_later, coded_in, coded_text, is_given, 
 use Rattle.jcl_dds.specs.declared.dd.Word.{Word}
 use Rattle.jcl_dds.specs.declared.dd.Word.TheVariants.{Cards, Dummy}
 use Rattle.jcl_dds.specs.declared.given.Given.{Given}
-use Rattle.jcl_dds.specs.DdCards.{any_text, card_of, dd_name, dd_name_faults, dd_with, excludes, has_two_words, is_key, is_read_word, keyword_faults, label, positional_faults, sysout, word_of}
+use Rattle.jcl_dds.specs.DdCards.{any_text, card_of, dd_name, dd_name_faults, dd_with, excludes, has_two_words, is_key, is_read_word, keyword_faults, positional_faults, sysout, word_of}
+use Rattle.value_core.specs.Labels.{label}
 use Rattle.jcl_dds.specs.Dds.{excluded_faults, given_in, given_on, is_coded, is_data_word, is_excluded}
 
 -- whether a value is given does not depend on what reads it

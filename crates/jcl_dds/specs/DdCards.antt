@@ -12,7 +12,7 @@ use Rattle.operand_core.specs.Qualified.{head_of, is_qualified}
 use Rattle.operand_core.specs.Subparameters.{first_place, subparameters_of}
 use Rattle.operand_core.specs.Values.{class_of, is_output_class}
 use Rattle.value_core.specs.Dispositions.{disposition}
-use Rattle.value_core.specs.Labels.{label_faults}
+use Rattle.value_core.specs.Labels.{label}
 use Rattle.list_values.specs.ControlBlocks.{control_blocks}
 use Rattle.value_core.specs.Reads.{Read, good}
 use Rattle.value_core.specs.SetNames.{set_name}
@@ -61,9 +61,6 @@ sysout text = record { value = class_of (Some (first_place (subparameters_of tex
 
 abbrev pub dd_name : List ℕ → Read (List ℕ)
 dd_name text = record { value = text; faults = name_faults text }
-
-abbrev pub label : List ℕ → Read (Unit {0})
-label text = record { value = tt; faults = label_faults text }
 
 -- what is not looked at
 abbrev pub any_text : List ℕ → Read (Unit {0})

@@ -19,7 +19,8 @@ use Rattle.jcl_dds.specs.declared.dd.DdCard.{DdCard}
 use Rattle.jcl_dds.specs.declared.dd_faults.DdFaults.{DdFaults}
 use Rattle.jcl_dds.specs.declared.dd_key.DdKey.{DdKey}
 use Rattle.jcl_dds.specs.declared.dd_key.DdKey.TheVariants.{SetName, Disposition, Unit, Volume, Space, Sysout, DdName, Label, ControlBlocks, CharacterSet, FormsControl, OutputLimit, Other}
-use Rattle.jcl_dds.specs.DdCards.{dd_name, is_key, label, sysout, unknown_on_dd}
+use Rattle.jcl_dds.specs.DdCards.{dd_name, is_key, sysout, unknown_on_dd}
+use Rattle.value_core.specs.Labels.{label}
 use Rattle.jcl_dds.specs.Dds.{coding}
 
 -- the keyword that a key is

@@ -4,6 +4,7 @@ use Rattle.jname_core.specs.declared.key.Key.TheVariants.{Named}
 use Rattle.jcl_plan.specs.declared.fault.Cause.{Cause}
 use Rattle.jcl_plan.specs.declared.fault.Cause.TheVariants.{N, P}
 use Rattle.jcl_plan.specs.declared.fault.StatementFault.TheVariants.{BadValue, ExcludeOneAnother, KeywordTwice, LeftOut, OperandTooLong, UnknownKeyword}
+use Rattle.jcl_plan.specs.declared.plan.Expiry.TheVariants as expiry
 use Rattle.jcl_plan.specs.declared.plan.Status.TheVariants as status
 use Rattle.jcl_plan.specs.declared.plan.Word.TheVariants as word
 use Rattle.operand_core.specs.Faults.{told}
@@ -51,7 +52,7 @@ pub record ReadsDds : Type 0 where
         unit = Value (codes "SYSDA");
         volume = Value (volume.Serial (codes "VOL001"));
         space = Value (record { primary = 20; secondary = 0; release = false });
-        label = Value tt;
+        label = Value (expiry.DaysFromToday 30);
         control_blocks = Value (reference.Dd (codes "C") ∷ []);
         character_set = Value tt;
       })

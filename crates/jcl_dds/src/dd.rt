@@ -17,7 +17,7 @@ use card_core::statement::DataCard;
 use jcl_cards::coded::Coded;
 use jcl_cards::rules::{Spelling, long_operand, twice_fault};
 use jcl_plan::fault::{Cause, StatementFault};
-use jcl_plan::plan::Space;
+use jcl_plan::plan::{Expiry, Space};
 use jname_core::name8::{Name8, UnitName};
 use operand_core::fault::{earlier, name_fault, when, written_name_fault};
 use operand_core::keyword::is_long;
@@ -61,8 +61,8 @@ pub struct DdCard {
     pub sysout: Coded<u8>,
     /// DDNAME.
     pub dd_name: Coded<Name8>,
-    /// LABEL, read for its form.
-    pub label: Coded<()>,
+    /// LABEL: until when a set that is made is kept.
+    pub label: Coded<Expiry>,
     /// DCB: its references.
     pub control_blocks: Coded<Listed<DdReference>>,
     /// UCS, which is not looked at.

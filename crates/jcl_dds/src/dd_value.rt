@@ -11,13 +11,13 @@ use jcl_cards::coded::Coded;
 use jcl_cards::rules::{Spelling, is_key};
 use jcl_cards::value_in::ValueReader;
 use jcl_plan::fault::{Cause, StatementFault};
-use jcl_plan::plan::Space;
+use jcl_plan::plan::{Expiry, Space};
 use jname_core::name8::{Name8, UnitName};
 use operand_core::operand::Keyword;
 use operand_core::subparameter::{first_subparameter, subparameter_count};
 use operand_core::value::{class_of, is_output_class};
 use value_core::disposition::disposition;
-use value_core::label_fault::label_fault;
+use value_core::label::label;
 use value_core::reads::name as read_name;
 use value_core::set::{Disposition, SetName, VolumeName};
 use value_core::set_name::set_name;
@@ -134,21 +134,18 @@ impl ValueReader for OfDdName {
     }
 }
 
-/// LABEL, whose form alone is read.
+/// LABEL.
 pub(crate) struct OfLabel;
 
 impl ValueReader for OfLabel {
-    ghost use Rattle.jcl_dds.specs.DdCards.{label};
+    ghost use Rattle.value_core.specs.Labels.{label};
 
-    type Value = ();
+    type Value = Expiry;
 
     ghost reads = { label };
 
-    fn read(text: &[u8]) -> Result<(), Cause> {
-        match label_fault(text) {
-            None => Ok(()),
-            Some(fault) => Err(fault),
-        }
+    fn read(text: &[u8]) -> Result<Expiry, Cause> {
+        label(text)
     }
 }
 

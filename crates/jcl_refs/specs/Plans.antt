@@ -13,6 +13,7 @@ use Rattle.jcl_plan.specs.declared.plan.ConditionalWord.TheVariants as condition
 use Rattle.jcl_plan.specs.declared.plan.DdKind.{DdKind}
 use Rattle.jcl_plan.specs.declared.plan.DdKind.TheVariants as kind
 use Rattle.jcl_plan.specs.declared.plan.DdPlan.{DdPlan}
+use Rattle.jcl_plan.specs.declared.plan.Expiry.{Expiry}
 use Rattle.jcl_plan.specs.declared.plan.Expiry.TheVariants as expiry
 use Rattle.jcl_plan.specs.declared.plan.JobPlan.{JobPlan}
 use Rattle.jcl_plan.specs.declared.plan.SetPlan.{SetPlan}
@@ -214,6 +215,10 @@ abbrev pub space_of : Coded Space → Option Space
 space_of (Value s) = Some s
 space_of other = None
 
+abbrev pub expiry_of : Coded Expiry → Expiry
+expiry_of (Value e) = e
+expiry_of other = expiry.NotCoded
+
 abbrev pub set_with : Spot → DdCard → Key → SetPlan
 set_with at dd key = record {
   key = key;
@@ -223,7 +228,7 @@ set_with at dd key = record {
   volume = volume_plan at dd.volume;
   units = None;
   space = space_of dd.space;
-  expiry = expiry.NotCoded;
+  expiry = expiry_of dd.label;
 }
 
 abbrev pub kind_with : Spot → DdCard → Own → Naming → DdKind

@@ -11,7 +11,7 @@ ghost use Rattle.jcl_procs.specs.Expansions.{and_then};
 ghost use Rattle.jcl_refs.specs.Kinds.{FewPlanned, IsDummyAlone, fault_named, fault_with, is_set, key_by, kinds_here, named_by, plan_of, setless, source_of, spot_of, volume_by_source};
 ghost use Rattle.jcl_refs.specs.LaterDds.{references_of};
 ghost use Rattle.jcl_refs.specs.Plans.{dds_with, disposition_of, faults_of, is_uncataloged, is_uncataloged_after_abend, kind_at, kinds_from, kinds_in};
-ghost use Rattle.jcl_refs.specs.Plans.{led, naming, own_kind, set_with, space_of, uncataloged_faults, volume_faults, volume_plan};
+ghost use Rattle.jcl_refs.specs.Plans.{expiry_of, led, naming, own_kind, set_with, space_of, uncataloged_faults, volume_faults, volume_plan};
 
 use crate::targets::{Target, target_of};
 use jcl_cards::coded::Coded;
@@ -254,6 +254,15 @@ fn space_of(coded: &Coded<Space>) -> Option<Space>
     }
 }
 
+fn expiry_of(coded: &Coded<Expiry>) -> Expiry
+    ensures { result ≡ expiry_of coded.now }
+{
+    match *coded {
+        Coded::Value(expiry) => expiry,
+        Coded::NotGiven | Coded::Nullified => Expiry::NotCoded,
+    }
+}
+
 fn is_set(dd: &DdCard) -> bool
     ensures { result ≡ is_set (own_kind dd.now) }
 {
@@ -301,7 +310,7 @@ fn set_with(spot: &Spot<'_>, dd: &DdCard, key: Key) -> SetPlan
         volume: volume_plan(spot, &dd.volume),
         units: None,
         space: space_of(&dd.space),
-        expiry: Expiry::NotCoded,
+        expiry: expiry_of(&dd.label),
     }
 }
 

@@ -6,6 +6,7 @@ use Rattle.jname_core.specs.declared.key.Sign.TheVariants.{Minus, Plus}
 use Rattle.jcl_plan.specs.declared.fault.Cause.TheVariants.{N, P}
 use Rattle.jcl_plan.specs.declared.fault.StatementFault.TheVariants.{BadValue, ExcludeOneAnother, KeywordTwice, LeftOut, MemberName}
 use Rattle.jcl_plan.specs.declared.plan.ConditionalWord.TheVariants as conditional
+use Rattle.jcl_plan.specs.declared.plan.Expiry.TheVariants as expiry
 use Rattle.jcl_plan.specs.declared.plan.Status.TheVariants as status
 use Rattle.jcl_plan.specs.declared.plan.Word.TheVariants as word
 use Rattle.operand_core.specs.Faults.{told}
@@ -14,7 +15,7 @@ use Rattle.value_core.specs.declared.reference.StepReference.TheVariants as step
 use Rattle.value_core.specs.declared.set.SetName.TheVariants as name
 use Rattle.value_core.specs.declared.set.VolumeName.TheVariants as volume
 use Rattle.value_core.specs.Dispositions.{disposition}
-use Rattle.value_core.specs.Labels.{label_faults}
+use Rattle.value_core.specs.Labels.{label, label_faults}
 use Rattle.value_core.specs.Parms.{parm_faults}
 use Rattle.value_core.specs.Reads.{good}
 use Rattle.value_core.specs.References.{dd_reference, step_reference}
@@ -85,14 +86,19 @@ pub record ReadsUnits : Type 0 where
   pub bad_name : told (unit (codes "DISK-1")).faults ≡ Some (N 3)
   pub affinity_in_parentheses : told (unit (codes "(AFF=X,DEFER)")).faults ≡ Some (P LeftOut)
 
--- LABEL: `label_fault` tells this.
+-- LABEL
 pub record ReadsLabels : Type 0 where
-  pub day : label_faults (codes "EXPDT=75001") ≡ []
-  pub last_day_of_1900 : label_faults (codes "EXPDT=00366") ≡ []
-  pub no_day_kept : label_faults (codes "RETPD=0") ≡ []
-  pub longest_period : label_faults (codes "RETPD=9999") ≡ []
-  pub of_five_places : label_faults (codes "(1,SL,NOPWREAD,OUT,EXPDT=75100)") ≡ []
-  pub period_alone : label_faults (codes "(,RETPD=30)") ≡ []
+  pub day : label (codes "EXPDT=75001") ≡ good (expiry.Day 27393)
+  pub last_day_of_1900 : label (codes "EXPDT=00365") ≡ good (expiry.Day 364)
+  pub no_leap_day_in_1900 : told (label_faults (codes "EXPDT=00366")) ≡ Some (P BadValue)
+  pub leap_day : label (codes "EXPDT=1976/366") ≡ good (expiry.Day 28123)
+  pub last_of_all : label (codes "EXPDT=2155/365") ≡ good (expiry.Day 93501)
+  pub past_the_last : told (label_faults (codes "EXPDT=2156/001")) ≡ Some (P BadValue)
+  pub before_the_first : told (label_faults (codes "EXPDT=1899/365")) ≡ Some (P BadValue)
+  pub no_day_kept : label (codes "RETPD=0") ≡ good (expiry.DaysFromToday 0)
+  pub longest_period : label (codes "RETPD=9999") ≡ good (expiry.DaysFromToday 9999)
+  pub of_five_places : label (codes "(1,SL,NOPWREAD,OUT,EXPDT=75100)") ≡ good (expiry.Day 27492)
+  pub period_alone : label (codes "(,RETPD=30)") ≡ good (expiry.DaysFromToday 30)
   pub day_0 : told (label_faults (codes "EXPDT=75000")) ≡ Some (P BadValue)
   pub four_digits : told (label_faults (codes "EXPDT=7510")) ≡ Some (P BadValue)
   pub six_digits : told (label_faults (codes "EXPDT=751000")) ≡ Some (P BadValue)

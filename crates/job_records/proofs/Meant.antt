@@ -10,7 +10,6 @@ use Rattle.jname_core.specs.declared.key.Key.TheVariants.{Named, Relative, Tempo
 use Rattle.jcl_plan.specs.Texts.{trimmed}
 use Rattle.jcl_plan.specs.declared.plan.DdKind.{DdKind}
 use Rattle.jcl_plan.specs.declared.plan.DdKind.TheVariants.{Cards, Dummy, Set, Sysout}
-use Rattle.jcl_plan.specs.declared.plan.Expiry.TheVariants as expiry
 use Rattle.jcl_plan.specs.declared.plan.Space.{Space}
 use Rattle.jcl_meaning.specs.Names.{is_temporary}
 use Rattle.jcl_meaning.specs.Plans.{is_pass, normal_meaning, passes}
@@ -19,6 +18,7 @@ use Rattle.cb_meaning.specs.declared.layout.Layout.{Layout}
 use Rattle.cb_meaning.specs.Fields.{byte_at, field, number_at, part}
 use Rattle.cb_meaning.specs.Readings.{cards_read, conditional_read, key_read, kind_read, normal_read, set_read, sign_read, space_read, status_read, volume_read}
 use Rattle.cb_meaning.specs.Spelled.{Records, cards_of}
+use Rattle.cb_meaning.specs.Writable.{IsExpiry}
 use Rattle.cb_meaning.specs.Walks.{has_space, in_parts, releases as has_release}
 use Rattle.cb_read.specs.Ranges.{IsKindInRange, IsVolumeInRange}
 use Rattle.job_text.specs.Texts.{cards_in, disp_text, primary_in, put_text, source_text, take_text}
@@ -27,7 +27,7 @@ use Rattle.job_text.specs.declared.texts.PutText.TheVariants as put
 use Rattle.job_text.specs.declared.texts.SourceText.TheVariants as source
 use Rattle.job_text.specs.declared.texts.TakeText.TheVariants as taking
 use Rattle.job_records.specs.Fields.{fields_of_jfcb, fields_of_siot}
-use Rattle.job_records.specs.Said.{disp_said, passes_said, primary_said, put_said, set_passes, source_said, take_other_said, take_said, take_set_said, temporary_said, volume_said}
+use Rattle.job_records.specs.Said.{disp_said, expiry_said, passes_said, primary_said, put_said, set_passes, source_said, take_other_said, take_said, take_set_said, temporary_said, volume_said}
 
 -- a question to what is chosen is a choice of its answers
 choice : {A B : Type 0} (f : A → B) (b : Bool) (x y : A) → f (cond b x y) ≡ cond b (f x) (f y)
@@ -67,8 +67,8 @@ temporary_by k =
       | inr not_so ↦ ap (λ b. cond b false (cond (k == 4) true (cond (k == 5) true false))) not_so ∙ either (k == 4) (k == 5)
     ]
 
-pub temporary_is : (r : List ℕ) → is_temporary (key_read r) ≡ temporary_said (fields_of_jfcb r)
-temporary_is r =
+pub temporary_is : (l : Layout) (r : List ℕ) → is_temporary (key_read r) ≡ temporary_said (fields_of_jfcb l r)
+temporary_is l r =
     of_keys (byte_at r 8 == 3) (byte_at r 8 == 4) (byte_at r 8 == 5) (Relative (trimmed (part r 12 44)) (sign_read (byte_at r 9)) (number_at r (field 10 2)))
     (Temporary (trimmed (part r 12 44))) (Unnamed (number_at r (field 12 2)) (number_at r (field 14 2))) (Named (trimmed (part r 12 44)))
     ∙ temporary_by (byte_at r 8)
@@ -90,17 +90,20 @@ module _ (l : Layout) (q : Records) (s : List ℕ) where
   chosen n x y z w = cond (n == 1) x (cond (n == 3) y (cond (n == 4) z w))
 
   by_kind : {B : Type 0} (f : DdKind → B) →
-      f (kind_read l q s) ≡ chosen k (f (Set (set_read s jfcb))) (f (Sysout (byte_at s 25))) (f (Cards its_cards)) (f Dummy)
-  by_kind f = of_kinds f (k == 1) (k == 3) (k == 4) (Set (set_read s jfcb)) (Sysout (byte_at s 25)) (Cards its_cards) Dummy
+      f (kind_read l q s) ≡ chosen k (f (Set (set_read l s jfcb))) (f (Sysout (byte_at s 25))) (f (Cards its_cards)) (f Dummy)
+  by_kind f = of_kinds f (k == 1) (k == 3) (k == 4) (Set (set_read l s jfcb)) (Sysout (byte_at s 25)) (Cards its_cards) Dummy
 
-  pub set_there : k ≡ 1 → kind_read l q s ≡ Set (set_read s jfcb)
-  set_there e = ap (λ n. chosen n (Set (set_read s jfcb)) (Sysout (byte_at s 25)) (Cards its_cards) Dummy) e
+  pub set_there : k ≡ 1 → kind_read l q s ≡ Set (set_read l s jfcb)
+  set_there e = ap (λ n. chosen n (Set (set_read l s jfcb)) (Sysout (byte_at s 25)) (Cards its_cards) Dummy) e
 
   pub cards_there : k ≡ 4 → kind_read l q s ≡ Cards its_cards
-  cards_there e = ap (λ n. chosen n (Set (set_read s jfcb)) (Sysout (byte_at s 25)) (Cards its_cards) Dummy) e
+  cards_there e = ap (λ n. chosen n (Set (set_read l s jfcb)) (Sysout (byte_at s 25)) (Cards its_cards) Dummy) e
 
-  pub volume_in_range : k ≡ 1 → IsKindInRange (kind_read l q s) → IsVolumeInRange (volume_said (fields_of_siot l s) (fields_of_jfcb jfcb))
+  pub volume_in_range : k ≡ 1 → IsKindInRange (kind_read l q s) → IsVolumeInRange (volume_said (fields_of_siot l s) (fields_of_jfcb l jfcb))
   volume_in_range e range = (subst IsKindInRange (set_there e) range).volume
+
+  pub expiry_in_range : k ≡ 1 → IsKindInRange (kind_read l q s) → IsExpiry (expiry_said (fields_of_jfcb l jfcb))
+  expiry_in_range e range = (subst IsKindInRange (set_there e) range).expiry
 
   -- what has a card is cards
   pub cards_here : (i : ℕ) → i < length (cards_in (kind_read l q s)) → k ≡ 4
@@ -125,28 +128,28 @@ module _ (l : Layout) (q : Records) (s : List ℕ) where
         ∙ ap (λ x. cond (k == 1) source.Set (cond (k == 3) source.Nothing x))
         (same_where (k == 4) source.Cards (length its_cards) (number_at s l.cards) source.Nothing so_many)
 
-    pub take_is : take_text (kind_read l q s) ≡ take_said (fields_of_siot l s) (fields_of_jfcb jfcb)
+    pub take_is : take_text (kind_read l q s) ≡ take_said (fields_of_siot l s) (fields_of_jfcb l jfcb)
     take_is =
         by_kind take_text
-        ∙ ap (λ p. chosen k (taking.Set (record { status = status_read (byte_at s 13); volume = volume_read s jfcb; primary = p; expiry = expiry.NotCoded }))
+        ∙ ap (λ p. chosen k (taking.Set (record { status = status_read (byte_at s 13); volume = volume_read s jfcb; primary = p; expiry = expiry_said (fields_of_jfcb l jfcb) }))
         (taking.Sysout (byte_at s 25)) (taking.Cards (length its_cards)) taking.Dummy) (choice primary_in (has_space s) (Some the_space) None)
         ∙ ap (λ x. cond (k == 1) (taking.Set (record {
           status = status_read (byte_at s 13);
           volume = volume_read s jfcb;
           primary = primary_said (fields_of_siot l s);
-          expiry = expiry.NotCoded;
+          expiry = expiry_said (fields_of_jfcb l jfcb);
         })) (cond (k == 3) (taking.Sysout (byte_at s 25)) x))
         (same_where (k == 4) taking.Cards (length its_cards) (number_at s l.cards) taking.Dummy so_many)
 
-    pub take_set_is : k ≡ 1 → take_text (kind_read l q s) ≡ taking.Set (take_set_said (fields_of_siot l s) (fields_of_jfcb jfcb))
+    pub take_set_is : k ≡ 1 → take_text (kind_read l q s) ≡ taking.Set (take_set_said (fields_of_siot l s) (fields_of_jfcb l jfcb))
     take_set_is e =
         take_is
-        ∙ ap (λ n. cond (n == 1) (taking.Set (take_set_said (fields_of_siot l s) (fields_of_jfcb jfcb))) (take_other_said (fields_of_siot l s))) e
+        ∙ ap (λ n. cond (n == 1) (taking.Set (take_set_said (fields_of_siot l s) (fields_of_jfcb l jfcb))) (take_other_said (fields_of_siot l s))) e
 
     pub take_other_is : (k == 1) ≡ false → take_text (kind_read l q s) ≡ take_other_said (fields_of_siot l s)
     take_other_is e =
         take_is
-        ∙ ap (λ b. cond b (taking.Set (take_set_said (fields_of_siot l s) (fields_of_jfcb jfcb))) (take_other_said (fields_of_siot l s))) e
+        ∙ ap (λ b. cond b (taking.Set (take_set_said (fields_of_siot l s) (fields_of_jfcb l jfcb))) (take_other_said (fields_of_siot l s))) e
 
   pub put_is : put_text (kind_read l q s) ≡ put_said (fields_of_siot l s)
   put_is =
@@ -165,18 +168,18 @@ module _ (l : Layout) (q : Records) (s : List ℕ) where
       ∙ ap (λ b. cond (k == 1) (disp.Set (record { normal = normal_read (byte_at s 14); conditional = conditional_read (byte_at s 15); release = b }))
       (cond (k == 3) (disp.Sysout (byte_at s 25)) disp.Nothing)) (choice releases (has_space s) (Some the_space) None)
 
-  pub passes_is : passes (kind_read l q s) ≡ passes_said (fields_of_siot l s) (fields_of_jfcb jfcb)
+  pub passes_is : passes (kind_read l q s) ≡ passes_said (fields_of_siot l s) (fields_of_jfcb l jfcb)
   passes_is =
       by_kind passes
-      ∙ ap (λ b. chosen k (is_pass (normal_meaning b (normal_read (byte_at s 14)))) false false false) (temporary_is jfcb)
-      ∙ ap (λ x. cond (k == 1) (is_pass (normal_meaning (temporary_said (fields_of_jfcb jfcb)) (normal_read (byte_at s 14)))) x)
+      ∙ ap (λ b. chosen k (is_pass (normal_meaning b (normal_read (byte_at s 14)))) false false false) (temporary_is l jfcb)
+      ∙ ap (λ x. cond (k == 1) (is_pass (normal_meaning (temporary_said (fields_of_jfcb l jfcb)) (normal_read (byte_at s 14)))) x)
       (ap (λ x. cond (k == 3) false x) (same_both (k == 4) false) ∙ same_both (k == 3) false)
 
-  pub set_passes_is : k ≡ 1 → passes (kind_read l q s) ≡ set_passes (fields_of_siot l s) (fields_of_jfcb jfcb)
-  set_passes_is e = passes_is ∙ ap (λ n. cond (n == 1) (set_passes (fields_of_siot l s) (fields_of_jfcb jfcb)) false) e
+  pub set_passes_is : k ≡ 1 → passes (kind_read l q s) ≡ set_passes (fields_of_siot l s) (fields_of_jfcb l jfcb)
+  set_passes_is e = passes_is ∙ ap (λ n. cond (n == 1) (set_passes (fields_of_siot l s) (fields_of_jfcb l jfcb)) false) e
 
   pub none_passes : (k == 1) ≡ false → passes (kind_read l q s) ≡ false
-  none_passes e = passes_is ∙ ap (λ b. cond b (set_passes (fields_of_siot l s) (fields_of_jfcb jfcb)) false) e
+  none_passes e = passes_is ∙ ap (λ b. cond b (set_passes (fields_of_siot l s) (fields_of_jfcb l jfcb)) false) e
 
 -- a test by its number, of those that lie one behind the other
 test_behind : (bytes : List ℕ) (i : ℕ) → take 5 (drop (5 * i) (drop 5 bytes)) ≡ take 5 (drop (5 * suc i) bytes)

@@ -126,13 +126,15 @@ module _ (l : Layout) (r s : List ℕ) (change : ChangesOnly l.link r s) where
         secondary = number l rest own r s change 13 (field 36 2) refl i;
       }
 
-  pub jfcb_seen : all_apart (jfcb_places l) ≡ true → fields_of_jfcb s ≡ fields_of_jfcb r
+  pub jfcb_seen : all_apart (jfcb_places l) ≡ true → fields_of_jfcb l s ≡ fields_of_jfcb l r
   jfcb_seen own =
       let rest = behind (behind (behind (jfcb_places l))) in
       λ i. record {
         key_kind = byte l rest own r s change 0 8 refl i;
         serial = text l rest own r s change 3 (field 56 6) refl i;
         volume_name = text l rest own r s change 4 (field 62 44) refl i;
+        expiry_kind = number l rest own r s change 5 l.expiry_kind refl i;
+        expiry_days = number l rest own r s change 6 l.expiry_days refl i;
       }
 
   pub cards_seen : all_apart (card_places l) ≡ true → fields_of_cards l s ≡ fields_of_cards l r

@@ -83,9 +83,17 @@ pub record JfcbFields : Type 0 where
   pub key_kind : ℕ
   pub serial : List ℕ
   pub volume_name : List ℕ
+  pub expiry_kind : ℕ
+  pub expiry_days : ℕ
 
-abbrev pub fields_of_jfcb : List ℕ → JfcbFields
-fields_of_jfcb r = record { key_kind = byte_at r 8; serial = part r 56 6; volume_name = part r 62 44 }
+abbrev pub fields_of_jfcb : Layout → List ℕ → JfcbFields
+fields_of_jfcb l r = record {
+  key_kind = byte_at r 8;
+  serial = part r 56 6;
+  volume_name = part r 62 44;
+  expiry_kind = number_at r l.expiry_kind;
+  expiry_days = number_at r l.expiry_days;
+}
 
 pub record CardsFields : Type 0 where
   pub next : ℕ

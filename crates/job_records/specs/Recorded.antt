@@ -25,7 +25,7 @@ abbrev pub ShowsSiot : RecordQueue → ℕ → List ℕ → Type 0
 ShowsSiot q n bytes = fields_of_siot q.layout bytes ≡ fields_of_siot q.layout ((shown q).at n)
 
 abbrev pub ShowsJfcb : RecordQueue → ℕ → List ℕ → Type 0
-ShowsJfcb q n bytes = fields_of_jfcb bytes ≡ fields_of_jfcb ((shown q).at n)
+ShowsJfcb q n bytes = fields_of_jfcb q.layout bytes ≡ fields_of_jfcb q.layout ((shown q).at n)
 
 abbrev pub ShowsCards : RecordQueue → ℕ → List ℕ → Type 0
 ShowsCards q n bytes = fields_of_cards q.layout bytes ≡ fields_of_cards q.layout ((shown q).at n)

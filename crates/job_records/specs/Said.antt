@@ -2,7 +2,7 @@
 use Rattle.std.specs.Prelude.{ℕ, ◌*◌, ◌==◌, ◌||◌, Bool, false, bit_and, List, [], ◌∷◌, drop, take, Option, None, Some, if◌then◌else◌}
 use Rattle.jname_core.specs.Grammar.{IsName8}
 use Rattle.jcl_plan.specs.Texts.{trimmed}
-use Rattle.jcl_plan.specs.declared.plan.Expiry.TheVariants as expiry
+use Rattle.jcl_plan.specs.declared.plan.Expiry.{Expiry}
 use Rattle.jcl_plan.specs.declared.plan.VolumePlan.{VolumePlan}
 use Rattle.jcl_plan.specs.declared.plan.VolumePlan.TheVariants as volume
 use Rattle.jcl_meaning.specs.Plans.{is_pass, normal_meaning}
@@ -16,7 +16,7 @@ use Rattle.job_text.specs.declared.texts.StepText.{StepText}
 use Rattle.job_text.specs.declared.texts.TakeSet.{TakeSet}
 use Rattle.job_text.specs.declared.texts.TakeText.{TakeText}
 use Rattle.job_text.specs.declared.texts.TakeText.TheVariants as taking
-use Rattle.cb_meaning.specs.Readings.{after_abend_read, conditional_read, name_read, normal_read, status_read}
+use Rattle.cb_meaning.specs.Readings.{after_abend_read, conditional_read, expiry_read, name_read, normal_read, status_read}
 use Rattle.cb_meaning.specs.Writable.{IsName}
 use Rattle.job_records.specs.Fields.{CardsFields, JfcbFields, SctFields, SiotFields}
 
@@ -54,9 +54,12 @@ volume_said f g =
     else (if f.volume == 3 then volume.OfDd f.volume_step f.volume_dd
     else volume.NotCoded))
 
+abbrev pub expiry_said : JfcbFields → Expiry
+expiry_said g = expiry_read g.expiry_kind g.expiry_days
+
 -- what its taking reads: a set has a JFCB
 abbrev pub take_set_said : SiotFields → JfcbFields → TakeSet
-take_set_said f g = record { status = status_read f.status; volume = volume_said f g; primary = primary_said f; expiry = expiry.NotCoded }
+take_set_said f g = record { status = status_read f.status; volume = volume_said f g; primary = primary_said f; expiry = expiry_said g }
 
 abbrev pub take_other_said : SiotFields → TakeText
 take_other_said f = if f.kind == 3 then taking.Sysout f.class else (if f.kind == 4 then taking.Cards f.cards else taking.Dummy)

@@ -58,7 +58,8 @@ pub(crate) fn siot_of<'a, S: RecordStore>(store: &'a S, n: u32) -> SiotView<'a>
 pub(crate) fn jfcb_of<'a, S: RecordStore>(store: &'a S, n: u32) -> JfcbView<'a>
     requires own { HasOwnFields (S.queue store.now).layout }
     requires kind { IsOfKind (S.queue store.now) jfcb n }
-    ensures { ShowsJfcb (S.queue store.now) n result.bytes.now }
+    ensures layout { result.layout.now ≡ (S.queue store.now).layout }
+    ensures fields { ShowsJfcb (S.queue store.now) n result.bytes.now }
 {
     let layout = store.layout();
     match store.get(n) {

@@ -123,7 +123,8 @@ impl<'a, S: RecordStore> JobRecords<'a, S> {
     fn jfcb(&self, s: &SiotView<'_>) -> JfcbView<'a>
         requires reads { CanBeRead (S.queue self.now.store.now) self.now.jct self.now.at_hand }
         requires kind { IsOfKind (S.queue self.now.store.now) jfcb (fields_of_siot s.now.layout.now s.now.bytes.now).below }
-        ensures { ShowsJfcb (S.queue self.now.store.now) (fields_of_siot s.now.layout.now s.now.bytes.now).below result.bytes.now }
+        ensures layout { result.layout.now ≡ (S.queue self.now.store.now).layout }
+        ensures fields { ShowsJfcb (S.queue self.now.store.now) (fields_of_siot s.now.layout.now s.now.bytes.now).below result.bytes.now }
     {
         jfcb_of(self.store, s.below())
     }

@@ -1,22 +1,23 @@
 //! What records say of a step and of a DD, in the words of a plan.
 ghost use Rattle.std.specs.Prelude.{◌≡◌, ◌<◌};
 ghost use Rattle.cb_meaning.specs.Readings.{name_read, step_test_read};
+ghost use Rattle.cb_meaning.specs.Writable.{IsExpiry};
 ghost use Rattle.cb_read.specs.Ranges.{IsTestInRange, IsVolumeInRange};
 ghost use Rattle.jcl_meaning.specs.Programs.{is_continued, is_named};
 ghost use Rattle.jcl_plan.specs.declared.plan.DdKind.TheVariants.{Dummy};
 ghost use Rattle.job_records.specs.Fields.{fields_of_jfcb, fields_of_sct, fields_of_siot};
-ghost use Rattle.job_records.specs.Said.{AreStepNames, disp_said, primary_said, put_said, release_said, secondary_said, set_passes, source_said, step_said, take_other_said, take_set_said, temporary_said, test_bytes, volume_said};
+ghost use Rattle.job_records.specs.Said.{AreStepNames, disp_said, expiry_said, primary_said, put_said, release_said, secondary_said, set_passes, source_said, step_said, take_other_said, take_set_said, temporary_said, test_bytes, volume_said};
 
 use cb_read::codes::{after_abend_read, conditional_read, normal_read, status_read};
 use cb_read::names::{name_read, name8};
-use cb_read::set::volume_read;
+use cb_read::set::{expiry_read, volume_read};
 use cb_read::tests_read::step_test_read;
 use cb_records::jfcb::JfcbView;
 use cb_records::sct::SctView;
 use cb_records::siot::{SiotView, has_cards, has_space, is_set, is_sysout, releases};
 use cb_walk::texts::{is_blank, trimmed};
 use jcl_meaning::words::{is_pass, normal_meaning};
-use jcl_plan::plan::{Expiry, Test};
+use jcl_plan::plan::Test;
 use jname_core::name8::Name8;
 use job_text::texts::{
     DispSet, DispText, PutSet, PutText, SourceText, StepText, TakeSet, TakeText,
@@ -94,14 +95,15 @@ fn release_said(s: &SiotView<'_>) -> bool
 
 /// What the taking of a set reads, of its SIOT and its JFCB.
 pub(crate) fn take_set_said(s: &SiotView<'_>, r: &JfcbView<'_>) -> TakeSet
-    requires { IsVolumeInRange (volume_said (fields_of_siot s.now.layout.now s.now.bytes.now) (fields_of_jfcb r.now.bytes.now)) }
-    ensures { result ≡ take_set_said (fields_of_siot s.now.layout.now s.now.bytes.now) (fields_of_jfcb r.now.bytes.now) }
+    requires volume { IsVolumeInRange (volume_said (fields_of_siot s.now.layout.now s.now.bytes.now) (fields_of_jfcb r.now.layout.now r.now.bytes.now)) }
+    requires expiry { IsExpiry (expiry_said (fields_of_jfcb r.now.layout.now r.now.bytes.now)) }
+    ensures { result ≡ take_set_said (fields_of_siot s.now.layout.now s.now.bytes.now) (fields_of_jfcb r.now.layout.now r.now.bytes.now) }
 {
     TakeSet {
         status: status_read(s.status()),
         volume: volume_read(s, r),
         primary: primary_said(s),
-        expiry: Expiry::NotCoded,
+        expiry: expiry_read(r.expiry_kind(), r.expiry_days()),
     }
 }
 
@@ -170,14 +172,14 @@ pub(crate) fn source_said(s: &SiotView<'_>) -> SourceText
 
 /// Whether a set is temporary, of its JFCB.
 fn temporary_said(r: &JfcbView<'_>) -> bool
-    ensures { result ≡ temporary_said (fields_of_jfcb r.now.bytes.now) }
+    ensures { result ≡ temporary_said (fields_of_jfcb r.now.layout.now r.now.bytes.now) }
 {
     r.key_kind() == 4 || r.key_kind() == 5
 }
 
 /// Whether a DD may pass the set that it takes, of its SIOT and its JFCB.
 pub(crate) fn set_passes(s: &SiotView<'_>, r: &JfcbView<'_>) -> bool
-    ensures { result ≡ set_passes (fields_of_siot s.now.layout.now s.now.bytes.now) (fields_of_jfcb r.now.bytes.now) }
+    ensures { result ≡ set_passes (fields_of_siot s.now.layout.now s.now.bytes.now) (fields_of_jfcb r.now.layout.now r.now.bytes.now) }
 {
     is_pass(normal_meaning(temporary_said(r), normal_read(s.normal())))
 }

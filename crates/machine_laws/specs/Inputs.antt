@@ -5,7 +5,7 @@ use Rattle.world_meaning.specs.declared.event.Event as meant
 use Rattle.world_meaning.specs.declared.event.Event.TheVariants as event
 use Rattle.sched_core.specs.Systems.{meant_by}
 
--- an event that a session can bring: each but a new date
+-- an event that a session can bring
 abbrev pub IsInput : meant.Event → Type 0
 IsInput (event.Read deck) = Unit {0}
 IsInput (event.Turn number) = Unit {0}
@@ -14,7 +14,7 @@ IsInput (event.Write class) = Unit {0}
 IsInput (event.Cancel job) = Unit {0}
 IsInput event.Display = Unit {0}
 IsInput (event.Zap n offset bytes) = Unit {0}
-IsInput (event.Date day) = ⊥
+IsInput (event.Date day) = Unit {0}
 
 -- Inputs and these events are the same, one by one.
 pub record AreInputs : Type 0 where

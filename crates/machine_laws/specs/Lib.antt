@@ -1,4 +1,5 @@
 pub mod Inputs
+pub mod Dates
 pub mod Deciding
 pub mod Answers
 pub mod Next

@@ -3,6 +3,7 @@
 #![tactic(auto)]
 
 ghost use Rattle.machine_laws.specs.Answers.{AnswersAreExact, AnswersOfDrive};
+ghost use Rattle.machine_laws.specs.Dates.{TurnsIgnoreTheDate};
 ghost use Rattle.machine_laws.specs.Deciding.{ActionsAreTold, GrowthIsRefused, PrimaryIsRefused, SetsArePlaced};
 ghost use Rattle.machine_laws.specs.Inputs.{AreInputs};
 ghost use Rattle.machine_laws.specs.Next.{NextVolumesAreDecided};
@@ -36,6 +37,11 @@ pub fn primary_is_refused()
 /// At its admission a job's sets are placed by the rule, on the volumes as they were.
 pub fn sets_are_placed()
     ensures { SetsArePlaced }
+{}
+
+/// A date that is set while an admitted job runs changes no line of it, and nothing else that its turns leave.
+pub fn turns_ignore_the_date()
+    ensures { TurnsIgnoreTheDate }
 {}
 
 /// What a job is answered holds of it in the machine as it was, and is the only answer: BROKEN where its records denote no job; ASSURED exactly where no path

@@ -2,7 +2,7 @@
 
 pub mod answer;
 mod cause;
-mod names;
+pub(crate) mod names;
 mod noted;
 mod path;
 pub mod risk;

@@ -10,7 +10,7 @@ use Rattle.cb_meaning.specs.declared.layout.Field.{Field}
 use Rattle.cb_meaning.specs.declared.layout.Layout.{Layout}
 use Rattle.cb_meaning.specs.Fields.{byte_at, field, is_in, is_zero_but, number_at, number_of, part, zero_from}
 use Rattle.cb_meaning.specs.Spelled.{card_fields, common, jct_fields, jfcb_fields, sct_fields, status_bytes}
-use Rattle.cb_meaning.specs.Walks.{are_printable, are_zero, card_faults, continues, fields_if, has_cards, has_space, in_parts, is_bad_test, is_blank, is_ds_name, is_earlier_set, is_known_kind, is_name, is_name_or_blank, is_relative, is_serial, is_set, is_sysout, jct_faults, jfcb_faults, looks_forward, releases, sct_faults, set_name_bad, set_numbers_bad, set_words_bad, siot_faults, siot_fields_used, stems_forward, told_if}
+use Rattle.cb_meaning.specs.Walks.{are_printable, are_zero, card_faults, continues, fields_if, has_cards, has_space, in_parts, is_bad_test, is_blank, is_ds_name, is_earlier_set, is_known_kind, is_name, is_no_expiry, is_name_or_blank, is_relative, is_serial, is_set, is_sysout, jct_faults, jfcb_faults, looks_forward, releases, sct_faults, set_name_bad, set_numbers_bad, set_words_bad, siot_faults, siot_fields_used, stems_forward, told_if}
 use Rattle.cb_meaning.specs.Writable.{most_tracks}
 use Rattle.world_meaning.specs.Records.{AgreeBut, IsBetween, IsQueueLayout}
 
@@ -198,6 +198,8 @@ module _ (l : Layout) (own : IsQueueLayout l) (has : Bool) (r s : List ℕ) (agr
       let dd = pair 14 (omega arith) (omega arith) in
       let serial = text 56 6 (omega arith) (omega arith) in
       let reference = text 62 44 (omega arith) (omega arith) in
+      let said = number l.expiry_kind own.expiry_kind in
+      let days = number l.expiry_days own.expiry_days in
       let zeros = unused (jfcb_fields l) 0 refl refl (λ e. let no : true ≡ false = sym e ∙ none in absurd cc) in
       (λ i. told_if 6 (((kind i == 1 && (not (is_ds_name 44 (name i)) || has_generation_form (trimmed (name i))))
       || (kind i == 2 && not (is_ds_name 44 (name i) && has_generation_form (trimmed (name i))))
@@ -208,7 +210,7 @@ module _ (l : Layout) (own : IsQueueLayout l) (has : Bool) (r s : List ℕ) (agr
       || (if volume i == 2 then not (is_ds_name 44 (reference i)) else not (is_blank (reference i))))
       ++ told_if 9 (kind i == 5 && not ((step i == k && dd i == d) || is_earlier_set steps k d (step i) (dd i)))
       ++ told_if 12 (nat_lt (kind i) 1 || nat_lt 5 (kind i) || (kind i == 3 && (nat_lt 1 (sign i) || nat_lt 255 (amount i)))
-      || (not (kind i == 3) && not (list_all (λ b. b == 0) (relative i))) || not (zeros i)))
+      || (not (kind i == 3) && not (list_all (λ b. b == 0) (relative i))) || is_no_expiry (said i) (days i) || not (zeros i)))
 
   pub card_same : has ≡ false → card_faults l s ≡ card_faults l r
   card_same none =

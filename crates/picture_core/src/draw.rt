@@ -5,6 +5,7 @@ use crate::legend::add_legend;
 use crate::sheet::Sheet;
 use crate::style::{STYLE, add_patterns};
 use crate::tell::Telling;
+use history_core::dates::DateMark;
 use history_core::history::History;
 use history_core::order::Drawn;
 use history_core::still::Still;
@@ -12,6 +13,9 @@ use plain::short::Short;
 use plain::text::Text;
 use std::alloc::{AllocError, Global};
 use svg_text::shape::{Picture, Point, Size};
+
+/// The pixels that a date takes above the lanes.
+const DATE_WIDTH: u32 = 56;
 
 impl Canvas<'_> {
     fn add_lanes(&mut self, drawn: &Drawn) -> Result<(), AllocError> {
@@ -88,6 +92,37 @@ impl Canvas<'_> {
         self.groups.push(sheet.into_group(Short::new(b"cuts")))
     }
 
+    /// The line of a new date, and the date above it where there is room.
+    fn add_date(&self, sheet: &mut Sheet, mark: &DateMark, told: bool) -> Result<(), AllocError> {
+        let x = self.left.saturating_add(self.axis.before(mark.event));
+        let above = Point { x, y: TOP - 2 };
+        sheet.line(Short::new(b"grid"), above, Point { x, y: self.top })?;
+        if !told {
+            return Ok(());
+        }
+        let date = date_text(self.alloc, mark)?;
+        sheet.owned_text(Short::new(b"tick"), Point { x, y: TOP - 4 }, date)
+    }
+
+    /// The new dates, over all lanes.
+    fn add_dates(&mut self) -> Result<(), AllocError> {
+        let marks = self.history.dates.marks.as_slice();
+        if marks.is_empty() {
+            return Ok(());
+        }
+        let mut sheet = Sheet::empty(self.alloc);
+        let mut free: u32 = 0;
+        for mark in marks {
+            let before = self.axis.before(mark.event);
+            let told = before >= free;
+            self.add_date(&mut sheet, mark, told)?;
+            if told {
+                free = before.saturating_add(DATE_WIDTH);
+            }
+        }
+        self.groups.push(sheet.into_group(Short::new(b"dates")))
+    }
+
     /// The heading, and the legend behind all lanes.
     fn add_words(&mut self, width: u32) -> Result<(), AllocError> {
         let mut sheet = Sheet::empty(self.alloc);
@@ -104,9 +139,25 @@ impl Canvas<'_> {
             x: 12,
             y: self.top.saturating_add(10),
         };
-        self.top = add_legend(&mut sheet, place, width.saturating_sub(24))?;
+        let dated = !self.history.dates.marks.is_empty();
+        self.top = add_legend(&mut sheet, place, width.saturating_sub(24), dated)?;
         self.groups.push(sheet.into_group(Short::new(b"words")))
     }
+}
+
+/// A date, as sessions write it.
+fn date_text(alloc: Global, mark: &DateMark) -> Result<Text, AllocError> {
+    let mut date = Telling::empty(alloc, 20);
+    date.push_number(u64::from(mark.year))?;
+    date.push(if mark.day < 10 {
+        b"/00".as_slice()
+    } else if mark.day < 100 {
+        b"/0".as_slice()
+    } else {
+        b"/".as_slice()
+    })?;
+    date.push_number(u64::from(mark.day))?;
+    Ok(date.into_text())
 }
 
 /// What is told of a row that is cut.
@@ -132,6 +183,7 @@ pub fn picture_of(alloc: Global, history: &History) -> Result<Picture, AllocErro
     canvas.add_lanes(&drawn)?;
     canvas.add_axis()?;
     canvas.add_cuts()?;
+    canvas.add_dates()?;
     add_patterns(alloc, &mut canvas.groups)?;
     canvas.add_words(width)?;
     let title = Text::copy_of(alloc, b"A session, event by event")?;

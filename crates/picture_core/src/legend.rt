@@ -21,8 +21,13 @@ fn beside(at: Point, right: u32, down: u32) -> Point {
     }
 }
 
-/// Puts the legend into this many pixels across, from a place on. The pixels above its end.
-pub(crate) fn add_legend(sheet: &mut Sheet, place: Point, width: u32) -> Result<u32, AllocError> {
+/// Puts the legend into this many pixels across, from a place on; dates are explained where there are some. The pixels above its end.
+pub(crate) fn add_legend(
+    sheet: &mut Sheet,
+    place: Point,
+    width: u32,
+    dated: bool,
+) -> Result<u32, AllocError> {
     let mut at = place;
     at.y = add_part(sheet, at, width, b"Queue", &OF_QUEUE)?;
     at.y = add_part(sheet, at, width, b"Initiators", &OF_INITIATORS)?;
@@ -35,6 +40,13 @@ pub(crate) fn add_legend(sheet: &mut Sheet, place: Point, width: u32) -> Result<
         beside(at, HEAD, 11),
         b"// stands for events that do nothing",
     )?;
+    if dated {
+        sheet.text(
+            Short::new(b"legend"),
+            beside(at, HEAD.saturating_add(2 * ENTRY), 11),
+            b"yyyy/ddd stands for a new date",
+        )?;
+    }
     Ok(at.y.saturating_add(LINE))
 }
 

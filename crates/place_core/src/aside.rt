@@ -123,8 +123,58 @@ fn note_vain(volumes: &[Mounted], vain: &mut Vain, serial: Serial, tracks: u16)
     }
 }
 
-/// Sets tracks aside on the first of these volumes that has room for them, and tells which that is, or else the first. An `Err` changes nothing. No volume is
-/// tried twice.
+/// Sets tracks aside on the first of these volumes that has room for them, and tells which that is, or else the first: each is tried once. An `Err` changes
+/// nothing.
+fn aside_on_each(
+    volumes: &mut [Mounted],
+    among: &[Serial],
+    at: KeptPlace,
+    tracks: u16,
+) -> Result<Option<Serial>, AllocError>
+    requires some { 0 < tracks }
+    requires clear { IsClear volumes.old at }
+    ensures chosen { IfOk result (λ serial. serial ≡ chosen volumes.old tracks among.now) }
+    ensures ok { IfOk result (λ serial. volumes.new ≡ aside_at serial at tracks volumes.old) }
+    ensures err { OnErr result (volumes.new ≡ volumes.old) }
+{
+    for serial in among {
+        if set_aside(volumes, *serial, at, tracks)? {
+            return Ok(Some(*serial));
+        }
+    }
+    Ok(among.first().copied())
+}
+
+/// The same, where no volume is tried twice.
+fn aside_on_other(
+    volumes: &mut [Mounted],
+    among: &[Serial],
+    at: KeptPlace,
+    tracks: u16,
+) -> Result<Option<Serial>, AllocError>
+    requires some { 0 < tracks }
+    requires clear { IsClear volumes.old at }
+    ensures chosen { IfOk result (λ serial. serial ≡ chosen volumes.old tracks among.now) }
+    ensures ok { IfOk result (λ serial. volumes.new ≡ aside_at serial at tracks volumes.old) }
+    ensures err { OnErr result (volumes.new ≡ volumes.old) }
+{
+    let mut vain = Vain {
+        last: None,
+        tried: [false; MOST_TRIED],
+    };
+    for serial in among {
+        if !is_vain(&*volumes, &vain, *serial, tracks) {
+            if set_aside(volumes, *serial, at, tracks)? {
+                return Ok(Some(*serial));
+            }
+            note_vain(&*volumes, &mut vain, *serial, tracks);
+        }
+    }
+    Ok(among.first().copied())
+}
+
+/// Sets tracks aside on the first of these volumes that has room for them, and tells which that is, or else the first. An `Err` changes nothing. Of more serials
+/// than there are volumes some repeat: then no volume is tried twice.
 pub(crate) fn aside_among(
     volumes: &mut [Mounted],
     among: &[Serial],
@@ -139,19 +189,11 @@ pub(crate) fn aside_among(
     if tracks == 0 {
         return Ok(among.first().copied());
     }
-    let mut vain = Vain {
-        last: None,
-        tried: [false; MOST_TRIED],
-    };
-    for serial in among {
-        if !is_vain(&*volumes, &vain, *serial, tracks) {
-            if set_aside(volumes, *serial, at, tracks)? {
-                return Ok(Some(*serial));
-            }
-            note_vain(&*volumes, &mut vain, *serial, tracks);
-        }
+    if among.len() <= volumes.len() {
+        aside_on_each(volumes, among, at, tracks)
+    } else {
+        aside_on_other(volumes, among, at, tracks)
     }
-    Ok(among.first().copied())
 }
 
 /// Gives back what is set aside at a place on the volume of a serial.

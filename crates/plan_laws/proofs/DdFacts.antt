@@ -6,7 +6,6 @@ use Rattle.jcl_plan.specs.declared.fault.Cause.{Cause}
 use Rattle.jcl_plan.specs.declared.plan.DdKind.{DdKind}
 use Rattle.jcl_plan.specs.declared.plan.DdKind.TheVariants.{Cards, Dummy, Set, Sysout}
 use Rattle.jcl_plan.specs.declared.plan.DdPlan.{DdPlan}
-use Rattle.jcl_plan.specs.declared.plan.Expiry.TheVariants as expiry
 use Rattle.jcl_plan.specs.declared.plan.JobPlan.{JobPlan}
 use Rattle.jcl_plan.specs.declared.plan.StepPlan.{StepPlan}
 use Rattle.operand_core.specs.Faults.{told}
@@ -47,13 +46,13 @@ all_with Card Kind Plan holds (dd ∷ dds) (kind ∷ kinds) cards all =
 
 -- no units are told before all is planned
 abbrev pub HasNoUnits : DdKind → Type 0
-HasNoUnits (Set p) = (p.units ≡ None) × (p.expiry ≡ expiry.NotCoded)
+HasNoUnits (Set p) = p.units ≡ None
 HasNoUnits Dummy = Unit {0}
 HasNoUnits (Sysout class) = Unit {0}
 HasNoUnits (Cards cards) = Unit {0}
 
 no_units_by : (at : Spot) (dd : DdCard) (own : Own) (n : Naming) → HasNoUnits (kind_with at dd own n)
-no_units_by at dd OwnSet (Names key) = (refl, refl)
+no_units_by at dd OwnSet (Names key) = refl
 no_units_by at dd OwnSet MakesDummy = tt
 no_units_by at dd OwnSet (NamesNothing fault) = tt
 no_units_by at dd OwnDummy n = tt
@@ -81,13 +80,13 @@ bare_made left k planned s plan sound made =
     (All-nil HasNoUnits) (nothing_asked s.dds) made.are_kinds))
 
 none_known : (count : ℕ) (kind : DdKind) → HasNoUnits kind → HasKnownUnits count kind
-none_known count (Set p) h = (subst (λ (u : Option ℕ). IsUnits count u) (sym h.0) tt, h.1)
+none_known count (Set p) h = subst (λ (u : Option ℕ). IsUnits count u) (sym h) tt
 none_known count Dummy h = tt
 none_known count (Sysout class) h = tt
 none_known count (Cards cards) h = tt
 
 some_known : (count n : ℕ) (kind : DdKind) → (1 ≤ n) × (n ≤ count) → HasNoUnits kind → HasKnownUnits count (with_units n kind)
-some_known count n (Set p) known h = (known, h.1)
+some_known count n (Set p) known h = known
 some_known count n Dummy known h = tt
 some_known count n (Sysout class) known h = tt
 some_known count n (Cards cards) known h = tt

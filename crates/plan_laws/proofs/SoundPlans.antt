@@ -14,6 +14,7 @@ use Rattle.jcl_plan.specs.declared.plan.DdKind.{DdKind}
 use Rattle.jcl_plan.specs.declared.plan.DdKind.TheVariants.{Cards, Dummy, Set, Sysout}
 use Rattle.jcl_plan.specs.declared.plan.DdPlan.{DdPlan}
 use Rattle.jcl_plan.specs.declared.plan.JobPlan.{JobPlan}
+use Rattle.jcl_plan.specs.declared.plan.Expiry.{Expiry}
 use Rattle.jcl_plan.specs.declared.plan.Space.{Space}
 use Rattle.jcl_plan.specs.declared.plan.StepPlan.{StepPlan}
 use Rattle.jcl_plan.specs.declared.plan.Test.{Test}
@@ -23,7 +24,7 @@ use Rattle.list_values.specs.declared.condition.CodedTest.{CodedTest}
 use Rattle.value_core.specs.declared.reference.StepReference.{StepReference}
 use Rattle.value_core.specs.declared.set.VolumeName.{VolumeName}
 use Rattle.value_core.specs.declared.set.VolumeName.TheVariants as coded_volume
-use Rattle.cb_meaning.specs.Writable.{AreDds, AreSteps, BeginsNamed, IsCard, IsJobTest, IsKeyAt, IsKindAt, IsName, IsSpace, IsVolumeAt, IsWritable}
+use Rattle.cb_meaning.specs.Writable.{AreDds, AreSteps, BeginsNamed, IsCard, IsExpiry, IsJobTest, IsKeyAt, IsKindAt, IsName, IsSpace, IsVolumeAt, IsWritable}
 use Rattle.jcl_cards.specs.declared.coded.Coded.{Coded}
 use Rattle.jcl_cards.specs.declared.coded.Coded.TheVariants.{NotGiven, Nullified, Value}
 use Rattle.jcl_cards.specs.declared.job.JobCard.{JobCard}
@@ -32,10 +33,10 @@ use Rattle.jcl_dds.specs.declared.dd.Word as positional
 use Rattle.jcl_dds.specs.declared.dd.Word.TheVariants as positional_word
 use Rattle.jcl_procs.specs.declared.step.FlatStep.{FlatStep}
 use Rattle.jcl_refs.specs.LaterDds.{Found, as_dummy, defined_by, found_in, left_by, next_by, next_of, wanted_by}
-use Rattle.jcl_refs.specs.Plans.{Led, MakesDummy, Names, NamesNothing, Naming, Nowhere, Own, OwnCards, OwnDummy, OwnSet, OwnSysout, Spot, ToDummy, ToSet, all_of, by_class, dds_with, job_test, job_with, kind_of, kind_with, kinds_in, led, most_dds, most_steps, naming, own_kind, plan_of, space_of, step_of, steps_from, test_of, test_with, unit_of, units_of_dds, units_of_steps, volume_by, volume_plan, with_dds_left, with_units}
+use Rattle.jcl_refs.specs.Plans.{Led, MakesDummy, Names, NamesNothing, Naming, Nowhere, Own, OwnCards, OwnDummy, OwnSet, OwnSysout, Spot, expiry_of, ToDummy, ToSet, all_of, by_class, dds_with, job_test, job_with, kind_of, kind_with, kinds_in, led, most_dds, most_steps, naming, own_kind, plan_of, space_of, step_of, steps_from, test_of, test_with, unit_of, units_of_dds, units_of_steps, volume_by, volume_plan, with_dds_left, with_units}
 use Rattle.jcl_refs.specs.Targets.{earlier_step}
 use Rattle.plan_laws.specs.Each.{EachDd, EachStep}
-use Rattle.statement_laws.specs.Ranges.{CodesName, IsSoundClass, IsSoundDd, IsSoundJob, IsSoundKey, IsSoundSpace, IsSoundVolume, IsSoundWord}
+use Rattle.statement_laws.specs.Ranges.{CodesName, IsSoundClass, IsSoundDd, IsSoundJob, IsSoundKey, IsSoundLabel, IsSoundSpace, IsSoundVolume, IsSoundWord}
 use Rattle.deck_laws.specs.Sound.{BeginsWithName, IsNamed, IsSoundStep}
 use Rattle.plan_laws.specs.PlanLaws.{HasKnownUnits, VolumeLooksBack}
 use Rattle.plan_laws.proofs.DdFacts.{all_kinds, all_with, units_are_known}
@@ -49,10 +50,10 @@ use Rattle.plan_laws.proofs.Units.{Put, Same, With, all_put, put}
 
 -- the DDs that are left are sound, and the first has a name
 dummy_sound : (dd : DdCard) → IsSoundDd dd → IsSoundDd (as_dummy dd)
-dummy_sound dd h = record { name = h.name; word = tt; set_name = h.set_name; volume = h.volume; space = h.space; class = h.class }
+dummy_sound dd h = record { name = h.name; word = tt; set_name = h.set_name; volume = h.volume; space = h.space; label = h.label; class = h.class }
 
 defined_sound : (dd later : DdCard) → IsSoundDd dd → IsSoundDd later → IsSoundDd (defined_by dd later)
-defined_sound dd later h l = record { name = h.name; word = l.word; set_name = l.set_name; volume = l.volume; space = l.space; class = l.class }
+defined_sound dd later h l = record { name = h.name; word = l.word; set_name = l.set_name; volume = l.volume; space = l.space; label = l.label; class = l.class }
 
 begins_found : (n : ℕ) (dd : DdCard) (dds : List DdCard) (found : Option Found) →
     ((first : DdCard) (others : List DdCard) → IsNamed first.name → BeginsWithName (left_by n (first ∷ others))) → IsNamed dd.name →
@@ -94,7 +95,7 @@ VolumeText (volume.OfName text) = IsDsNameWithin 44 text
 VolumeText (volume.OfDd step dd) = Unit {0}
 
 abbrev KindText : DdKind → Type 0
-KindText (Set p) = VolumeText p.volume × IsSpace p.space
+KindText (Set p) = VolumeText p.volume × IsSpace p.space × IsExpiry p.expiry
 KindText Dummy = Unit {0}
 KindText (Sysout class) = is_letter_or_digit class ≡ true
 KindText (Cards cards) = All IsCard cards
@@ -138,18 +139,24 @@ space_text NotGiven h = tt
 space_text Nullified h = tt
 space_text (Value s) h = h
 
+label_text : (e : Coded Expiry) → IsSoundLabel e → IsExpiry (expiry_of e)
+label_text NotGiven h = tt
+label_text Nullified h = tt
+label_text (Value e) h = h
+
 kind_text : (at : Spot) (dd : DdCard) (own : Own) (n : Naming) → OwnText own → VolumeText (volume_plan at dd.volume) → IsSpace (space_of dd.space) →
-    KindText (kind_with at dd own n)
-kind_text at dd OwnSet (Names key) h v s = (v, s)
-kind_text at dd OwnSet MakesDummy h v s = tt
-kind_text at dd OwnSet (NamesNothing fault) h v s = tt
-kind_text at dd OwnDummy n h v s = tt
-kind_text at dd (OwnSysout class) n h v s = h
-kind_text at dd (OwnCards cards) n h v s = h
+    IsExpiry (expiry_of dd.label) → KindText (kind_with at dd own n)
+kind_text at dd OwnSet (Names key) h v s e = (v, s, e)
+kind_text at dd OwnSet MakesDummy h v s e = tt
+kind_text at dd OwnSet (NamesNothing fault) h v s e = tt
+kind_text at dd OwnDummy n h v s e = tt
+kind_text at dd (OwnSysout class) n h v s e = h
+kind_text at dd (OwnCards cards) n h v s e = h
 
 card_text : (at : Spot) (dd : DdCard) → IsSoundDd dd → KindText (kind_of at dd).value
 card_text at dd h =
     kind_text at dd (own_kind dd) (naming at dd.set_name) (own_text dd dd.word h.class h.word) (volume_text at dd.volume h.volume) (space_text dd.space h.space)
+    (label_text dd.label h.label)
 
 -- a step of a sound card, without its references
 abbrev DdText : DdPlan → Type 0
@@ -292,8 +299,8 @@ kind_at count all k d (Set p) text back known =
       key = key_at all k d p.key back.0;
       volume = volume_at all k d p.volume text.0 back.1;
       space = text.1;
-      unit = known.0;
-      no_day = known.1;
+      unit = known;
+      expiry_fits = text.2;
     }
 kind_at count all k d Dummy text back known = tt
 kind_at count all k d (Sysout class) text back known = text

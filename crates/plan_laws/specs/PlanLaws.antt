@@ -4,7 +4,6 @@ use Rattle.jname_core.specs.declared.key.Key.{Key}
 use Rattle.jname_core.specs.declared.key.Key.TheVariants.{Named, Relative, Temporary, Unnamed}
 use Rattle.jcl_plan.specs.declared.plan.DdKind.{DdKind}
 use Rattle.jcl_plan.specs.declared.plan.DdKind.TheVariants.{Cards, Dummy, Set, Sysout}
-use Rattle.jcl_plan.specs.declared.plan.Expiry.TheVariants as expiry
 use Rattle.jcl_plan.specs.declared.plan.JobPlan.{JobPlan}
 use Rattle.jcl_plan.specs.declared.plan.StepPlan.{StepPlan}
 use Rattle.jcl_plan.specs.declared.plan.VolumePlan.{VolumePlan}
@@ -59,9 +58,9 @@ abbrev pub ReferencesLookBack : Type 0
 ReferencesLookBack = (units : List (List ℕ)) (job : JobCard) (steps : List FlatStep) (plan : JobPlan) → All WritesNames steps →
     plan_of units job steps ≡ Ok plan → EachStep (λ k step. EachDd (λ d dd. KindLooksBack plan.steps k d dd.kind) 1 step.dds) 1 plan.steps
 
--- the units of a set are configured, and its day is not coded
+-- the units of a set are configured
 abbrev pub HasKnownUnits : ℕ → DdKind → Type 0
-HasKnownUnits units (Set p) = IsUnits units p.units × (p.expiry ≡ expiry.NotCoded)
+HasKnownUnits units (Set p) = IsUnits units p.units
 HasKnownUnits units Dummy = Unit {0}
 HasKnownUnits units (Sysout class) = Unit {0}
 HasKnownUnits units (Cards cards) = Unit {0}

@@ -20,7 +20,7 @@ pub fn references_look_back()
     ensures { ReferencesLookBack }
 {}
 
-/// A set's units are configured, and its day is not coded.
+/// A set's units are configured.
 pub fn units_are_known()
     ensures { UnitsAreKnown }
 {}

@@ -1,6 +1,6 @@
 //! One job is carried over.
 ghost use Rattle.std.specs.Prelude.{◌≡◌, ◌≢◌, ◌≤◌, ℕ, List, IfOk};
-ghost use Rattle.cb_chain.specs.Written.{HoldsJobs, Written};
+ghost use Rattle.cb_chain.specs.Written.{HoldsJobs, HoldsSteps, Written};
 ghost use Rattle.cb_meaning.specs.Writable.{IsWritable};
 ghost use Rattle.cb_meaning.specs.declared.layout.TheConstants.{LAYOUT_1, LAYOUT_2};
 ghost use Rattle.machine_meaning.specs.declared.machine.TheConstants.{MOST_JOBS};
@@ -25,6 +25,7 @@ fn write_anew<S: RecordStore>(new: &mut S, job: u16, plan: &JobPlan) -> Result<u
     requires owner { job ≢ 0 }
     requires holds { HoldsJobs (S.queue new.old).layout }
     requires writable { (units : ℕ) × IsWritable (S.queue new.old).layout.most_steps units plan.now }
+    requires days { HoldsSteps (S.queue new.old).layout plan.now.steps }
     ensures { IfOk result (Written job plan.now (S.queue new.old) (S.queue new.new)) }
 {
     let Some(count) = records_of(plan, new.free_count()) else {

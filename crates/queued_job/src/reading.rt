@@ -1,7 +1,7 @@
 //! A job that was read enters the queue.
 ghost use Rattle.std.specs.Prelude.{◌≡◌, ◌≢◌, ◌+◌, ◌<◌, ◌≤◌, All, IfOk, OnErr, OnOk, length, ℕ};
 ghost use Rattle.cb_chain.specs.Taking.{IsReady, IsTaken};
-ghost use Rattle.cb_chain.specs.Written.{HoldsJobs};
+ghost use Rattle.cb_chain.specs.Written.{HoldsJobs, HoldsSteps};
 ghost use Rattle.cb_meaning.specs.Writable.{IsWritable};
 ghost use Rattle.queued_job.specs.Entering.{IsEntered, WaitsFirst, queued_of, with_queued};
 
@@ -78,6 +78,7 @@ pub fn enter_job<Q: RecordStore>(queue: &mut Q, job: u16, plan: &JobPlan) -> Res
     requires later { All (λ x. x.job < job) (Q.queue queue.old).waiting }
     requires holds { HoldsJobs (Q.queue queue.old).layout }
     requires writable { (units : ℕ) × IsWritable (Q.queue queue.old).layout.most_steps units plan.now }
+    requires days { HoldsSteps (Q.queue queue.old).layout plan.now.steps }
     ensures { IsEntered job plan.now (Q.queue queue.old) (Q.queue queue.new) result }
 {
     let Some(count) = records_of(plan, queue.free_count()) else {

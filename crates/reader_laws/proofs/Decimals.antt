@@ -15,7 +15,7 @@ pub record Spells (n : ℕ) (digits : List ℕ) : Type 0 where
   pub something : (length digits == 0) ≡ false
   pub value : decimal_value digits ≡ n
 
-digit_is : (n : ℕ) → n < 10 → is_digit (48 + n) ≡ true
+pub digit_is : (n : ℕ) → n < 10 → is_digit (48 + n) ≡ true
 digit_is n h = grind (arith)
 
 one_digit : (n : ℕ) → n < 10 → Spells n ((48 + n) ∷ [])
@@ -63,7 +63,7 @@ read_is low high n digits s =
 pub number_is : (zeros low high n : ℕ) → n < 2 ^ 64 → number_within low high (number_with_zeros zeros n) ≡ if_within low high n
 number_is zeros low high n h = read_is low high n (number_with_zeros zeros n) (more_zeros zeros n (decimal n) (spelled n h))
 
-lies_within : (low high n : ℕ) → low ≤ n → n ≤ high → (nat_le low n && nat_le n high) ≡ true
+pub lies_within : (low high n : ℕ) → low ≤ n → n ≤ high → (nat_le low n && nat_le n high) ≡ true
 lies_within low high n h k = grind (arith)
 
 lies_outside : (low high n : ℕ) → (n < low) ⊎ (high < n) → (nat_le low n && nat_le n high) ≡ false

@@ -18,6 +18,7 @@ mod Operands
 mod Places
 mod Quotes
 mod Said
+mod Dates
 mod SessionExamples
 mod Sessions
 mod SetStatements

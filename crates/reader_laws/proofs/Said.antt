@@ -75,7 +75,7 @@ pub line_says : (form : Form) (word : List ℕ) (operands : List (List ℕ)) →
 line_says form word operands h = ap (says_in true) (spaced_are form (codes "./") (word ∷ operands) refl (all_fields (word ∷ operands) h))
 
 -- numbers
-digit_good : (c : ℕ) → is_digit c ≡ true → is_good c ≡ true
+pub digit_good : (c : ℕ) → is_digit c ≡ true → is_good c ≡ true
 digit_good c h = grind (arith)
 
 digit_no_star : (c : ℕ) → is_digit c ≡ true → not (c == 42) ≡ true

@@ -1,5 +1,5 @@
 -- A session as it is spelled, and that what is asked of its statements is met.
-use Rattle.std.proofs.Common.{◌≡◌, ◌++◌, ℕ, true, false, List, [], ◌∷◌, All, replicate, arith, refl}
+use Rattle.std.proofs.Common.{◌≡◌, ◌++◌, ℕ, Some, true, false, List, [], ◌∷◌, All, replicate, arith, refl}
 use Rattle.std.specs.Prelude.{codes}
 use Rattle.std.specs.Fmt.{digits}
 use Rattle.std.proofs.lemmas.List.Elements.{All-cons, All-nil}
@@ -9,6 +9,7 @@ use Rattle.hex.specs.Hex.{encode_with}
 use Rattle.session_input.specs.declared.event.Event.TheVariants as event
 use Rattle.session_text.specs.declared.statement.Says.{Says}
 use Rattle.session_text.specs.declared.statement.Says.TheVariants as says
+use Rattle.reader_laws.specs.SpelledDates.{date_from}
 use Rattle.reader_laws.specs.SpelledSessions.{IsSaid, Spelled, text_of}
 
 abbrev in_form : Says → Spelled
@@ -84,7 +85,7 @@ text = codes "ONE" ++ replicate 77 32
 
 abbrev set : Spelled
 set =
-    in_form (says.Config (config.Set (record { name = codes "PAY.TAX"; serial = codes "VOL001"; tracks = 1; catalogued = true; records = text ∷ [] })) true)
+    in_form (says.Config (config.Set (record { name = codes "PAY.TAX"; serial = codes "VOL001"; tracks = 1; catalogued = true; expires = Some 27492; records = text ∷ [] })) true)
 
 abbrev program : Spelled
 program = in_form (says.Config (config.Program (codes "COPY") (Get (codes "IN") ∷ Put (codes "OUT") text ∷ End 4 ∷ [])) true)
@@ -104,11 +105,14 @@ zap_last = wide (says.Events (event.Zap 65536 175 (171 ∷ [])) 1)
 abbrev display : Spelled
 display = in_form (says.Events event.Display 1)
 
+abbrev date : Spelled
+date = in_form (says.Events (event.Date 93501) 1)
+
 abbrev stores : List Spelled
-stores = used ∷ group ∷ set ∷ program ∷ device_end ∷ cancel ∷ zap ∷ zap_last ∷ display ∷ []
+stores = used ∷ group ∷ set ∷ program ∷ device_end ∷ cancel ∷ zap ∷ zap_last ∷ display ∷ date ∷ []
 
 abbrev set_block : List ℕ → List ℕ
-set_block more = line (codes "./ SET PAY.TAX VOL001 1 CAT") (line text (line (codes "./ END") more))
+set_block more = line (codes "./ SET PAY.TAX VOL001 1 CAT EXPDT 1975/100") (line text (line (codes "./ END") more))
 
 abbrev program_block : List ℕ → List ℕ
 program_block more =
@@ -117,8 +121,8 @@ program_block more =
 stores_spelled : text_of stores ≡
     line (codes "./ VOLUME VOL002 20 USED 0,10-12") (line (codes "./  GROUP  PAY.MASTER  03  SCRATCH  " ++ (13 ∷ []))
     (set_block (program_block (line (codes "./ DEV VOL001") (line (codes "./ CANCEL 12") (line (codes "./ ZAP 4,8,0007")
-    (line (codes "./  ZAP  065536,0175,AB  " ++ (13 ∷ [])) (line (codes "./ DISPLAY") []))))))))
-unfolding digits encode_with
+    (line (codes "./  ZAP  065536,0175,AB  " ++ (13 ∷ [])) (line (codes "./ DISPLAY") (line (codes "./ DATE 2155/365") [])))))))))
+unfolding digits encode_with date_from
 stores_spelled = refl
 
 group_is_said : Sayable group
@@ -148,16 +152,17 @@ set_is_said = (
   omega arith,
   refl,
   refl,
+  omega arith,
 )
 
 they_are_said : All Sayable stores
 they_are_said =
-    All-cons Sayable used (group ∷ set ∷ program ∷ device_end ∷ cancel ∷ zap ∷ zap_last ∷ display ∷ []) (refl, omega arith, refl)
-    (All-cons Sayable group (set ∷ program ∷ device_end ∷ cancel ∷ zap ∷ zap_last ∷ display ∷ []) group_is_said
-    (All-cons Sayable set (program ∷ device_end ∷ cancel ∷ zap ∷ zap_last ∷ display ∷ []) set_is_said
-    (All-cons Sayable program (device_end ∷ cancel ∷ zap ∷ zap_last ∷ display ∷ []) (refl, refl, refl)
-    (All-cons Sayable device_end (cancel ∷ zap ∷ zap_last ∷ display ∷ []) (refl, refl)
-    (All-cons Sayable cancel (zap ∷ zap_last ∷ display ∷ []) (omega arith, omega arith, refl)
-    (All-cons Sayable zap (zap_last ∷ display ∷ []) (omega arith, omega arith, omega arith, omega arith, refl, refl, refl)
-    (All-cons Sayable zap_last (display ∷ []) (omega arith, omega arith, omega arith, omega arith, refl, refl, refl)
-    (All-cons Sayable display [] refl (All-nil Sayable)))))))))
+    All-cons Sayable used (group ∷ set ∷ program ∷ device_end ∷ cancel ∷ zap ∷ zap_last ∷ display ∷ date ∷ []) (refl, omega arith, refl)
+    (All-cons Sayable group (set ∷ program ∷ device_end ∷ cancel ∷ zap ∷ zap_last ∷ display ∷ date ∷ []) group_is_said
+    (All-cons Sayable set (program ∷ device_end ∷ cancel ∷ zap ∷ zap_last ∷ display ∷ date ∷ []) set_is_said
+    (All-cons Sayable program (device_end ∷ cancel ∷ zap ∷ zap_last ∷ display ∷ date ∷ []) (refl, refl, refl)
+    (All-cons Sayable device_end (cancel ∷ zap ∷ zap_last ∷ display ∷ date ∷ []) (refl, refl)
+    (All-cons Sayable cancel (zap ∷ zap_last ∷ display ∷ date ∷ []) (omega arith, omega arith, refl)
+    (All-cons Sayable zap (zap_last ∷ display ∷ date ∷ []) (omega arith, omega arith, omega arith, omega arith, refl, refl, refl)
+    (All-cons Sayable zap_last (display ∷ date ∷ []) (omega arith, omega arith, omega arith, omega arith, refl, refl, refl)
+    (All-cons Sayable display (date ∷ []) refl (All-cons Sayable date [] (omega arith, refl) (All-nil Sayable))))))))))

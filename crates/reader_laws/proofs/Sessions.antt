@@ -24,7 +24,7 @@ use Rattle.session_text.specs.Blocks.{block_says, program_says}
 use Rattle.session_text.specs.Fields.{class_of, times_in}
 use Rattle.session_text.specs.Lines.{lines_of as rows_of}
 use Rattle.session_text.specs.Records.{filled}
-use Rattle.session_text.specs.Statements.{bad, behind_end, block_to, by_line, cancel_with, configures, device_end_with, group_with, initiator_with, is_end, is_end_by, program_with, says_of, set_with, statement_at, statements_from, statements_of, turns_with, unit_with, volume_with, writes_with}
+use Rattle.session_text.specs.Statements.{bad, behind_end, block_to, by_line, cancel_with, configures, date_with, device_end_with, group_with, initiator_with, is_end, is_end_by, program_with, says_of, set_with, statement_at, statements_from, statements_of, turns_with, unit_with, volume_with, writes_with}
 use Rattle.reader_laws.specs.Spelled.{component_characters, name_characters}
 use Rattle.reader_laws.specs.SpelledForms.{Form, is_card, is_of_line, line_with, number}
 use Rattle.reader_laws.specs.SpelledSessions.{IsConfigStatement, IsSaid, Spelled, block_of, config_block, config_fields, fields_of, lines_of, numbered, text_of, times, to_end, zap_parts}
@@ -32,6 +32,8 @@ use Rattle.reader_laws.specs.SpelledStores.{flag_field, request_line, used_field
 use Rattle.reader_laws.proofs.Fields.{is_false, position_is, spaced_are}
 use Rattle.reader_laws.proofs.Names.{name_is}
 use Rattle.reader_laws.proofs.Decimals.{within_is}
+use Rattle.reader_laws.specs.SpelledDates.{day_text}
+use Rattle.reader_laws.proofs.Dates.{day_good, day_read, end_good, end_read, set_end, word_read}
 use Rattle.reader_laws.proofs.Said.{class_good, class_is, class_no_star, is_good_field, line_of_line, line_says, listed_is, name_good, no_bad_serial, number_good, number_no_star, serials_good, times_are, times_good, unit_is, word_good}
 use Rattle.reader_laws.proofs.Stores.{filled_records, flag_good, flag_is, kept_records, lines_are_cards, name_read, requests_are, serial_read, set_name_good, set_name_read, used_good, used_is}
 use Rattle.reader_laws.proofs.TextLines.{lines_are}
@@ -65,7 +67,7 @@ config_good form (config.Group base limit scratch) h =
 config_good form (config.Set set) h =
     let k : set.tracks ≤ 65535 = h.2 in
     two_with_flag (is_good_field set.name) (is_good_field set.serial) (is_good_field (number form set.tracks)) _ (set_name_good 44 set.name h.0)
-    (word_good 6 component_characters set.serial refl h.1) (number_good form set.tracks (omega arith)) (flag_good (codes "CAT") set.catalogued refl)
+    (word_good 6 component_characters set.serial refl h.1) (number_good form set.tracks (omega arith)) (end_good set.catalogued set.expires)
 config_good form (config.Procedure name lines) h = two true (is_good_field name) refl (name_good name h.0)
 config_good form (config.Program name requests) h = two true (is_good_field name) refl (name_good name h.0)
 config_good form (config.Initiator n classes) h =
@@ -90,6 +92,7 @@ fields_good form (says.Events (event.Zap n offset bytes) m) h =
     let last : offset ≤ 175 = h.3 in
     two true (is_good_field (join_with_byte 44 (zap_parts form n offset bytes))) refl (zap_good form n offset bytes (omega arith) (omega arith))
 fields_good form (says.Events event.Display n) h = refl
+fields_good form (says.Events (event.Date day) n) h = two true (is_good_field (day_text day)) refl (day_good day)
 fields_good form (says.Refused fault) h = absurd h
 
 -- what a statement's line says by itself
@@ -111,6 +114,7 @@ line_of (says.Events (event.DeviceEnd serial) n) = LineSays.One (says.Events (ev
 line_of (says.Events (event.Cancel job) n) = LineSays.One (says.Events (event.Cancel job) n)
 line_of (says.Events (event.Zap n offset bytes) m) = LineSays.One (says.Events (event.Zap n offset bytes) m)
 line_of (says.Events event.Display n) = LineSays.One (says.Events event.Display n)
+line_of (says.Events (event.Date day) n) = LineSays.One (says.Events (event.Date day) n)
 line_of (says.Refused fault) = LineSays.One (says.Refused fault)
 
 config_said : (form : Form) (s : ConfigStatement) → IsConfigStatement s → says_of (line_with form (config_fields form s)) ≡ config_line s
@@ -133,10 +137,11 @@ config_said form (config.Group base limit scratch) h =
     (flag_is (codes "SCRATCH") scratch refl i))
 config_said form (config.Set set) h =
     let k : set.tracks ≤ 65535 = h.2 in
-    line_says form (codes "SET") (set.name ∷ set.serial ∷ number form set.tracks ∷ flag_field (codes "CAT") set.catalogued)
+    line_says form (codes "SET") (set.name ∷ set.serial ∷ number form set.tracks ∷ set_end set.catalogued set.expires)
     (config_good form (config.Set set) h)
     ∙ λ i. LineSays.Opens (set_with (set_name_read 44 set.name h.0 i) (serial_read set.serial h.1 i)
-    (within_is form.zeros 0 65535 set.tracks (omega arith) (omega arith) k i) (flag_is (codes "CAT") set.catalogued refl i))
+    (within_is form.zeros 0 65535 set.tracks (omega arith) (omega arith) k i) (word_read set.catalogued set.expires i)
+    (end_read set.catalogued set.expires h.5 i))
 config_said form (config.Procedure name lines) h =
     line_says form (codes "PROC") (name ∷ []) (config_good form (config.Procedure name lines) h)
     ∙ ap (λ (b : Bool). LineSays.Opens (cond b (Block.Procedure name) (Block.Faulty BadValue))) (ap is_none (name_is name h.0))
@@ -183,6 +188,10 @@ said form (says.Events (event.Zap n offset bytes) m) h =
     ∙ ap (λ (s : Says). LineSays.One s) (zap_read form n offset bytes h.0 h.1 h.2 h.3 h.4 h.5)
     ∙ λ i. LineSays.One (says.Events (event.Zap n offset bytes) (sym h.6 i))
 said form (says.Events event.Display n) h = line_says form (codes "DISPLAY") [] refl ∙ λ i. LineSays.One (says.Events event.Display (sym h i))
+said form (says.Events (event.Date day) n) h =
+    line_says form (codes "DATE") (day_text day ∷ []) (fields_good form (says.Events (event.Date day) n) h)
+    ∙ ap (λ (found : Option ℕ). LineSays.One (date_with found)) (day_read day h.0)
+    ∙ λ i. LineSays.One (says.Events (event.Date day) (sym h.1 i))
 said form (says.Refused fault) h = absurd h
 
 -- a block, to its END
@@ -298,6 +307,8 @@ statement_is n form (says.Events (event.Zap k offset bytes) m) rest h =
     let s : Says = says.Events (event.Zap k offset bytes) m in one_line n (line_with form (fields_of form s)) s rest (said form s h)
 statement_is n form (says.Events event.Display m) rest h =
     let s : Says = says.Events event.Display m in one_line n (line_with form (fields_of form s)) s rest (said form s h)
+statement_is n form (says.Events (event.Date day) m) rest h =
+    let s : Says = says.Events (event.Date day) m in one_line n (line_with form (fields_of form s)) s rest (said form s h)
 statement_is n form (says.Refused fault) rest h = absurd h
 
 -- lines of statements are lines
@@ -326,6 +337,7 @@ block_is form (says.Events (event.DeviceEnd serial) n) h = refl
 block_is form (says.Events (event.Cancel job) n) h = refl
 block_is form (says.Events (event.Zap n offset bytes) m) h = refl
 block_is form (says.Events event.Display n) h = refl
+block_is form (says.Events (event.Date day) n) h = refl
 block_is form (says.Refused fault) h = absurd h
 
 lines_good : (form : Form) (s : Says) → IsSaid s → list_all (list_all is_of_line) (lines_of form s) ≡ true

@@ -3,6 +3,7 @@ pub mod OperandLaws
 pub mod SessionLaws
 pub mod Spelled
 pub mod SpelledForms
+pub mod SpelledDates
 pub mod SpelledOperands
 pub mod SpelledSessions
 pub mod SpelledStatements

@@ -12,6 +12,7 @@ use Rattle.session_text.specs.declared.statement.Says.TheVariants as says
 use Rattle.session_text.specs.declared.statement.Statement.{Statement}
 use Rattle.session_text.specs.Statements.{stays_within}
 use Rattle.reader_laws.specs.Spelled.{is_among, is_name, name_characters}
+use Rattle.reader_laws.specs.SpelledDates.{IsDay, IsDayOrNone, day_text, expiry_fields}
 use Rattle.reader_laws.specs.SpelledForms.{Form, is_card, is_serial, is_word, line_with, number}
 use Rattle.reader_laws.specs.SpelledStores.{IsSetName, flag_field, is_ended, is_extent, is_record, is_request, request_line, used_fields}
 
@@ -32,7 +33,8 @@ abbrev pub config_fields : Form → ConfigStatement → List (List ℕ)
 config_fields form (config.Volume serial tracks used) = codes "VOLUME" ∷ serial ∷ number form tracks ∷ used_fields form used
 config_fields form (config.Unit name serials) = codes "UNIT" ∷ name ∷ join_with_byte 44 serials ∷ []
 config_fields form (config.Group base limit scratch) = codes "GROUP" ∷ base ∷ number form limit ∷ flag_field (codes "SCRATCH") scratch
-config_fields form (config.Set set) = codes "SET" ∷ set.name ∷ set.serial ∷ number form set.tracks ∷ flag_field (codes "CAT") set.catalogued
+config_fields form (config.Set set) = codes "SET" ∷ set.name ∷ set.serial ∷ number form set.tracks
+    ∷ (flag_field (codes "CAT") set.catalogued ++ expiry_fields set.expires)
 config_fields form (config.Procedure name lines) = codes "PROC" ∷ name ∷ []
 config_fields form (config.Program name requests) = codes "PROGRAM" ∷ name ∷ []
 config_fields form (config.Initiator n classes) = codes "INIT" ∷ number form n ∷ classes ∷ []
@@ -46,6 +48,7 @@ fields_of form (says.Events (event.DeviceEnd serial) n) = codes "DEV" ∷ serial
 fields_of form (says.Events (event.Cancel job) n) = codes "CANCEL" ∷ number form job ∷ []
 fields_of form (says.Events (event.Zap n offset bytes) m) = codes "ZAP" ∷ join_with_byte 44 (zap_parts form n offset bytes) ∷ []
 fields_of form (says.Events event.Display n) = codes "DISPLAY" ∷ []
+fields_of form (says.Events (event.Date day) n) = codes "DATE" ∷ day_text day ∷ []
 fields_of form (says.Refused fault) = []
 
 -- READ is followed by its cards and END, and so are PROC, SET and PROGRAM by their lines
@@ -70,6 +73,7 @@ block_of form (says.Events (event.DeviceEnd serial) n) = []
 block_of form (says.Events (event.Cancel job) n) = []
 block_of form (says.Events (event.Zap n offset bytes) m) = []
 block_of form (says.Events event.Display n) = []
+block_of form (says.Events (event.Date day) n) = []
 block_of form (says.Refused fault) = []
 
 abbrev pub lines_of : Form → Says → List (List ℕ)
@@ -111,7 +115,7 @@ IsConfigStatement (config.Unit name serials) = (is_unit name ≡ true) × (is_no
 IsConfigStatement (config.Group base limit scratch) = IsSetName 35 base × (limit ≤ 65535)
 IsConfigStatement (config.Set set) =
     IsSetName 44 set.name × (is_serial set.serial ≡ true) × (set.tracks ≤ 65535) × (list_all is_record set.records ≡ true)
-    × (list_all is_card set.records ≡ true)
+    × (list_all is_card set.records ≡ true) × IsDayOrNone set.expires
 IsConfigStatement (config.Procedure name lines) = (is_name name ≡ true) × (list_all is_card lines ≡ true)
 IsConfigStatement (config.Program name requests) = (is_name name ≡ true) × (list_all is_request requests ≡ true) × (is_ended requests ≡ true)
 IsConfigStatement (config.Initiator n classes) = (n ≤ 65535) × (is_word 8 (codes "ABCDEFGHIJKLMNO") classes ≡ true)
@@ -129,4 +133,5 @@ IsSaid (says.Events (event.Zap n offset bytes) m) =
     (1 ≤ n) × (n ≤ QUEUE_LAYOUT.most_records) × (FIRST_OPEN ≤ offset) × (offset ≤ RECORD_BYTES - 1) × (list_all is_byte bytes ≡ true)
     × (stays_within offset (length bytes) ≡ true) × (m ≡ 1)
 IsSaid (says.Events event.Display n) = n ≡ 1
+IsSaid (says.Events (event.Date day) n) = IsDay day × (n ≡ 1)
 IsSaid (says.Refused fault) = ⊥

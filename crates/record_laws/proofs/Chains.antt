@@ -18,7 +18,7 @@ use Rattle.cb_meaning.specs.Spelled.{Below, CardChain, card_record, sct, siot, D
 use Rattle.cb_meaning.specs.Writable.{AreDds, AreSteps, IsCard, IsKindAt, IsSetAt, IsWritable}
 use Rattle.record_laws.proofs.Blanks.{name_blank}
 use Rattle.record_laws.proofs.Sets.{same_filled, same_key, same_name, same_space, same_units, same_volume}
-use Rattle.record_laws.proofs.Words.{same_after, same_conditional, same_job_tests, same_normal, same_status, same_step_tests}
+use Rattle.record_laws.proofs.Words.{same_after, same_conditional, same_expiry, same_job_tests, same_normal, same_status, same_step_tests}
 
 -- lists of one length in front
 front_same : (x y a b : List ℕ) → length x ≡ length y → x ++ a ≡ y ++ b → (x ≡ y) × (a ≡ b)
@@ -96,7 +96,7 @@ module _ (l : Layout) (q : Records) (job : ℕ) where
             (sym x.serial ∙ y.serial) (sym x.reference ∙ y.reference) i;
         units = same_units units p.units w.units h.unit g.unit (sym a.units ∙ b.units) i;
         space = space i;
-        expiry = (h.no_day ∙ sym g.no_day) i;
+        expiry = same_expiry p.expiry w.expiry (sym x.expiry_kind ∙ y.expiry_kind) (sym x.expiry_days ∙ y.expiry_days) i;
       }
 
   other_kind : (m n : ℕ) → (m == n) ≡ false → m ≡ n → ⊥

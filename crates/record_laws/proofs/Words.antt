@@ -7,6 +7,8 @@ use Rattle.jcl_plan.specs.declared.plan.AfterAbend.{AfterAbend}
 use Rattle.jcl_plan.specs.declared.plan.AfterAbend.TheVariants as after
 use Rattle.jcl_plan.specs.declared.plan.ConditionalWord.{ConditionalWord}
 use Rattle.jcl_plan.specs.declared.plan.ConditionalWord.TheVariants as conditional
+use Rattle.jcl_plan.specs.declared.plan.Expiry.{Expiry}
+use Rattle.jcl_plan.specs.declared.plan.Expiry.TheVariants as expiry
 use Rattle.jcl_plan.specs.declared.plan.Operator.{Operator}
 use Rattle.jcl_plan.specs.declared.plan.Operator.TheVariants as operator
 use Rattle.jcl_plan.specs.declared.plan.Status.{Status}
@@ -14,7 +16,7 @@ use Rattle.jcl_plan.specs.declared.plan.Status.TheVariants as status
 use Rattle.jcl_plan.specs.declared.plan.Test.{Test}
 use Rattle.jcl_plan.specs.declared.plan.Word.{Word}
 use Rattle.jcl_plan.specs.declared.plan.Word.TheVariants as word
-use Rattle.cb_meaning.specs.Codes.{after_abend_code, conditional_code, job_test_bytes, normal_code, operator_code, or_zero, status_code, step_test_bytes}
+use Rattle.cb_meaning.specs.Codes.{after_abend_code, conditional_code, expiry_code, expiry_number, job_test_bytes, normal_code, operator_code, or_zero, status_code, step_test_bytes}
 use Rattle.cb_meaning.specs.Writable.{IsJobTest, IsStepTest, NamesEarlier}
 
 -- each number tells one word
@@ -61,6 +63,19 @@ status_back status.New = refl
 status_back status.Old = refl
 status_back status.Shr = refl
 status_back status.Mod = refl
+
+abbrev expiry_by : ℕ → ℕ → Expiry
+expiry_by (suc zero) n = expiry.Day n
+expiry_by (suc (suc m)) n = expiry.DaysFromToday n
+expiry_by zero n = expiry.NotCoded
+
+expiry_back : (e : Expiry) → expiry_by (expiry_code e) (expiry_number e) ≡ e
+expiry_back expiry.NotCoded = refl
+expiry_back (expiry.Day day) = refl
+expiry_back (expiry.DaysFromToday days) = refl
+
+pub same_expiry : (a b : Expiry) → expiry_code a ≡ expiry_code b → expiry_number a ≡ expiry_number b → a ≡ b
+same_expiry a b e f = sym (expiry_back a) ∙ ((λ i. expiry_by (e i) (f i)) ∙ expiry_back b)
 
 pub same_status : (a b : Status) → status_code a ≡ status_code b → a ≡ b
 same_status a b e = sym (status_back a) ∙ (ap status_by e ∙ status_back b)

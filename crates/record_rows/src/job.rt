@@ -3,7 +3,7 @@ ghost use Rattle.std.specs.Prelude.{◌≡◌, ◌≢◌, ◌+◌, ◌≤◌, �
 ghost use Rattle.cb_meaning.specs.Spelled.{Denotes};
 ghost use Rattle.cb_queue.specs.RecordQueues.{shown};
 ghost use Rattle.cb_meaning.specs.Writable.{IsWritable};
-ghost use Rattle.cb_chain.specs.Written.{HoldsJobs};
+ghost use Rattle.cb_chain.specs.Written.{HoldsDds, HoldsExpiry, HoldsJobs, HoldsKind, HoldsSteps};
 ghost use Rattle.cb_meaning.specs.Layouts.{HasOwnFields};
 ghost use Rattle.cb_meaning.specs.declared.layout.TheConstants.{LAYOUT_1, LAYOUT_2};
 ghost use Rattle.jcl_plan.specs.declared.plan.TheConstants.{MOST_STEPS};
@@ -20,7 +20,7 @@ use cb_read::laws::the_layouts_have_own_fields;
 use cb_read::records::are_records;
 use cb_walk::first_fault::first_fault;
 use jcl_plan::fault::QueueFault;
-use jcl_plan::plan::JobPlan;
+use jcl_plan::plan::{DdKind, DdPlan, Expiry, JobPlan, StepPlan};
 use job_records::laws::denoted_is_recorded;
 use job_records::records::{JobRecords, none_at_hand};
 use queued_job::read::{Read, read_job};
@@ -83,11 +83,78 @@ fn are_few_steps<S: RecordStore>(store: &S, plan: &JobPlan) -> bool
     plan.steps.len() <= usize::from(store.layout().most_steps)
 }
 
+fn is_not_coded(expiry: Expiry) -> bool
+    ensures { result ≡ true → HoldsExpiry LAYOUT_1 expiry }
+{
+    match expiry {
+        Expiry::NotCoded => true,
+        Expiry::Day(_) => false,
+        Expiry::DaysFromToday(_) => false,
+    }
+}
+
+fn has_no_day(kind: &DdKind) -> bool
+    ensures { result ≡ true → HoldsKind LAYOUT_1 kind.now }
+{
+    match kind {
+        DdKind::Set(set) => is_not_coded(set.expiry),
+        DdKind::Sysout(_) => true,
+        DdKind::Dummy => true,
+        DdKind::Cards(_) => true,
+    }
+}
+
+fn dds_have_no_day(dds: &[DdPlan]) -> bool
+    ensures { result ≡ true → HoldsDds LAYOUT_1 dds.now }
+{
+    match dds.split_first() {
+        None => true,
+        Some((dd, behind)) => has_no_day(&dd.kind) && dds_have_no_day(behind),
+    }
+}
+
+fn steps_have_no_day(steps: &[StepPlan]) -> bool
+    ensures { result ≡ true → HoldsSteps LAYOUT_1 steps.now }
+{
+    match steps.split_first() {
+        None => true,
+        Some((step, behind)) => {
+            dds_have_no_day(step.dds.as_slice()) && steps_have_no_day(behind)
+        }
+    }
+}
+
+/// Whether a store's layout has a place for the days of a job's sets: the first has none.
+fn has_places<S: RecordStore>(store: &S, plan: &JobPlan) -> bool
+    requires { (units : ℕ) × IsWritable MOST_STEPS units plan.now }
+    ensures { result ≡ true → HoldsSteps (S.queue store.now).layout plan.now.steps }
+{
+    the_layouts_hold_jobs();
+    if is_second(store) {
+        return true;
+    }
+    is_first(store) && steps_have_no_day(plan.steps.as_slice())
+}
+
+/// Whether a job can be written into a store: its number is one, its layout is known, and has room for its steps and its days.
+fn can_be_written<S: RecordStore>(store: &S, job: u16, plan: &JobPlan) -> bool
+    requires { (units : ℕ) × IsWritable MOST_STEPS units plan.now }
+    ensures number { result ≡ true → job ≢ 0 }
+    ensures holds { result ≡ true → HoldsJobs (S.queue store.now).layout }
+    ensures few { result ≡ true → length plan.now.steps ≤ (S.queue store.now).layout.most_steps }
+    ensures days { result ≡ true → HoldsSteps (S.queue store.now).layout plan.now.steps }
+{
+    if job == 0 || !is_known(store) || !are_few_steps(store, plan) {
+        return false;
+    }
+    has_places(store, plan)
+}
+
 /// Writes a job's records, and tells the first.
 fn write<S: RecordStore>(store: &mut S, job: u16, plan: &JobPlan, told: &mut Told)
     requires { (units : ℕ) × IsWritable MOST_STEPS units plan.now }
 {
-    if job == 0 || !is_known(store) || !are_few_steps(store, plan) {
+    if !can_be_written(store, job, plan) {
         return told.not_allowed();
     }
     let Some(count) = records_of(plan, store.free_count()) else {
@@ -106,7 +173,7 @@ fn write<S: RecordStore>(store: &mut S, job: u16, plan: &JobPlan, told: &mut Tol
 fn enter<S: RecordStore>(store: &mut S, job: u16, plan: &JobPlan, told: &mut Told)
     requires { (units : ℕ) × IsWritable MOST_STEPS units plan.now }
 {
-    if job == 0 || store.waiting_count() != 0 || !is_known(store) || !are_few_steps(store, plan) {
+    if store.waiting_count() != 0 || !can_be_written(store, job, plan) {
         return told.not_allowed();
     }
     match enter_job(store, job, plan) {

@@ -5,7 +5,7 @@ use Rattle.std.proofs.lemmas.List.{length-map}
 use Rattle.std.proofs.lemmas.List.Elements.{All-nil}
 use Rattle.std.specs.List.{Contains}
 use Rattle.std.specs.FinMap as finite
-use Rattle.cb_chain.specs.Written.{HoldsJobs}
+use Rattle.cb_chain.specs.Written.{HasDays, HoldsJobs}
 use Rattle.cb_meaning.specs.Layouts.{HasOwnFields}
 use Rattle.cb_meaning.specs.declared.layout.Layout.{Layout}
 use Rattle.cb_queue.specs.RecordQueues as queue
@@ -161,6 +161,7 @@ module _ {Q : Type 0} (queue_of : Q → RecordQueue) (store : SharedStore) (q : 
           few = few_volumes;
         };
         holds = subst HoldsJobs (sym layout_at) for_machine.holds;
+        days = subst HasDays (sym layout_at) for_machine.days;
         listed = ap (λ (x : RecordQueue). map (λ y. y.job) x.waiting) queue_at
             ∙ sym (ap (map (λ (y : Listing). y.job)) backlog ∙ jobs_listed (queue_of q).waiting);
         ready = λ place r h. absurd (nobody_there fixed.initiators place r (record {

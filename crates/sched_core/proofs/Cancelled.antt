@@ -164,6 +164,7 @@ module _ {Q : Type 0} (queue_of : Q → RecordQueue) (c : Config) (s : State Q) 
       fit_waiting = record {
         good = good_again queue_of c job t.middle new.parts t.gives.back (good_with queue_of c s.parts t.middle t.rest middle_layout kept.fit.good);
         holds = kept.fit.holds;
+        days = kept.fit.days;
         listed = subst (λ (q : List Queued). AreListed q new.backlog) (sym queue_now)
             (subst (AreListed (but_job job (queue_of s.parts.queue).waiting)) (sym t.listings) left.0);
         ready = λ place r h. ready_still c s.parts.names new.parts.names r (still_none s.parts.names new.parts.names job r.job names_now)
@@ -263,6 +264,7 @@ module _ {Q : Type 0} (queue_of : Q → RecordQueue) (c : Config) (s : State Q) 
         fit_selected = record {
           good = good_again queue_of c job s.parts new.parts gives.back kept.fit.good;
           holds = kept.fit.holds;
+          days = kept.fit.days;
           listed = subst (λ (q : List Queued). AreListed q new.backlog) (sym gives.back.records.waiting)
               (subst (AreListed (queue_of s.parts.queue).waiting) (sym backlog) kept.fit.listed);
           ready = ready_left;
@@ -317,6 +319,7 @@ module _ {Q : Type 0} (queue_of : Q → RecordQueue) (c : Config) (s : State Q) 
         fit_admitted = record {
           good = good_noted;
           holds = kept.fit.holds;
+          days = kept.fit.days;
           listed = subst (λ (p : Parts Q). AreListed (queue_of p.queue).waiting new.backlog) (sym parts)
               (subst (AreListed (queue_of s.parts.queue).waiting) (sym backlog) kept.fit.listed);
           ready = ready_same c s.initiators.items new.initiators.items s.parts.names new.parts.names as_were same_holds kept.fit.ready;

@@ -47,6 +47,7 @@ module _ {Q : Type 0} (queue_of : Q → RecordQueue) (c : Config) (s : State Q) 
   fit_at n few f = record {
     good = f.good;
     holds = f.holds;
+    days = f.days;
     listed = f.listed;
     ready = f.ready;
     unnamed = f.unnamed;

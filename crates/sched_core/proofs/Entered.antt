@@ -97,6 +97,7 @@ module _ {Q : Type 0} (queue_of : Q → RecordQueue) (c : Config) (s : State Q) 
   fit_numbered = record {
     good = kept.fit.good;
     holds = kept.fit.holds;
+    days = kept.fit.days;
     listed = kept.fit.listed;
     ready = kept.fit.ready;
     unnamed = kept.fit.unnamed;
@@ -158,6 +159,7 @@ module _ {Q : Type 0} (queue_of : Q → RecordQueue) (c : Config) (s : State Q) 
       fit_entered = record {
         good = good_with queue_of c s.parts new.parts parts e.layout kept.fit.good;
         holds = kept.fit.holds;
+        days = kept.fit.days;
         listed = subst (λ (q : List Queued). AreListed q new.backlog) (sym e.waiting)
             (subst (AreListed ((queue_of s.parts.queue).waiting ++ queued_of job plan first ∷ [])) (sym backlog) with_last.0);
         ready = ready_same c s.initiators.items new.initiators.items s.parts.names new.parts.names after

@@ -19,7 +19,7 @@ use Rattle.world_meaning.specs.Readings.{Denoting}
 use Rattle.world_meaning.specs.Selections.{Selects}
 use Rattle.world_meaning.specs.Selections as selecting
 use Rattle.world_meaning.specs.Devices.{Writes, nothing_written, wrote}
-use Rattle.world_meaning.specs.Displays.{queue_line, volume_line}
+use Rattle.world_meaning.specs.Displays.{SetsDate, queue_line, set, volume_line}
 use Rattle.world_meaning.specs.Transitions.{Acts, Does, Shows, Transition, Turns, acts, past, shown, taken, unknown, told_with}
 use Rattle.world_meaning.specs.Worlds as world
 use Rattle.world_meaning.specs.Worlds.{Config, HasNoInitiator, IsAt, World, counted, of_job}
@@ -228,6 +228,9 @@ no_volume_line v (serial ∷ volumes) cause e = absurd cc
 
 pub shows_never : (v : World) (cause : Cause) (new : World) → Shows v (entry.Refused cause ∷ []) new → ⊥
 shows_never v cause new (shown l s) = no_volume_line v v.config.volumes cause l
+
+pub dates_never : (v : World) (day : ℕ) (cause : Cause) (new : World) → SetsDate v day (entry.Refused cause ∷ []) new → ⊥
+dates_never v day cause new (set years of_year is l s) = absurd cc
 
 pub never_so : (does : List Entry → World → Type 0) (result : Result (List Entry) ApplyFault) → ((cause : Cause) (new : World) → does (entry.Refused cause ∷ []) new → ⊥) →
     RefusesFirst result does

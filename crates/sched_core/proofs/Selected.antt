@@ -177,6 +177,7 @@ module _ {Q : Type 0} (queue_of : Q → RecordQueue) (c : Config) (s : State Q) 
       fit_seated = record {
         good = good_with queue_of c s.parts new.parts parts (ap (λ (y : RecordQueue). y.layout) queue_is) kept.fit.good;
         holds = kept.fit.holds;
+        days = kept.fit.days;
         listed = subst (λ (y : RecordQueue). AreListed y.waiting new.backlog) (sym queue_is)
             (subst (AreListed (but_job q.job (queue_of s.parts.queue).waiting)) (sym backlog) left.0);
         ready = ready;

@@ -1,5 +1,5 @@
 -- The events that change no job at an initiator are cases of the table, and leave the machine fit.
-use Rattle.std.proofs.Common.{◌≡◌, ◌≢◌, ◌+◌, ℕ, cond, is_some, arith, List, [], ◌∷◌, All, map, length, Option, Some, None, refl, sym, ap, ◌∙◌, subst}
+use Rattle.std.proofs.Common.{◌≡◌, ◌≢◌, ◌+◌, ◌-◌, ℕ, cond, is_some, arith, List, [], ◌∷◌, All, map, length, Option, Some, None, refl, sym, ap, ◌∙◌, subst}
 use Rattle.std.specs.Prelude.{Result, Err, filter, sum_by}
 use Rattle.std.specs.List.{Contains}
 use Rattle.std.proofs.lemmas.Bool.{both_ways}
@@ -8,6 +8,8 @@ use Rattle.std.proofs.lemmas.List.{length-map}
 use Rattle.std.proofs.lemmas.List.Sums.{sum_by-cons}
 use Rattle.std.specs.Option.{option_map}
 use Rattle.cb_queue.specs.RecordQueues.{RecordQueue}
+use Rattle.date_core.specs.Dates.{IsDated}
+use Rattle.date_core.specs.declared.calendar.OrdinalDate.{OrdinalDate}
 use Rattle.jcl_plan.specs.declared.entry.Entry.{Entry}
 use Rattle.jcl_plan.specs.declared.entry.Entry.TheVariants as entry
 use Rattle.jcl_plan.specs.declared.entry.Written.{Written}
@@ -18,7 +20,7 @@ use Rattle.prog_core.specs.Operations.{without_operation}
 use Rattle.machine_meaning.specs.declared.machine.SpoolSet.{SpoolSet}
 use Rattle.world_meaning.specs.Devices.{EndsDevice, Writes, ended, idle, no_volume}
 use Rattle.world_meaning.specs.Displays as display
-use Rattle.world_meaning.specs.Displays.{shown_lines}
+use Rattle.world_meaning.specs.Displays.{SetsDate, set, shown_lines}
 use Rattle.world_meaning.specs.Transitions.{Shows}
 use Rattle.world_meaning.specs.Transitions as table
 use Rattle.world_meaning.specs.Worlds as world
@@ -80,6 +82,7 @@ module _ {Q : Type 0} (queue_of : Q → RecordQueue) (c : Config) (s : State Q) 
   fit_units units on = record {
     good = record { volumes = kept.fit.good.volumes; layout = kept.fit.good.layout; fields = kept.fit.good.fields; operations = on; few = kept.fit.good.few };
     holds = kept.fit.holds;
+    days = kept.fit.days;
     listed = kept.fit.listed;
     ready = kept.fit.ready;
     unnamed = kept.fit.unnamed;
@@ -98,6 +101,26 @@ module _ {Q : Type 0} (queue_of : Q → RecordQueue) (c : Config) (s : State Q) 
       few = kept.fit.good.few;
     };
     holds = kept.fit.holds;
+    days = kept.fit.days;
+    listed = kept.fit.listed;
+    ready = kept.fit.ready;
+    unnamed = kept.fit.unnamed;
+    steps = kept.fit.steps;
+    few_jobs = kept.fit.few_jobs;
+    few_events = kept.fit.few_events;
+  }
+
+  fit_date : (day : ℕ) → IsFit queue_of c (with_parts (record s.parts { date = day }))
+  fit_date day = record {
+    good = record {
+      volumes = kept.fit.good.volumes;
+      layout = kept.fit.good.layout;
+      fields = kept.fit.good.fields;
+      operations = kept.fit.good.operations;
+      few = kept.fit.good.few;
+    };
+    holds = kept.fit.holds;
+    days = kept.fit.days;
     listed = kept.fit.listed;
     ready = kept.fit.ready;
     unnamed = kept.fit.unnamed;
@@ -146,6 +169,19 @@ module _ {Q : Type 0} (queue_of : Q → RecordQueue) (c : Config) (s : State Q) 
 
     pub fit_wrote : IsFit queue_of c (with_parts p)
     fit_wrote = subst (λ q. IsFit queue_of c (with_parts q)) (sym rest) (fit_spool p.spool)
+
+  module _ (day : ℕ) (d : OrdinalDate) (is : IsDated day d) where
+    year_is : 1900 + (d.year - 1900) ≡ d.year
+    year_is = let from = is.from_first in omega (arith, from)
+
+    pub dated_so : (lines : List Entry) → lines ≡ entry.Date d.year d.of_year ∷ [] →
+        LeadsTo (SetsDate w day lines) (world_in queue_of c (with_parts (record s.parts { date = day })))
+    dated_so lines told =
+        leads (SetsDate w day lines) (record s.parts { date = day }) refl
+        (set (d.year - 1900) d.of_year is.is (told ∙ ap (λ year. entry.Date year d.of_year ∷ []) (sym year_is)) refl)
+
+    pub fit_dated : IsFit queue_of c (with_parts (record s.parts { date = day }))
+    fit_dated = fit_date day
 
   -- an initiator more
   one_more : (x : Initiator) (rest : List Initiator) (o : Option Running) (n : ℕ) → n ≡ length rest →

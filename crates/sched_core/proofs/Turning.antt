@@ -158,6 +158,7 @@ module _ {Q : Type 0} (queue_of : Q → RecordQueue) (c : Config) (s : State Q) 
   fit = record {
     good = t.turns.went.good;
     holds = kept.fit.holds;
+    days = kept.fit.days;
     listed = subst (λ (q : List Queued). AreListed q new.backlog) (sym t.turns.went.rest.waiting) (subst (AreListed (queue_of s.parts.queue).waiting) (sym backlog) kept.fit.listed);
     ready = ready;
     unnamed = unnamed;

@@ -74,6 +74,7 @@ module _ {Q : Type 0} (queue_of : Q → RecordQueue) (c : Config) (s new : State
   same_fit f = record {
     good = good_with queue_of c s.parts new.parts parts (ap (λ (q : RecordQueue). q.layout) queue_is) f.good;
     holds = f.holds;
+    days = f.days;
     listed = subst (λ (q : RecordQueue). AreListed q.waiting new.backlog) (sym queue_is)
         (subst (AreListed (queue_of s.parts.queue).waiting) (sym backlog) f.listed);
     ready = ready_same c s.initiators.items new.initiators.items s.parts.names new.parts.names after (same_names queue_of c s.parts new.parts parts) f.ready;

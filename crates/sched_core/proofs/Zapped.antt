@@ -165,6 +165,7 @@ module _ {Q : Type 0} (queue_of : Q → RecordQueue) (c : Config) (s : State Q) 
     fit = record {
       good = good_with queue_of c s.parts after.parts refl o.layout kept.fit.good;
       holds = kept.fit.holds;
+      days = kept.fit.days;
       listed = subst (λ (waiting : List Queued). AreListed waiting s.backlog) (sym o.waiting) kept.fit.listed;
       ready = kept.fit.ready;
       unnamed = kept.fit.unnamed;

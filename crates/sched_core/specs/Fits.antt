@@ -1,6 +1,6 @@
 -- What holds of the machine's parts between two events, beside what holds of any world that events lead to.
 use Rattle.std.specs.Prelude.{◌≡◌, ◌≢◌, ℕ, ◌≤◌}
-use Rattle.cb_chain.specs.Written.{HoldsJobs}
+use Rattle.cb_chain.specs.Written.{HasDays, HoldsJobs}
 use Rattle.cb_queue.specs.RecordQueues.{RecordQueue}
 use Rattle.enq_core.specs.Holds.{HoldsNone}
 use Rattle.machine_meaning.specs.declared.machine.TheConstants.{MOST_EVENTS, MOST_JOBS}
@@ -22,6 +22,7 @@ IsAtNone s job = (place : ℕ) (r : Running) → RunsIn s.initiators.items place
 pub record IsFit {Q : Type 0} (queue_of : Q → RecordQueue) (c : Config) (s : State Q) : Type 0 where
   pub good : IsGood queue_of c s.parts
   pub holds : HoldsJobs c.layout
+  pub days : HasDays c.layout
   pub listed : AreListed (queue_of s.parts.queue).waiting s.backlog
   pub ready : (place : ℕ) (r : Running) → RunsIn s.initiators.items place r → IsReady c s.parts.names r
   pub unnamed : (job : ℕ) → IsAtNone s job → HoldsNone s.parts.names job

@@ -1,6 +1,6 @@
 -- The machine of a configuration, before its first event.
 use Rattle.std.specs.Prelude.{◌≡◌, ℕ, ◌<◌, Bool, List, [], ◌∷◌, All, map}
-use Rattle.cb_chain.specs.Written.{HoldsJobs}
+use Rattle.cb_chain.specs.Written.{HasDays, HoldsJobs}
 use Rattle.cb_meaning.specs.declared.layout.Layout.{Layout}
 use Rattle.config_core.specs.Configs.{Configuration, unit_names}
 use Rattle.cb_queue.specs.RecordQueues.{RecordQueue, shown}
@@ -20,6 +20,7 @@ use Rattle.sched_core.specs.declared.start.TheConstants.{FIRST_DAY}
 -- the jobs of decks can be written and read in records of this layout, and its links lie apart from all else
 pub record IsForMachine (l : Layout) : Type 0 where
   pub holds : HoldsJobs l
+  pub days : HasDays l
   pub link : IsQueueLayout l
   pub steps : l.most_steps ≡ most_steps
 

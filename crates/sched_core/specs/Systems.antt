@@ -95,6 +95,7 @@ meant_by (input.Write class) = event.Write class
 meant_by (input.Cancel job) = event.Cancel job
 meant_by (input.Zap n offset bytes) = event.Zap n offset bytes
 meant_by input.Display = event.Display
+meant_by (input.Date day) = event.Date day
 
 -- what was done is allowed; a refusal is shown as its line; where memory was wanting nothing changed
 abbrev pub Applies : Result (List Entry) ApplyFault → World → World → (List Entry → World → Type 0) → Type 0

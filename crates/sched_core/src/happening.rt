@@ -16,7 +16,7 @@ use crate::fault::ApplyFault;
 use crate::going::go_on_at;
 use crate::reading::read;
 use crate::selecting::select_at;
-use crate::showing::{display, end_device, write};
+use crate::showing::{display, end_device, set_date, write};
 use crate::state::{Initiator, State};
 use crate::zapping::zap;
 use case_laws::supplies_are_kept;
@@ -104,6 +104,7 @@ fn happen<Q: RecordStore>(
             bytes,
         } => zap(alloc, state, profile, *n, *offset, bytes.get().as_slice()),
         Event::Display => display(alloc, state, profile, room),
+        Event::Date(day) => set_date(alloc, state, profile, *day),
     }
 }
 

@@ -1,6 +1,6 @@
 //! A deck is read.
 ghost use Rattle.std.specs.Prelude.{◌≡◌, ◌≢◌, ◌<◌, ◌≤◌, ◌∷◌, ◌++◌, [], All, IfOk, OnErr, length, vec_capacity, vec_len, ℕ};
-ghost use Rattle.cb_chain.specs.Written.{HoldsJobs};
+ghost use Rattle.cb_chain.specs.Written.{HoldsJobs, HoldsSteps};
 ghost use Rattle.cb_meaning.specs.Writable.{IsWritable};
 ghost use Rattle.jcl_job.specs.Jobs.{job_of};
 ghost use Rattle.jcl_plan.specs.declared.entry.Entry.TheVariants as entry;
@@ -85,6 +85,7 @@ fn take_in<Q: RecordStore>(
     requires listed { All (λ x. x.job < job) backlog.old }
     requires holds { HoldsJobs (Q.queue queue.old).layout }
     requires writable { (units : ℕ) × IsWritable (Q.queue queue.old).layout.most_steps units plan.now }
+    requires days { HoldsSteps (Q.queue queue.old).layout plan.now.steps }
     ensures ok { IfOk result (TakesIn job plan.now (Q.queue queue.old) backlog.old (Q.queue queue.new) backlog.new) }
     ensures err { OnErr result ((Q.queue queue.new ≡ Q.queue queue.old) × (backlog.new ≡ backlog.old)) }
 {

@@ -1,7 +1,8 @@
-//! The events that change no job at an initiator: a device's end, a writer's line, and what is shown.
+//! The events that change no job at an initiator: a device's end, a writer's line, a date, and what is shown.
 ghost use Rattle.std.specs.Prelude.{◌≡◌, ◌≢◌, ◌≤◌, Err, filter, is_some, length};
 ghost use Rattle.jcl_plan.specs.declared.fault.Cause.{Cause};
 ghost use Rattle.world_meaning.specs.Devices.{EndsDevice, Writes};
+ghost use Rattle.world_meaning.specs.Displays.{SetsDate};
 ghost use Rattle.world_meaning.specs.Transitions.{Shows};
 ghost use Rattle.sched_core.specs.Done.{EventDone};
 ghost use Rattle.sched_core.specs.Events.{RefusesFirst};
@@ -12,7 +13,9 @@ ghost use Rattle.sched_core.specs.declared.fault.ApplyFault.TheVariants.{Refused
 use crate::fault::ApplyFault;
 use crate::state::{Initiator, State};
 use cb_queue::store::RecordStore;
+use date_core::calendar::date_of;
 use init_core::running::Profile;
+use jcl_plan::day::Day;
 use jcl_plan::entry::Entry;
 use jcl_plan::fault::Cause;
 use jname_core::serial::Serial;
@@ -61,6 +64,28 @@ pub(crate) fn write<Q: RecordStore>(
         job,
         written,
     });
+    Ok(Listed::new(lines))
+}
+
+/// There is a new date.
+pub(crate) fn set_date<Q: RecordStore>(
+    alloc: Global,
+    state: &mut State<Q>,
+    profile: &Profile<'_>,
+    day: Day,
+) -> Result<Listed<Entry>, ApplyFault>
+    requires { IsKept Q.queue (config_in Q.queue profile.now state.old) state.old }
+    ensures done { EventDone Q.queue profile.now state.old result state.new (λ w. SetsDate w day) }
+    ensures never_refused { (cause : Cause) → result ≢ Err (Refused cause) }
+    ensures store { state.new.parts.store ≡ state.old.parts.store }
+{
+    let mut lines = Vec::with_capacity(alloc, 1)?;
+    let date = date_of(day);
+    lines.push_reserved(Entry::Date {
+        year: date.year,
+        day: date.of_year,
+    });
+    state.parts.date = day;
     Ok(Listed::new(lines))
 }
 

@@ -24,14 +24,15 @@ use Rattle.session_text.specs.declared.statement.Says.TheVariants.{Config, Event
 use Rattle.session_text.specs.declared.statement.Statement.{Statement}
 use Rattle.jname_core.specs.Decimals.{number_within}
 use Rattle.session_text.specs.Blocks.{block_says, left_open, open_says, program_says, set_says}
+use Rattle.date_core.specs.Written.{written_day}
 use Rattle.session_text.specs.Fields.{base_in, before_star, class_of, fields_of, flag_of, is_marked, listed_in, name_in, serial_in, set_name_in, times_in}
 use Rattle.session_text.specs.Lines.{lines_of}
 use Rattle.session_text.specs.Programs.{requests_of}
 use Rattle.session_text.specs.Records.{filled, is_no_record}
-use Rattle.session_text.specs.Statements.{at_end, behind_end, block_to, by_line, cancel_of, cancel_with, configures, deck_of, device_end_of, device_end_with, display_of}
+use Rattle.session_text.specs.Statements.{at_end, behind_end, block_to, by_line, cancel_of, cancel_with, configures, date_of, date_with, deck_of, device_end_of, device_end_with, display_of}
 use Rattle.session_text.specs.Statements.{event_by, group_of, group_with, initiator_of, initiator_with, is_end, procedure_of, program_of, program_with, says_by, says_in}
 use Rattle.session_text.specs.Statements.{says_of, set_of, set_with, statements_from, statements_of, turns_of, turns_with, unit_of, volume_of, volume_with, writes_of}
-use Rattle.session_text.specs.Statements.{bytes_in, stays_within, writes_with, zap_by, zap_of, zap_with}
+use Rattle.session_text.specs.Statements.{behind_if, bytes_in, expires_of, has_word, stays_within, writes_with, zap_by, zap_of, zap_with}
 use Rattle.session_text.specs.Volumes.{used_of}
 use Rattle.session_core.specs.Sessions.{Session, configuration_of, fault_behind, has_begun, session_behind, session_by, session_of, unless_late}
 
@@ -170,6 +171,15 @@ module _ (kind : Fault → Bool) (bad : kind fault.BadValue ≡ false) (unknown 
   display_free [] = refl
   display_free (a ∷ rest) = bad
 
+  date_with_free : (day : Option ℕ) → says_kind kind (date_with day) ≡ false
+  date_with_free None = bad
+  date_with_free (Some day) = refl
+
+  date_free : (operands : List (List ℕ)) → says_kind kind (date_of operands) ≡ false
+  date_free [] = bad
+  date_free (a ∷ []) = date_with_free (written_day a)
+  date_free (a ∷ b ∷ rest) = bad
+
   deck_free : (operands : List (List ℕ)) → block_kind kind (deck_of operands) ≡ false
   deck_free [] = refl
   deck_free (a ∷ rest) = bad
@@ -179,19 +189,21 @@ module _ (kind : Fault → Bool) (bad : kind fault.BadValue ≡ false) (unknown 
   procedure_free (a ∷ []) = either (block_kind kind) (is_none (name8_fault a)) (Procedure a) (Faulty fault.BadValue) refl bad
   procedure_free (a ∷ b ∷ rest) = bad
 
-  set_with_free : (name serial : Option (List ℕ)) (tracks : Option ℕ) (catalogued : Option Bool)
-      → block_kind kind (set_with name serial tracks catalogued) ≡ false
-  set_with_free None serial tracks catalogued = bad
-  set_with_free (Some name) None tracks catalogued = bad
-  set_with_free (Some name) (Some serial) None catalogued = bad
-  set_with_free (Some name) (Some serial) (Some tracks) None = bad
-  set_with_free (Some name) (Some serial) (Some tracks) (Some catalogued) = refl
+  set_with_free : (name serial : Option (List ℕ)) (tracks : Option ℕ) (catalogued : Bool) (expires : Option (Option ℕ))
+      → block_kind kind (set_with name serial tracks catalogued expires) ≡ false
+  set_with_free None serial tracks catalogued expires = bad
+  set_with_free (Some name) None tracks catalogued expires = bad
+  set_with_free (Some name) (Some serial) None catalogued expires = bad
+  set_with_free (Some name) (Some serial) (Some tracks) catalogued None = bad
+  set_with_free (Some name) (Some serial) (Some tracks) catalogued (Some expires) = refl
 
   set_free : (operands : List (List ℕ)) → block_kind kind (set_of operands) ≡ false
   set_free [] = bad
   set_free (a ∷ []) = bad
   set_free (a ∷ b ∷ []) = bad
-  set_free (a ∷ b ∷ c ∷ behind) = set_with_free (set_name_in a) (serial_in b) (number_within 0 65535 c) (flag_of (codes "CAT") behind)
+  set_free (a ∷ b ∷ c ∷ behind) =
+      set_with_free (set_name_in a) (serial_in b) (number_within 0 65535 c) (has_word (codes "CAT") behind)
+      (expires_of (behind_if (has_word (codes "CAT") behind) behind))
 
   program_with_free : (name : Option (List ℕ)) → block_kind kind (program_with name) ≡ false
   program_with_free None = bad
@@ -206,7 +218,8 @@ module _ (kind : Fault → Bool) (bad : kind fault.BadValue ≡ false) (unknown 
   event_by_free word operands =
       let p = line_kind kind in
       let last = line.One (Refused fault.UnknownStatement) in
-      let display = cond (bytes_eq word (codes "DISPLAY")) (line.One (display_of operands)) last in
+      let date = cond (bytes_eq word (codes "DATE")) (line.One (date_of operands)) last in
+      let display = cond (bytes_eq word (codes "DISPLAY")) (line.One (display_of operands)) date in
       let zap = cond (bytes_eq word (codes "ZAP")) (line.One (zap_of operands)) display in
       let cancel = cond (bytes_eq word (codes "CANCEL")) (line.One (cancel_of operands)) zap in
       let write = cond (bytes_eq word (codes "WRITE")) (line.One (writes_of operands)) cancel in
@@ -218,8 +231,9 @@ module _ (kind : Fault → Bool) (bad : kind fault.BadValue ≡ false) (unknown 
       (either p (bytes_eq word (codes "WRITE")) (line.One (writes_of operands)) cancel (writes_free operands)
       (either p (bytes_eq word (codes "CANCEL")) (line.One (cancel_of operands)) zap (cancel_free operands)
       (either p (bytes_eq word (codes "ZAP")) (line.One (zap_of operands)) display (zap_free operands)
-      (either p (bytes_eq word (codes "DISPLAY")) (line.One (display_of operands)) last (display_free operands)
-      unknown))))))
+      (either p (bytes_eq word (codes "DISPLAY")) (line.One (display_of operands)) date (display_free operands)
+      (either p (bytes_eq word (codes "DATE")) (line.One (date_of operands)) last (date_free operands)
+      unknown)))))))
 
   says_by_free : (word : List ℕ) (operands : List (List ℕ)) → line_kind kind (says_by word operands) ≡ false
   says_by_free word operands =

@@ -1,5 +1,6 @@
 //! The inputs of the machine, as far as a session brings them.
 use boxed_core::Boxed;
+use jcl_plan::day::Day;
 use jname_core::serial::Serial;
 use plain::lent::Lent;
 use plain::listed::Listed;
@@ -32,4 +33,6 @@ pub enum Event<'a> {
     },
     /// The volumes and the queue are shown.
     Display,
+    /// There is a new date.
+    Date(Day),
 }

@@ -1,5 +1,6 @@
 //! The statements of the configuration.
 use extent_core::extent::Extent;
+use jcl_plan::day::Day;
 use jname_core::ds_name::DsName;
 use jname_core::name8::{Name8, UnitName};
 use jname_core::serial::Serial;
@@ -15,13 +16,14 @@ pub const MOST_GENERATIONS: u16 = 255;
 /// The most requests of a program, its end counted.
 pub const MOST_REQUESTS: usize = 4_096;
 
-/// A set that is there at the start, and whether it is catalogued.
+/// A set that is there at the start, whether it is catalogued, and the day before which it is not to be deleted, if it has one.
 #[derive(Drop)]
 pub struct SetStatement {
     pub name: DsName,
     pub serial: Serial,
     pub tracks: u16,
     pub catalogued: bool,
+    pub expires: Option<Day>,
     pub records: Records,
 }
 

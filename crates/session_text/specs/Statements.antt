@@ -1,5 +1,5 @@
 -- The statements of a session. (This profile)
-use Rattle.std.specs.Prelude.{◌≡◌, ℕ, ◌+◌, ◌-◌, ◌++◌, Bool, true, false, not, ◌&&◌, nat_le, List, [], ◌∷◌, length, take, codes, Option, Some, None, is_none, if◌then◌else◌}
+use Rattle.std.specs.Prelude.{◌≡◌, ℕ, ◌+◌, ◌-◌, ◌++◌, Bool, true, false, not, ◌&&◌, nat_le, List, [], ◌∷◌, length, take, drop, codes, Option, Some, None, is_none, if◌then◌else◌}
 use Rattle.std.specs.List.{list_any, position}
 use Rattle.std.specs.Result.{result_ok}
 use Rattle.std.specs.Str.{bytes_eq}
@@ -22,6 +22,7 @@ use Rattle.session_text.specs.declared.statement.Says.{Says}
 use Rattle.session_text.specs.declared.statement.Says.TheVariants as says
 use Rattle.session_text.specs.declared.statement.Statement.{Statement}
 use Rattle.jname_core.specs.Decimals.{number_within}
+use Rattle.date_core.specs.Written.{written_day}
 use Rattle.session_text.specs.Blocks.{block_says, open_says}
 use Rattle.session_text.specs.Fields.{base_in, before_star, class_of, fields_of, flag_of, is_marked, listed_in, name_in, serial_in, set_name_in, times_in}
 use Rattle.session_text.specs.Lines.{lines_of}
@@ -143,6 +144,15 @@ abbrev pub display_of : List (List ℕ) → Says
 display_of [] = says.Events event.Display 1
 display_of (operand ∷ operands) = bad
 
+-- `./ DATE yyyy/ddd`
+abbrev pub date_with : Option ℕ → Says
+date_with None = bad
+date_with (Some day) = says.Events (event.Date day) 1
+
+abbrev pub date_of : List (List ℕ) → Says
+date_of (text ∷ []) = date_with (written_day text)
+date_of _ = bad
+
 -- `./ READ`
 abbrev pub deck_of : List (List ℕ) → Block
 deck_of [] = Deck
@@ -156,21 +166,39 @@ abbrev pub procedure_of : List (List ℕ) → Block
 procedure_of (name ∷ []) = procedure_with name
 procedure_of _ = Faulty fault.BadValue
 
--- `./ SET name serial tracks [CAT]`
-abbrev pub set_with : Option (List ℕ) → Option (List ℕ) → Option ℕ → Option Bool → Block
-set_with None serial tracks catalogued = Faulty fault.BadValue
-set_with (Some name) None tracks catalogued = Faulty fault.BadValue
-set_with (Some name) (Some serial) None catalogued = Faulty fault.BadValue
-set_with (Some name) (Some serial) (Some tracks) None = Faulty fault.BadValue
-set_with (Some name) (Some serial) (Some tracks) (Some catalogued) =
-    Set (record { name = name; serial = serial; tracks = tracks; catalogued = catalogued; records = [] })
+-- `./ SET name serial tracks [CAT] [EXPDT yyyy/ddd]`: its end is empty, or the word and a day
+abbrev pub has_word : List ℕ → List (List ℕ) → Bool
+has_word word [] = false
+has_word word (field ∷ fields) = bytes_eq field word
+
+abbrev pub behind_if : Bool → List (List ℕ) → List (List ℕ)
+behind_if true fields = drop 1 fields
+behind_if false fields = fields
+
+abbrev pub or_bad : Option ℕ → Option (Option ℕ)
+or_bad None = None
+or_bad (Some day) = Some (Some day)
+
+abbrev pub expires_of : List (List ℕ) → Option (Option ℕ)
+expires_of [] = Some None
+expires_of (word ∷ day ∷ []) = if bytes_eq word (codes "EXPDT") then or_bad (written_day day) else None
+expires_of _ = None
+
+abbrev pub set_with : Option (List ℕ) → Option (List ℕ) → Option ℕ → Bool → Option (Option ℕ) → Block
+set_with None serial tracks catalogued expires = Faulty fault.BadValue
+set_with (Some name) None tracks catalogued expires = Faulty fault.BadValue
+set_with (Some name) (Some serial) None catalogued expires = Faulty fault.BadValue
+set_with (Some name) (Some serial) (Some tracks) catalogued None = Faulty fault.BadValue
+set_with (Some name) (Some serial) (Some tracks) catalogued (Some expires) =
+    Set (record { name = name; serial = serial; tracks = tracks; catalogued = catalogued; expires = expires; records = [] })
 
 abbrev pub set_of : List (List ℕ) → Block
 set_of [] = Faulty fault.BadValue
 set_of (name ∷ []) = Faulty fault.BadValue
 set_of (name ∷ serial ∷ []) = Faulty fault.BadValue
 set_of (name ∷ serial ∷ tracks ∷ behind) =
-    set_with (set_name_in name) (serial_in serial) (number_within 0 65535 tracks) (flag_of (codes "CAT") behind)
+    set_with (set_name_in name) (serial_in serial) (number_within 0 65535 tracks) (has_word (codes "CAT") behind)
+    (expires_of (behind_if (has_word (codes "CAT") behind) behind))
 
 -- `./ PROGRAM name`
 abbrev pub program_with : Option (List ℕ) → Block
@@ -191,7 +219,8 @@ event_by word operands =
     else (if bytes_eq word (codes "CANCEL") then line.One (cancel_of operands)
     else (if bytes_eq word (codes "ZAP") then line.One (zap_of operands)
     else (if bytes_eq word (codes "DISPLAY") then line.One (display_of operands)
-    else line.One (says.Refused fault.UnknownStatement)))))))
+    else (if bytes_eq word (codes "DATE") then line.One (date_of operands)
+    else line.One (says.Refused fault.UnknownStatement))))))))
 
 -- configuration, or an event
 abbrev pub says_by : List ℕ → List (List ℕ) → LineSays

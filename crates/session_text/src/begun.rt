@@ -62,6 +62,7 @@ fn lines_of_block<'a>(alloc: Global, block: &Block) -> BlockLines<'a>
                 serial: set.serial,
                 tracks: set.tracks,
                 catalogued: set.catalogued,
+                expires: set.expires,
                 records: Records::new(alloc),
             })
         }

@@ -1,13 +1,14 @@
 //! The lines that are events.
 ghost use Rattle.std.specs.Prelude.{◌≡◌, IfOk};
 ghost use Rattle.session_text.specs.Fields.{fields_of};
-ghost use Rattle.session_text.specs.Statements.{cancel_of, deck_of, device_end_of, display_of, event_by, turns_of, writes_of};
+ghost use Rattle.session_text.specs.Statements.{cancel_of, date_of, deck_of, device_end_of, display_of, event_by, turns_of, writes_of};
 
 use crate::fault::Fault;
 use crate::fields::{next_field, only_field};
 use crate::statement::{Block, LineSays, Says};
 use crate::values::{before_star, class_of, serial_in, times_in};
 use crate::zaps::zap;
+use date_core::written::written_day;
 use jname_core::decimal::number_within;
 use session_input::event::Event;
 use std::alloc::{AllocError, Global};
@@ -77,6 +78,18 @@ fn display<'a>(operands: &[u8]) -> Says<'a>
     }
 }
 
+fn date<'a>(operands: &[u8]) -> Says<'a>
+    ensures { result ≡ date_of (fields_of operands.now) }
+{
+    let Some(day) = only_field(operands) else {
+        return Says::Refused(Fault::BadValue);
+    };
+    match written_day(day.bytes) {
+        None => Says::Refused(Fault::BadValue),
+        Some(day) => Says::Events(Event::Date(day), 1),
+    }
+}
+
 fn deck(operands: &[u8]) -> Block
     ensures { result ≡ deck_of (fields_of operands.now) }
 {
@@ -108,6 +121,8 @@ pub(crate) fn event_by<'a>(
         Ok(LineSays::One(zap(alloc, operands)?))
     } else if word == b"DISPLAY".as_slice() {
         Ok(LineSays::One(display(operands)))
+    } else if word == b"DATE".as_slice() {
+        Ok(LineSays::One(date(operands)))
     } else {
         Ok(LineSays::One(Says::Refused(Fault::UnknownStatement)))
     }

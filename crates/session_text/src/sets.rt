@@ -4,13 +4,15 @@ ghost use Rattle.std.specs.List.{list_any};
 ghost use Rattle.jname_core.specs.Characters.{is_between};
 ghost use Rattle.session_text.specs.Fields.{fields_of};
 ghost use Rattle.session_text.specs.Records.{filled, is_no_record, record_in};
-ghost use Rattle.session_text.specs.Statements.{set_of, set_with};
+ghost use Rattle.session_text.specs.Statements.{behind_if, expires_of, has_word, set_of, set_with};
 
 use crate::fault::Fault;
-use crate::fields::{flag_in, next_field};
+use crate::fields::{next_field, two_fields};
 use crate::statement::Block;
 use crate::values::{serial_in, set_name_in};
 use boxed_core::Boxed;
+use date_core::written::written_day;
+use jcl_plan::day::Day;
 use jcl_plan::plan::Record;
 use jname_core::decimal::number_within;
 use jname_core::ds_name::DsName;
@@ -59,9 +61,10 @@ fn with_values(
     name: Option<DsName>,
     serial: Option<Serial>,
     tracks: Option<u16>,
-    catalogued: Option<bool>,
+    catalogued: bool,
+    expires: Option<Option<Day>>,
 ) -> Result<Block, AllocError>
-    ensures { IfOk result (λ b. b ≡ set_with name serial tracks catalogued) }
+    ensures { IfOk result (λ b. b ≡ set_with name serial tracks catalogued expires) }
 {
     let Some(name) = name else {
         return Ok(Block::Faulty(Fault::BadValue));
@@ -72,14 +75,15 @@ fn with_values(
     let Some(tracks) = tracks else {
         return Ok(Block::Faulty(Fault::BadValue));
     };
-    match catalogued {
+    match expires {
         None => Ok(Block::Faulty(Fault::BadValue)),
-        Some(catalogued) => {
+        Some(expires) => {
             let set = SetStatement {
                 name,
                 serial,
                 tracks,
                 catalogued,
+                expires,
                 records: Records::new(alloc),
             };
             Ok(Block::Set(Boxed::new(alloc, set)?))
@@ -87,7 +91,47 @@ fn with_values(
     }
 }
 
-/// A set on a volume, its tracks, and whether it is catalogued.
+/// Whether a text begins with this field.
+fn has_word(word: &[u8], text: &[u8]) -> bool
+    ensures { result ≡ has_word word.now (fields_of text.now) }
+{
+    match next_field(text) {
+        None => false,
+        Some((field, _)) => field.bytes == word,
+    }
+}
+
+/// What stands behind the first field, or all where that does not count.
+fn behind_if(counts: bool, text: &[u8]) -> &[u8]
+    ensures { fields_of result.now ≡ behind_if counts (fields_of text.now) }
+{
+    if !counts {
+        return text;
+    }
+    match next_field(text) {
+        None => text,
+        Some((_, behind)) => behind,
+    }
+}
+
+/// The day before which a set is not to be deleted, where the text says it; none where it says anything else.
+fn expires_in(text: &[u8]) -> Option<Option<Day>>
+    ensures { result ≡ expires_of (fields_of text.now) }
+{
+    if next_field(text).is_none() {
+        return Some(None);
+    }
+    let (word, day) = two_fields(text)?;
+    if word.bytes != b"EXPDT".as_slice() {
+        return None;
+    }
+    match written_day(day.bytes) {
+        None => None,
+        Some(day) => Some(Some(day)),
+    }
+}
+
+/// A set on a volume, its tracks, whether it is catalogued, and its day.
 pub(crate) fn set(alloc: Global, operands: &[u8]) -> Result<Block, AllocError>
     ensures { IfOk result (λ b. b ≡ set_of (fields_of operands.now)) }
 {
@@ -103,5 +147,7 @@ pub(crate) fn set(alloc: Global, operands: &[u8]) -> Result<Block, AllocError>
     let name = set_name_in(name.bytes);
     let serial = serial_in(serial.bytes);
     let tracks = number_within(0, u16::MAX, tracks.bytes);
-    with_values(alloc, name, serial, tracks, flag_in(b"CAT", rest))
+    let catalogued = has_word(b"CAT", rest);
+    let expires = expires_in(behind_if(catalogued, rest));
+    with_values(alloc, name, serial, tracks, catalogued, expires)
 }

@@ -26,12 +26,14 @@ use Rattle.jcl_cards.specs.declared.coded.Coded.TheVariants.{Value}
 use Rattle.jcl_cards.specs.Keywords.{coded_in, spelled, twice_faults}
 use Rattle.jcl_cards.proofs.ExecNames.{and_first}
 use Rattle.jcl_dds.specs.declared.dd.Word.TheVariants.{Cards, Dummy}
-use Rattle.jcl_dds.specs.DdCards.{behind_period, card_of, dd_name, dd_name_faults, dd_name_of, dd_with, excludes, has_two_words, is_key, is_sysout, is_word, keyword_faults, label, positional_faults, sysout, unknown_on_dd, word_of}
+use Rattle.jcl_dds.specs.DdCards.{behind_period, card_of, dd_name, dd_name_faults, dd_name_of, dd_with, excludes, has_two_words, is_key, is_sysout, is_word, keyword_faults, positional_faults, sysout, unknown_on_dd, word_of}
+use Rattle.value_core.specs.Labels.{label}
 use Rattle.statement_laws.specs.CardLaws.{AreCards, DdCardsAreSound}
-use Rattle.statement_laws.specs.Ranges.{CodesName, IsSoundClass, IsSoundDd, IsSoundKey, IsSoundSpace, IsSoundVolume, IsSoundWord}
+use Rattle.statement_laws.specs.Ranges.{CodesName, IsSoundClass, IsSoundDd, IsSoundKey, IsSoundLabel, IsSoundSpace, IsSoundVolume, IsSoundWord}
 use Rattle.statement_laws.proofs.Faultless.{ReadIs, coded_is, name_is, told_is, when_none}
 use Rattle.statement_laws.proofs.Names.{written_is}
 use Rattle.statement_laws.proofs.SetNames.{set_name_is}
+use Rattle.statement_laws.proofs.Labels.{label_is}
 use Rattle.statement_laws.proofs.Spaces.{space_is}
 use Rattle.statement_laws.proofs.VolumeNames.{volume_is}
 
@@ -74,6 +76,7 @@ record AllRead (named : List ℕ) (keywords : List Keyword) : Type 0 where
   set_name : (coded_in (is_key (codes "DSNAME")) set_name keywords).faults ≡ []
   volume : (coded_in (is_key (codes "VOLUME")) volume_name keywords).faults ≡ []
   space : (coded_in (is_key (codes "SPACE")) space keywords).faults ≡ []
+  label : (coded_in (is_key (codes "LABEL")) label keywords).faults ≡ []
   sysout : (coded_in (is_key (codes "SYSOUT")) sysout keywords).faults ≡ []
 
 keywords_read : (named : List ℕ) (keywords : List Keyword) → dd_name_faults named ≡ [] → keyword_faults keywords ≡ [] → AllRead named keywords
@@ -100,6 +103,7 @@ keywords_read named keywords name none =
       set_name = none_in_front a b two;
       volume = none_behind (a ++ b ++ c) d four;
       space = none_behind (a ++ b ++ c ++ d) e five;
+      label = none_behind (a ++ b ++ c ++ d ++ e ++ f ++ g) h eight;
       sysout = none_behind (a ++ b ++ c ++ d ++ e) f six;
     }
 
@@ -126,6 +130,7 @@ dd_is name operand cards are none =
       set_name = coded_is (CodesName IsSoundKey) (is_key (codes "DSNAME")) set_name tt tt set_name_is keywords read.set_name;
       volume = coded_is IsSoundVolume (is_key (codes "VOLUME")) volume_name tt tt volume_is keywords read.volume;
       space = coded_is IsSoundSpace (is_key (codes "SPACE")) space tt tt (λ text none. space_is text) keywords read.space;
+      label = coded_is IsSoundLabel (is_key (codes "LABEL")) label tt tt (λ text none. label_is text) keywords read.label;
       class = coded_is IsSoundClass (is_key (codes "SYSOUT")) sysout tt tt sysout_is keywords read.sysout;
     }
 

@@ -7,5 +7,6 @@ pub mod Execs
 pub mod SetNames
 pub mod VolumeNames
 pub mod Spaces
+pub mod Labels
 pub mod Dds
 pub mod Merging

@@ -14,7 +14,7 @@ use Rattle.jcl_dds.specs.declared.dd.Word.TheVariants.{Cards, Dummy}
 use Rattle.jcl_dds.specs.DdCards.{excludes}
 use Rattle.jcl_dds.specs.Merging.{by_itself, keyword_by_keyword, merged, overridden, replaces, settled, without_dummy, without_sysout}
 use Rattle.statement_laws.specs.CardLaws.{ByItselfIsSound, MergedIsSound, MergedKeepsName}
-use Rattle.statement_laws.specs.Ranges.{CodesName, IsSoundClass, IsSoundDd, IsSoundKey, IsSoundSpace, IsSoundVolume, IsSoundWord}
+use Rattle.statement_laws.specs.Ranges.{CodesName, IsSoundClass, IsSoundDd, IsSoundKey, IsSoundLabel, IsSoundSpace, IsSoundVolume, IsSoundWord}
 
 -- one keyword
 overridden_is : {A : Type 0} (Q : Coded A → Type 0) → Q NotGiven → (there over : Coded A) → Q there → Q over → Q (overridden there over)
@@ -42,6 +42,7 @@ by_itself_is_sound dd is = record {
   set_name = settled_is (CodesName IsSoundKey) tt dd.set_name is.set_name;
   volume = settled_is IsSoundVolume tt dd.volume is.volume;
   space = settled_is IsSoundSpace tt dd.space is.space;
+  label = settled_is IsSoundLabel tt dd.label is.label;
   class = settled_is IsSoundClass tt dd.sysout is.class;
 }
 
@@ -49,7 +50,7 @@ by_itself_is_sound dd is = record {
 named_is : (dd override : DdCard) → IsSoundDd dd → IsSoundDd override → IsSoundDd (record (by_itself override) { name = dd.name })
 named_is dd override is other =
     let itself = by_itself_is_sound override other in
-    record { name = is.name; word = itself.word; set_name = itself.set_name; volume = itself.volume; space = itself.space; class = itself.class }
+    record { name = is.name; word = itself.word; set_name = itself.set_name; volume = itself.volume; space = itself.space; label = itself.label; class = itself.class }
 
 both_are : (dd override : DdCard) → IsSoundDd dd → IsSoundDd override → IsSoundDd (keyword_by_keyword dd override)
 both_are dd override is other = record {
@@ -58,6 +59,7 @@ both_are dd override is other = record {
   set_name = overridden_is (CodesName IsSoundKey) tt dd.set_name override.set_name is.set_name other.set_name;
   volume = overridden_is IsSoundVolume tt dd.volume override.volume is.volume other.volume;
   space = overridden_is IsSoundSpace tt dd.space override.space is.space other.space;
+  label = overridden_is IsSoundLabel tt dd.label override.label is.label other.label;
   class = class_is (is_given override.set_name) (overridden dd.sysout override.sysout)
       (overridden_is IsSoundClass tt dd.sysout override.sysout is.class other.class);
 }

@@ -5,12 +5,13 @@ use Rattle.jname_core.specs.Grammar.{IsDsNameWithin, IsName8, IsSerial}
 use Rattle.jname_core.specs.declared.key.Key.{Key}
 use Rattle.jname_core.specs.declared.key.Key.TheVariants.{Named, Relative, Temporary, Unnamed}
 use Rattle.jcl_plan.specs.declared.outcome.TheConstants.{GREATEST_CODE}
+use Rattle.jcl_plan.specs.declared.plan.Expiry.{Expiry}
 use Rattle.jcl_plan.specs.declared.plan.Space.{Space}
 use Rattle.value_core.specs.declared.set.SetName.{SetName}
 use Rattle.value_core.specs.declared.set.SetName.TheVariants as name
 use Rattle.value_core.specs.declared.set.VolumeName.{VolumeName}
 use Rattle.value_core.specs.declared.set.VolumeName.TheVariants as volume
-use Rattle.cb_meaning.specs.Writable.{IsCard, IsName, IsSpace}
+use Rattle.cb_meaning.specs.Writable.{IsCard, IsExpiry, IsName, IsSpace}
 use Rattle.list_values.specs.declared.condition.Condition.{Condition}
 use Rattle.jcl_cards.specs.declared.coded.Coded.{Coded}
 use Rattle.jcl_cards.specs.declared.coded.Coded.TheVariants.{NotGiven, Nullified, Value}
@@ -51,6 +52,11 @@ IsSoundSpace NotGiven = Unit {0}
 IsSoundSpace Nullified = Unit {0}
 IsSoundSpace (Value s) = IsSpace (Some s)
 
+abbrev pub IsSoundLabel : Coded Expiry → Type 0
+IsSoundLabel NotGiven = Unit {0}
+IsSoundLabel Nullified = Unit {0}
+IsSoundLabel (Value e) = IsExpiry e
+
 abbrev pub IsSoundClass : Coded ℕ → Type 0
 IsSoundClass NotGiven = Unit {0}
 IsSoundClass Nullified = Unit {0}
@@ -67,6 +73,7 @@ pub record IsSoundDd (dd : DdCard) : Type 0 where
   pub set_name : CodesName IsSoundKey dd.set_name
   pub volume : IsSoundVolume dd.volume
   pub space : IsSoundSpace dd.space
+  pub label : IsSoundLabel dd.label
   pub class : IsSoundClass dd.sysout
 
 pub record IsSoundJob (job : JobCard) : Type 0 where

@@ -12,7 +12,8 @@ use Rattle.value_core.specs.declared.reference.DdReference.TheVariants as dd
 use Rattle.value_core.specs.declared.set.SetName.TheVariants as name
 use Rattle.value_core.specs.declared.set.VolumeName.TheVariants as volume
 use Rattle.value_core.specs.Dispositions.{disposition}
-use Rattle.value_core.specs.Labels.{label_faults}
+use Rattle.jcl_plan.specs.declared.plan.Expiry.TheVariants as expiry
+use Rattle.value_core.specs.Labels.{label, label_faults}
 use Rattle.value_core.specs.Parms.{parm_faults}
 use Rattle.value_core.specs.Reads.{good}
 use Rattle.value_core.specs.SetNames.{set_name}
@@ -83,8 +84,13 @@ pub record ReadsOthers : Type 0 where
   pub unit_name : unit (codes "(SYSDA,1,DEFER)") ≡ good (codes "SYSDA")
   pub affinity : told (unit (codes "AFF=X")).faults ≡ Some (P LeftOut)
   pub long_unit : told (unit (codes "SYSDA0001")).faults ≡ Some (N 2)
-  pub day : label_faults (codes "EXPDT=75100") ≡ []
-  pub period : label_faults (codes "(1,SL,,IN,RETPD=0030)") ≡ []
+  pub day : label (codes "EXPDT=75100") ≡ good (expiry.Day 27492)
+  pub slashed_day : label (codes "EXPDT=2155/365") ≡ good (expiry.Day 93501)
+  pub period : label (codes "(1,SL,,IN,RETPD=0030)") ≡ good (expiry.DaysFromToday 30)
+  pub long_period : told (label_faults (codes "RETPD=00001")) ≡ Some (P BadValue)
+  pub no_leap_day : told (label_faults (codes "EXPDT=75366")) ≡ Some (P BadValue)
+  pub early_year : told (label_faults (codes "EXPDT=1899/001")) ≡ Some (P BadValue)
+  pub no_digits : told (label_faults (codes "RETPD=")) ≡ Some (P BadValue)
   pub no_day : told (label_faults (codes "EXPDT=75367")) ≡ Some (P BadValue)
   pub no_label : told (label_faults (codes "(1,SL)")) ≡ Some (P BadValue)
   pub two_labels : told (label_faults (codes "(EXPDT=75100,RETPD=1)")) ≡ Some (P ExcludeOneAnother)

@@ -4,7 +4,7 @@
 mod decimal;
 pub mod disposition;
 pub mod examples;
-pub mod label_fault;
+pub mod label;
 pub mod parm_fault;
 mod places;
 pub mod reads;

@@ -8,6 +8,7 @@ pub mod Names
 pub mod Earlier
 pub mod Heads
 pub mod Sets
+pub mod Expiries
 pub mod Volumes
 pub mod Siots
 pub mod UsedFields

@@ -77,6 +77,8 @@ module _ (l : Layout) (own : IsQueueLayout l) where
       name = open_part l own false r s agree 12 44 (omega arith) refl ∙ h.name;
       serial = open_part l own false r s agree 56 6 (omega arith) refl ∙ h.serial;
       reference = open_part l own false r s agree 62 44 (omega arith) refl ∙ h.reference;
+      expiry_kind = told_number l own false r s agree l.expiry_kind own.expiry_kind ∙ h.expiry_kind;
+      expiry_days = told_number l own false r s agree l.expiry_days own.expiry_days ∙ h.expiry_days;
       unused = unused_same l own false r s agree (jfcb_fields l) 0 refl (λ e. no_status e) ∙ h.unused;
     }
 

@@ -59,4 +59,6 @@ pub record IsQueueLayout (l : Layout) : Type 0 where
   pub next_dd : IsBetween l.next_dd
   pub below : IsBetween l.below
   pub cards : IsBetween l.cards
+  pub expiry_kind : IsBetween l.expiry_kind
+  pub expiry_days : IsBetween l.expiry_days
   pub next_cards : IsBetween l.next_cards

@@ -15,7 +15,7 @@ input_of (event.Write class) is = (input.Write class, refl)
 input_of (event.Cancel job) is = (input.Cancel job, refl)
 input_of event.Display is = (input.Display, refl)
 input_of (event.Zap n offset bytes) is = (input.Zap n offset bytes, refl)
-input_of (event.Date day) is = absurd is
+input_of (event.Date day) is = (input.Date day, refl)
 
 is_input : (i : Event) → IsInput (meant_by i)
 is_input (input.Read deck) = tt
@@ -25,6 +25,7 @@ is_input (input.Write class) = tt
 is_input (input.Cancel job) = tt
 is_input (input.Zap n offset bytes) = tt
 is_input input.Display = tt
+is_input (input.Date day) = tt
 
 -- the input back again
 unfoldable input_again : (other : Event) → meant.Event → Event
@@ -35,7 +36,7 @@ input_again other (event.Write class) = input.Write class
 input_again other (event.Cancel job) = input.Cancel job
 input_again other event.Display = input.Display
 input_again other (event.Zap n offset bytes) = input.Zap n offset bytes
-input_again other (event.Date day) = other
+input_again other (event.Date day) = input.Date day
 
 again_is : (other i : Event) → input_again other (meant_by i) ≡ i
 unfolding input_again
@@ -46,6 +47,7 @@ again_is other (input.Write class) = refl
 again_is other (input.Cancel job) = refl
 again_is other (input.Zap n offset bytes) = refl
 again_is other input.Display = refl
+again_is other (input.Date day) = refl
 
 pub returns : goal.returns
 returns c = record {

@@ -1,8 +1,8 @@
 //! What was done last with a data set, on the way to a fault.
-use crate::answers::names::{Shown, key_at, push_subject};
+use crate::answers::names::{Shown, key_at, push_count, push_date, push_subject, set_at};
 use jcl_plan::entry::JobLine;
 use jcl_plan::fault::Fault;
-use jcl_plan::plan::JobPlan;
+use jcl_plan::plan::{Expiry, JobPlan};
 use jcl_plan::words::{DispWord, TakeWord};
 use jname_core::key::Key;
 use jname_core::serial::Serial;
@@ -46,6 +46,8 @@ pub(crate) struct Done {
     doer: Doer,
     pub(crate) deed: Deed,
     pub(crate) volume: Option<Serial>,
+    /// What the DD that made the set says of its expiry, where it was made on the way.
+    expiry: Expiry,
 }
 
 /// What taking a DD did with its data set, and on which volume.
@@ -142,13 +144,47 @@ fn is_on(volume: &Option<Serial>, wanted: &Option<Serial>) -> bool {
     }
 }
 
+/// Whether these lines tell that the set of a DD was made.
+fn is_made(told: &Told) -> bool {
+    match told.deed {
+        Some(Deed::Makes) => true,
+        _ => false,
+    }
+}
+
+/// What the DD of a line says of the expiry of its set.
+fn coded_of(plan: &JobPlan, told: &Told) -> Expiry {
+    match set_at(plan, told.step, told.dd) {
+        Some(set) => set.expiry,
+        None => Expiry::NotCoded,
+    }
+}
+
+/// What is said of the expiry of the data set that has this name in the plan, by the DD that these lines tell to have made it last.
+fn expiry_of(plan: &JobPlan, lines: &[JobLine], key: &Key) -> Expiry {
+    let mut running = 0;
+    let mut expiry = Expiry::NotCoded;
+    for line in lines {
+        if let JobLine::Step { step, .. } = line {
+            running = *step;
+        }
+        if let Some(told) = told_by(line, running) {
+            if is_made(&told) && is_of(&told, plan, key) {
+                expiry = coded_of(plan, &told);
+            }
+        }
+    }
+    expiry
+}
+
 /// What is told, where something was done.
-fn done_by(told: &Told, lines: &[JobLine]) -> Option<Done> {
+fn done_by(plan: &JobPlan, lines: &[JobLine], key: &Key, told: &Told) -> Option<Done> {
     match told.deed {
         Some(deed) => Some(Done {
             doer: told.doer,
             deed,
             volume: volume_of(lines, told.step, told.dd),
+            expiry: expiry_of(plan, lines, key),
         }),
         None => None,
     }
@@ -165,7 +201,7 @@ fn done_with(
     if !is_of(told, plan, key) {
         return None;
     }
-    match done_by(told, lines) {
+    match done_by(plan, lines, key, told) {
         Some(done) if is_on(&done.volume, wanted) => Some(done),
         _ => None,
     }
@@ -210,10 +246,37 @@ fn words_of(deed: Deed) -> &'static [u8] {
         Deed::Receives => b" receives it",
         Deed::Deletes => b" deletes it",
         Deed::Keeps => b" keeps it",
-        Deed::KeepsUnexpired => b" keeps it, since it has not expired",
+        Deed::KeepsUnexpired => b" keeps it, since it ",
         Deed::Passes => b" passes it",
         Deed::Catalogs => b" catalogs it",
         Deed::Uncatalogs => b" uncatalogs it",
+    }
+}
+
+/// When a set expires that was kept, where the deck says so.
+fn push_expiry(text: &mut Vec<u8>, expiry: Expiry) -> Result<(), AllocError> {
+    match expiry {
+        Expiry::NotCoded => text.extend_from_slice(b"has not expired"),
+        Expiry::Day(day) => {
+            text.extend_from_slice(b"expires on ")?;
+            push_date(text, day)
+        }
+        Expiry::DaysFromToday(days) => {
+            text.extend_from_slice(b"expires ")?;
+            push_count(text, usize::from(days), b"day")?;
+            text.extend_from_slice(b" after the job's date")
+        }
+    }
+}
+
+/// That the run before left a data set which has not expired, where that is what was done.
+pub(crate) fn push_left(text: &mut Vec<u8>, done: &Done) -> Result<(), AllocError> {
+    match done.deed {
+        Deed::KeepsUnexpired => {
+            text.extend_from_slice(b"; the run before keeps it, since it ")?;
+            push_expiry(text, done.expiry)
+        }
+        _ => Ok(()),
     }
 }
 
@@ -228,5 +291,9 @@ pub(crate) fn push_done(
         Doer::Step(number) => push_subject(text, shown, number)?,
         Doer::JobEnd => text.extend_from_slice(b"the job's end")?,
     }
-    text.extend_from_slice(words_of(done.deed))
+    text.extend_from_slice(words_of(done.deed))?;
+    match done.deed {
+        Deed::KeepsUnexpired => push_expiry(text, done.expiry),
+        _ => Ok(()),
+    }
 }

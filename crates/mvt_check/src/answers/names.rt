@@ -1,7 +1,9 @@
 //! Numbers, and steps, DDs and data sets as who wrote the deck knows them.
 ghost use Rattle.std.specs.Prelude.{◌≡◌, ◌++◌, OnOk, decimal};
 
+use date_core::calendar::date_of;
 use itoa::Buffer;
+use jcl_plan::day::Day;
 use jcl_plan::entry::JobLine;
 use jcl_plan::plan::{DdKind, DdPlan, JobPlan, SetPlan, StepPlan};
 use jname_core::key::{Key, Sign};
@@ -25,6 +27,20 @@ pub(crate) fn push_count(text: &mut Vec<u8>, count: usize, name: &[u8]) -> Resul
         text.push(b's')?;
     }
     Ok(())
+}
+
+/// A date: `1975/001`.
+pub(crate) fn push_date(text: &mut Vec<u8>, day: Day) -> Result<(), AllocError> {
+    let date = date_of(day);
+    push_number(text, u64::from(date.year))?;
+    text.push(b'/')?;
+    if date.of_year < 100 {
+        text.push(b'0')?;
+    }
+    if date.of_year < 10 {
+        text.push(b'0')?;
+    }
+    push_number(text, u64::from(date.of_year))
 }
 
 /// The step of this number, which counts from 1.

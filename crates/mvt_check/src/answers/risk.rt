@@ -1,5 +1,5 @@
 //! The fault that a job may meet.
-use crate::answers::cause::{Deed, Done, explains, last_done, push_done, volume_of};
+use crate::answers::cause::{Deed, Done, explains, last_done, push_done, push_left, volume_of};
 use crate::answers::names::{
     Shown, push_data_set, push_dd, push_named_set, push_number, push_step, set_at,
 };
@@ -8,6 +8,7 @@ use jcl_plan::entry::JobLine;
 use jcl_plan::fault::Fault;
 use jcl_plan::outcome::Outcome;
 use jcl_plan::plan::{JobPlan, SetPlan, Status, VolumePlan};
+use jname_core::key::Key;
 use jname_core::serial::Serial;
 use refusal_text::table::row_of;
 use std::alloc::AllocError;
@@ -57,6 +58,8 @@ pub(crate) struct Met<'a> {
     pub(crate) lines: &'a [JobLine],
     /// The lines that name its steps: those, or none where they are of a deck that was made for a trial.
     pub(crate) naming: &'a [JobLine],
+    /// The lines of the run before, where the job is run again.
+    pub(crate) before: &'a [JobLine],
 }
 
 impl<'a> Met<'a> {
@@ -170,11 +173,29 @@ fn push_uncataloged(
     text.extend_from_slice(b" here")
 }
 
+/// Why a set is there already, where the run before left it.
+fn push_before(
+    text: &mut Vec<u8>,
+    plan: &JobPlan,
+    met: &Met<'_>,
+    key: &Key,
+    wanted: &Option<Serial>,
+) -> Result<(), AllocError> {
+    if met.fault != Fault::F2 {
+        return Ok(());
+    }
+    match last_done(plan, met.before, key, wanted) {
+        Some(done) => push_left(text, &done),
+        None => Ok(()),
+    }
+}
+
 /// The fault of a DD's own set, and what was done last with it.
 fn push_wrong(
     text: &mut Vec<u8>,
     plan: &JobPlan,
     met: &Met<'_>,
+    key: &Key,
     wanted: &Option<Serial>,
     done: &Option<Done>,
 ) -> Result<(), AllocError> {
@@ -190,7 +211,8 @@ fn push_wrong(
     push_path(text, met.shown(plan), met.path)?;
     match done {
         Some(done) if explains(done.deed, met.fault) => push_done(text, met.shown(plan), done)?,
-        _ => {}
+        Some(_) => {}
+        None => push_before(text, plan, met, key, wanted)?,
     }
     push_cure(text, met.fault)
 }
@@ -208,7 +230,7 @@ fn push_own(
     let volume = kept_on(met, set, &last);
     match (&last, &volume) {
         (Some(done), Some(volume)) => push_uncataloged(text, plan, met, done, volume),
-        _ => push_wrong(text, plan, met, wanted, &last),
+        _ => push_wrong(text, plan, met, &set.key, wanted, &last),
     }
 }
 

@@ -34,12 +34,20 @@ fn naming_of(lines: &[JobLine], tried: bool) -> &[JobLine] {
     if tried { &[] } else { lines }
 }
 
-/// What is said of an answer, which was given in a trial or in the session.
+/// The lines of the run before, if there is one.
+fn before_in<'a>(before: &Option<&'a [JobLine]>) -> &'a [JobLine] {
+    match *before {
+        Some(lines) => lines,
+        None => &[],
+    }
+}
+
+/// What is said of an answer, which was given in the session, or in a trial behind a run of these lines.
 fn push_said(
     text: &mut Vec<u8>,
     plan: &JobPlan,
     answer: Option<&Answer>,
-    tried: bool,
+    before: Option<&[JobLine]>,
 ) -> Result<(), AllocError> {
     match answer {
         Some(Answer::Assured { tracks, actions }) => {
@@ -66,7 +74,8 @@ fn push_said(
                 dd: *dd,
                 path: path.as_slice(),
                 lines: lines.as_slice(),
-                naming: naming_of(lines.as_slice(), tried),
+                naming: naming_of(lines.as_slice(), before.is_some()),
+                before: before_in(&before),
             },
         ),
         Some(Answer::TooMany(step)) => {
@@ -90,19 +99,20 @@ fn said_of(
     alloc: Global,
     plan: &JobPlan,
     answer: Option<&Answer>,
-    tried: bool,
+    before: Option<&[JobLine]>,
 ) -> Result<Vec<u8>, AllocError> {
     let mut text = Vec::new(alloc);
-    push_said(&mut text, plan, answer, tried)?;
+    push_said(&mut text, plan, answer, before)?;
     text.push(b'\n')?;
     Ok(text)
 }
 
-/// What is answered once more, with the line's end.
+/// What is answered once more, behind a run of these lines, with the line's end.
 pub(crate) fn push_verdict(
     text: &mut Vec<u8>,
     plan: &JobPlan,
     answer: &Answer,
+    before: &[JobLine],
 ) -> Result<(), AllocError> {
     match answer {
         Answer::Assured { .. } => text.extend_from_slice(b" is ASSURED\n"),
@@ -112,7 +122,7 @@ pub(crate) fn push_verdict(
             text.extend_from_slice(b"\n")
         }
         _ => {
-            let said = said_of(*text.allocator(), plan, Some(answer), true)?;
+            let said = said_of(*text.allocator(), plan, Some(answer), Some(before))?;
             text.extend_from_slice(verdict_of(Some(answer)))?;
             text.extend_from_slice(said.as_slice())
         }
@@ -137,7 +147,7 @@ fn said_with(
     answer: Option<&Answer>,
     card: Option<&[u8]>,
 ) -> Result<Vec<u8>, AllocError> {
-    let said = said_of(alloc, plan, answer, false)?;
+    let said = said_of(alloc, plan, answer, None)?;
     match card {
         Some(card) => with_card(alloc, said.as_slice(), card),
         None => Ok(said),

@@ -1,4 +1,5 @@
 //! Pieces of the operands of a deck that is made.
+use crate::answers::names::push_date;
 use itoa::Buffer;
 use jcl_plan::plan::{
     AfterAbend, ConditionalWord, Expiry, Operator, SetPlan, Space, Status, Test, VolumePlan, Word,
@@ -254,7 +255,25 @@ fn push_space(alloc: Global, pieces: &mut Vec<Text>, space: &Space) -> Result<()
     Ok(())
 }
 
-/// The pieces of a DD for a set, by the names of the units. Nothing is put of a set that no card denotes.
+/// The LABEL of a set, if its DD says until when it is kept.
+fn push_label(alloc: Global, pieces: &mut Vec<Text>, expiry: Expiry) -> Result<(), AllocError> {
+    let mut text = Vec::from_slice(alloc, b"LABEL=")?;
+    match expiry {
+        Expiry::NotCoded => return Ok(()),
+        Expiry::Day(day) => {
+            text.extend_from_slice(b"EXPDT=")?;
+            push_date(&mut text, day)?;
+        }
+        Expiry::DaysFromToday(days) => {
+            text.extend_from_slice(b"RETPD=")?;
+            push_number(&mut text, usize::from(days))?;
+        }
+    }
+    pieces.push(Text::new(text))?;
+    Ok(())
+}
+
+/// The pieces of a DD for a set, by the names of the units.
 pub(crate) fn push_set(
     alloc: Global,
     pieces: &mut Vec<Text>,
@@ -263,9 +282,6 @@ pub(crate) fn push_set(
     step: usize,
     dd: usize,
 ) -> Result<(), AllocError> {
-    if set.expiry != Expiry::NotCoded {
-        return Ok(());
-    }
     push_name(alloc, pieces, &set.key, step, dd)?;
     push_disposition(alloc, pieces, set)?;
     if let Some(number) = set.units {
@@ -274,6 +290,7 @@ pub(crate) fn push_set(
         }
     }
     push_volume(alloc, pieces, &set.volume, step)?;
+    push_label(alloc, pieces, set.expiry)?;
     match &set.space {
         Some(space) => push_space(alloc, pieces, space),
         None => Ok(()),

@@ -105,6 +105,7 @@ fn push_met(text: &mut Vec<u8>, plan: &JobPlan, lines: &[JobLine]) -> Result<(),
             path: &[],
             lines: front,
             naming: &[],
+            before: &[],
         },
     )?;
     text.extend_from_slice(b": ")?;
@@ -134,7 +135,7 @@ pub(crate) fn trial_words(
         (Some(Answer::Assured { .. }), Some(tried)) => {
             if let Some(again) = &tried.again {
                 text.extend_from_slice(b"    run again, it")?;
-                push_verdict(&mut text, plan, again)?;
+                push_verdict(&mut text, plan, again, tried.lines.as_slice())?;
             }
         }
         _ => {}

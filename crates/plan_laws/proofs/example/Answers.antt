@@ -31,9 +31,9 @@ returns c = record {
     codes = All-nil (λ (t : CodedTest). t.code ≤ GREATEST_CODE);
     begins_named = tt;
     dds = All-cons IsSoundDd (card (codes "D") NotGiven NotGiven) (second ∷ [])
-        (record { name = (refl, tt, omega (arith)); word = tt; set_name = tt; volume = tt; space = tt; class = tt })
+        (record { name = (refl, tt, omega (arith)); word = tt; set_name = tt; volume = tt; space = tt; label = tt; class = tt })
         (All-cons IsSoundDd second []
-        (record { name = (refl, tt, omega (arith)); word = tt; set_name = tt; volume = tt; space = tt; class = tt }) (All-nil IsSoundDd));
+        (record { name = (refl, tt, omega (arith)); word = tt; set_name = tt; volume = tt; space = tt; label = tt; class = tt }) (All-nil IsSoundDd));
   }) (All-nil IsSoundStep);
   plan = refl;
 }

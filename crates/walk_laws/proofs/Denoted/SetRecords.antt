@@ -9,19 +9,23 @@ use Rattle.jname_core.specs.declared.key.Sign.{Sign}
 use Rattle.jname_core.specs.declared.key.Sign.TheVariants.{Plus, Minus}
 use Rattle.jname_core.specs.Generations.{has_generation_form}
 use Rattle.jname_core.specs.Grammar.{IsDsNameWithin}
+use Rattle.jcl_plan.specs.declared.plan.Expiry.{Expiry}
+use Rattle.jcl_plan.specs.declared.plan.Expiry.TheVariants as expiry
 use Rattle.jcl_plan.specs.declared.plan.SetPlan.{SetPlan}
 use Rattle.jcl_plan.specs.declared.plan.StepPlan.{StepPlan}
 use Rattle.jcl_plan.specs.declared.plan.VolumePlan.{VolumePlan}
 use Rattle.jcl_plan.specs.declared.plan.VolumePlan.TheVariants as volume
 use Rattle.jcl_plan.specs.Texts.{trimmed}
 use Rattle.cb_meaning.specs.declared.layout.Layout.{Layout}
+use Rattle.cb_meaning.specs.declared.layout.TheConstants.{LAST_DAY, MOST_DAYS}
+use Rattle.cb_meaning.specs.Codes.{expiry_code, expiry_number}
 use Rattle.cb_meaning.specs.Fields.{byte_at, field, filled_or_blank, number_at, number_of, part}
 use Rattle.cb_meaning.specs.Spelled.{SpellsJfcb, key_code, name_bytes, name_referred, relative_bytes, serial_coded, sign_code, volume_code}
-use Rattle.cb_meaning.specs.Walks.{is_blank, is_ds_name, is_earlier_set, is_name, is_relative, is_serial, jfcb_faults, lowest, set_name_bad, stems_forward}
-use Rattle.cb_meaning.specs.Writable.{IsEarlierSet, IsKeyAt, IsSetAt, IsVolumeAt}
+use Rattle.cb_meaning.specs.Walks.{is_blank, is_ds_name, is_earlier_set, is_name, is_no_expiry, is_relative, is_serial, jfcb_faults, lowest, set_name_bad, stems_forward}
+use Rattle.cb_meaning.specs.Writable.{IsEarlierSet, IsExpiry, IsKeyAt, IsSetAt, IsVolumeAt}
 use Rattle.record_laws.proofs.Blanks.{dotted_blank}
 use Rattle.walk_laws.proofs.Denoted.Bytes.{byte_within, part_within, two_bytes_are}
-use Rattle.walk_laws.proofs.Denoted.NoFault.{no_five, no_three, three_none}
+use Rattle.walk_laws.proofs.Denoted.NoFault.{no_five, no_six, no_three, three_none}
 use Rattle.walk_laws.proofs.Denoted.Texts.{blank_is, ds_name_is, name_is, serial_is, trimmed_filled}
 
 -- the texts of the volume
@@ -142,10 +146,18 @@ module _ (all : List StepPlan) (steps : List (List Bool)) (k d : ℕ)
     absolute = and_right (not (is_relative r)) _ (not_from_true _ (ap (λ bs. list_all (λ b. b == 0) bs) z));
   }
 
+  expiry_is : (e : Expiry) → IsExpiry e → is_no_expiry (expiry_code e) (expiry_number e) ≡ false
+  expiry_is expiry.NotCoded h = refl
+  expiry_is (expiry.Day day) h = ap (λ b. b || false) (le-ltb LAST_DAY day h)
+  expiry_is (expiry.DaysFromToday days) h = le-ltb MOST_DAYS days h
+
   pub jfcb_none : (l : Layout) (units : ℕ) (p : SetPlan) (s : List ℕ) → IsSetAt units all k d p → byte_at s 28 ≡ volume_code p.volume → SpellsJfcb l p r →
       lowest (jfcb_faults l steps k d s r) ≡ None
   jfcb_none l units p s h e j =
       let key = names_well p.key h.key j.kind j.relative j.name in
       three_none 6 9 12 _ _ _
       (no_three _ _ _ key.text (serial_text p.volume all k d s r h.volume e j.serial) (reference_text p.volume all k d s r h.volume e j.reference))
-      key.stem (no_five _ _ _ _ _ key.some_kind key.known key.relative key.absolute (not_from_true _ j.unused))
+      key.stem
+      (no_six _ _ _ _ _ _ key.some_kind key.known key.relative key.absolute
+      ((λ i. is_no_expiry (j.expiry_kind i) (j.expiry_days i)) ∙ expiry_is p.expiry h.expiry_fits)
+      (not_from_true _ j.unused))

@@ -24,7 +24,7 @@ use Rattle.walk_laws.proofs.faultless.UsedFields.{no_below, used_of}
 
 abbrev kind_by : Layout → Records → List ℕ → ℕ → DdKind
 kind_by l q s n =
-    if n == 1 then Set (set_read s (q.at (number_at s l.below)))
+    if n == 1 then Set (set_read l s (q.at (number_at s l.below)))
     else (if n == 3 then Sysout (byte_at s 25)
     else (if n == 4 then Cards (cards_read l q (l.most_records + 1) (number_at s l.below))
     else Dummy))
@@ -55,7 +55,7 @@ module _ (l : Layout) (own : all_apart (siot_places l) ≡ true) (units : ℕ) (
   Walked kind = DdWalked l units q job all k d s seen met kind
 
   set_walked : byte_at s 12 ≡ 1 → walk_jfcb l q job marks k d s seen (number_at s l.below) ≡ Ok met →
-      Walked (Set (set_read s (q.at (number_at s l.below))))
+      Walked (Set (set_read l s (q.at (number_at s l.below))))
   set_walked e h =
       let n = number_at s l.below in
       let r = q.at n in

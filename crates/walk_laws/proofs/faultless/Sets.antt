@@ -12,7 +12,7 @@ use Rattle.cb_meaning.specs.declared.layout.Layout.{Layout}
 use Rattle.cb_meaning.specs.Fields.{byte_at, field, filled, is_zero_but, number_at, part, two_bytes}
 use Rattle.cb_meaning.specs.Readings.{key_read, sign_read}
 use Rattle.cb_meaning.specs.Spelled.{jfcb_fields, key_code, name_bytes, relative_bytes}
-use Rattle.cb_meaning.specs.Walks.{is_blank, is_ds_name, is_earlier_set, is_name, is_relative, is_serial, jfcb_faults, lowest, set_name_bad, stems_forward}
+use Rattle.cb_meaning.specs.Walks.{is_blank, is_ds_name, is_earlier_set, is_name, is_no_expiry, is_relative, is_serial, jfcb_faults, lowest, set_name_bad, stems_forward}
 use Rattle.cb_meaning.specs.Writable.{IsKeyAt}
 use Rattle.walk_laws.specs.WalkLaws.{IsRecord}
 use Rattle.walk_laws.proofs.faultless.Codes.{sign_back}
@@ -48,6 +48,7 @@ pub record JfcbFine (l : Layout) (steps : List (List Bool)) (k d : ℕ) (s r : L
   pub high : byte_at r 8 ≤ 5
   pub relative : (is_relative r && (nat_lt 1 (byte_at r 9) || nat_lt 255 (number_at r (field 10 2)))) ≡ false
   pub other : (not (is_relative r) && not (list_all (λ b. b == 0) (part r 9 3))) ≡ false
+  pub expiry : is_no_expiry (number_at r l.expiry_kind) (number_at r l.expiry_days) ≡ false
   pub unused : is_zero_but (jfcb_fields l) r ≡ true
 
 pub jfcb_fine : (l : Layout) (steps : List (List Bool)) (k d : ℕ) (s r : List ℕ) → lowest (jfcb_faults l steps k d s r) ≡ None → JfcbFine l steps k d s r
@@ -57,12 +58,14 @@ jfcb_fine l steps k d s r h =
     let relative = is_relative r && (nat_lt 1 (byte_at r 9) || nat_lt 255 (number_at r (field 10 2))) in
     let other = not (is_relative r) && not (list_all (λ b. b == 0) (part r 9 3)) in
     let bounds = nat_lt (byte_at r 8) 1 || nat_lt 5 (byte_at r 8) in
+    let expiry = is_no_expiry (number_at r l.expiry_kind) (number_at r l.expiry_days) in
     let unused = not (is_zero_but (jfcb_fields l) r) in
-    let told = told_three 6 9 12 (set_name_bad r || serial || reference) (stems_forward steps k d r) (bounds || relative || other || unused) h in
+    let told = told_three 6 9 12 (set_name_bad r || serial || reference) (stems_forward steps k d r) (bounds || relative || other || expiry || unused) h in
     let names = or_parts (set_name_bad r || serial) reference told.0 in
     let first = or_parts (set_name_bad r) serial names.0 in
-    let last = or_parts (bounds || relative || other) unused told.2 in
-    let middle = or_parts (bounds || relative) other last.0 in
+    let last = or_parts (bounds || relative || other || expiry) unused told.2 in
+    let days = or_parts (bounds || relative || other) expiry last.0 in
+    let middle = or_parts (bounds || relative) other days.0 in
     let numbers = or_parts bounds relative middle.0 in
     let both = or_parts (nat_lt (byte_at r 8) 1) (nat_lt 5 (byte_at r 8)) numbers.0 in
     record {
@@ -74,6 +77,7 @@ jfcb_fine l steps k d s r h =
       high = ltb-false 5 (byte_at r 8) both.1;
       relative = numbers.1;
       other = middle.1;
+      expiry = days.1;
       unused = true_of (is_zero_but (jfcb_fields l) r) last.1;
     }
 

@@ -9,6 +9,7 @@ use Rattle.cb_meaning.specs.Spelled.{SpellsJfcb}
 use Rattle.cb_meaning.specs.Writable.{IsSetAt}
 use Rattle.walk_laws.specs.WalkLaws.{IsRecord}
 use Rattle.walk_laws.proofs.faultless.Earlier.{Agrees, earlier}
+use Rattle.walk_laws.proofs.faultless.Expiries.{expiry_of}
 use Rattle.walk_laws.proofs.faultless.Sets.{JfcbFine, key_of}
 use Rattle.walk_laws.proofs.faultless.Siots.{SiotFine}
 use Rattle.walk_laws.proofs.faultless.SiotsSpelled.{space_fits, units_fit}
@@ -28,24 +29,27 @@ module _ (l : Layout) (own : all_apart (siot_places l) ≡ true) (units : ℕ) (
   pub volume_is : IsVolumeOf all k d s r (volume_read s r)
   volume_is = volume_of l marks all k d s r siot is jfcb volume_fine
 
-  pub jfcb_spelled : SpellsJfcb l (set_read s r) r
+  pub jfcb_spelled : SpellsJfcb l (set_read l s r) r
   jfcb_spelled =
       let key = key_of l marks all agrees k d s r is jfcb in
       let volume = volume_is in
+      let days = expiry_of (number_at r l.expiry_kind) (number_at r l.expiry_days) jfcb.expiry in
       record {
         kind = key.kind;
         relative = key.relative;
         name = key.name;
         serial = volume.serial;
         reference = volume.reference;
+        expiry_kind = days.kind_is;
+        expiry_days = days.days_are;
         unused = jfcb.unused;
       }
 
-  pub set_fits : IsSetAt units all k d (set_read s r)
+  pub set_fits : IsSetAt units all k d (set_read l s r)
   set_fits = record {
     key = (key_of l marks all agrees k d s r is jfcb).fits;
     volume = volume_is.fits;
     space = space_fits units s (fine.numbers e);
     unit = units_fit units (number_at s (field 38 2)) (fine.numbers e).listed;
-    no_day = refl;
+    expiry_fits = (expiry_of (number_at r l.expiry_kind) (number_at r l.expiry_days) jfcb.expiry).fits;
   }

@@ -127,7 +127,7 @@ module _ (l : Layout) (own : all_apart (siot_places l) ≡ true) (units : ℕ) (
   marks_by n e = marks_back (byte_at s 24) fine.few_marks ∙ (λ i. mark (sym fine.name.absent i) 1 + e i)
 
   pub set_siot : (r : List ℕ) → byte_at s 12 ≡ 1 → (all : List StepPlan) → IsVolumeOf all k d s r (volume_read s r) →
-      SpellsSiot l (record { name = name; kind = Set (set_read s r) }) s
+      SpellsSiot l (record { name = name; kind = Set (set_read l s r) }) s
   set_siot r e all v =
       let words = fine.words e in
       let numbers = fine.numbers e in

@@ -42,6 +42,7 @@ fn again<'a>(alloc: Global, event: &Event<'_>) -> Result<Option<Event<'a>>, Allo
             bytes: Boxed::new(alloc, *bytes.get())?,
         }),
         Event::Display => Some(Event::Display),
+        Event::Date(day) => Some(Event::Date(*day)),
     };
     Ok(same)
 }

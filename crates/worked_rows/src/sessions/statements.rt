@@ -71,6 +71,9 @@ fn tell_set(told: &mut Told, set: &SetStatement) {
     if set.catalogued {
         told.word(b" CAT");
     }
+    if let Some(day) = &set.expires {
+        told.numbered(b" EXPDT ", u64::from(day.number()));
+    }
     tell_records(told, &set.records)
 }
 
@@ -153,6 +156,7 @@ fn tell_event(told: &mut Told, event: &Event<'_>) {
             bytes,
         } => tell_zap(told, *record, *offset, bytes.get().as_slice()),
         Event::Display => told.two(b"DISPLAY", b""),
+        Event::Date(day) => told.numbered(b"DATE ", u64::from(day.number())),
     }
 }
 

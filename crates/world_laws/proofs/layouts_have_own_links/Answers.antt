@@ -13,6 +13,8 @@ returns-clause-first c = record {
   next_dd = record { from = omega arith; to = omega arith };
   below = record { from = omega arith; to = omega arith };
   cards = record { from = omega arith; to = omega arith };
+  expiry_kind = record { from = omega arith; to = omega arith };
+  expiry_days = record { from = omega arith; to = omega arith };
   next_cards = record { from = omega arith; to = omega arith };
 }
 
@@ -28,5 +30,7 @@ returns-clause-second c = record {
   next_dd = record { from = omega arith; to = omega arith };
   below = record { from = omega arith; to = omega arith };
   cards = record { from = omega arith; to = omega arith };
+  expiry_kind = record { from = omega arith; to = omega arith };
+  expiry_days = record { from = omega arith; to = omega arith };
   next_cards = record { from = omega arith; to = omega arith };
 }

@@ -5,8 +5,8 @@ use Rattle.jcl_plan.specs.declared.plan.DdPlan.{DdPlan}
 use Rattle.cb_meaning.specs.Needs.{records_below}
 use Rattle.cb_chain.specs.Taking.{dds_needed, is_more, DdsFrom, dds_needed}
 use Rattle.cb_chain.proofs.Among.{true_not_false}
-use Rattle.std.proofs.lemmas.List.Elements.{All-nil}
-use Rattle.cb_chain.specs.Written.{IsFresh}
+use Rattle.std.proofs.lemmas.List.Elements.{All-head, All-nil, All-rest, All-same}
+use Rattle.cb_chain.specs.Written.{HoldsKind, IsFresh}
 use Rattle.cb_chain.proofs.SoFar.{begins, ends, goes_on, ready_now, room_now}
 use Rattle.cb_chain.proofs.dds.write_dds.Goals as goal
 
@@ -29,6 +29,7 @@ loop-dd-init g c = record {
   so =
       begins c.args.job dds_needed (DdsFrom c.args.layout.now c.args.job) c.args.dds.now (g.S.RecordStore.queue c.args.store.now) c.take_if-first.result
       (g.S.RecordStore.queue c.take_if-first.new.store) c.is_more.result c.is_more.ensures c.take_if-first.ensures.value;
+  days = c.requires.days;
   room = c.take_if-first.ensures.room;
 }
 
@@ -68,6 +69,8 @@ loop-dd-preserved g c =
           c.loop-dd.here c.write_dd-here.result (records_below c.in-Some.dd.now.kind) c.is_more-in-Some.result c.is_more-in-Some.ensures c.requires.ready
           (more_of c.loop-dd.rest.now c.in-Some.behind.now c.in-Some.dd.now is) is (needed_by c.loop-dd.rest.now c.in-Some.behind.now c.in-Some.dd.now is)
           c.loop-dd.invariant.so c.write_dd-here.ensures.value;
+      days = All-rest (λ (dd : DdPlan). HoldsKind c.args.layout.now dd.kind) c.in-Some.dd.now c.in-Some.behind.now c.loop-dd.rest.now is
+          c.loop-dd.invariant.days;
       room = c.write_dd-here.ensures.room ∙ c.loop-dd.invariant.room;
     }
 
@@ -77,3 +80,9 @@ returns-clause-value g c =
     ends c.args.job dds_needed (DdsFrom c.args.layout.now c.args.job) c.args.dds.now (g.S.RecordStore.queue c.args.store.now) c.take_if-first.result
     (g.S.RecordStore.queue c.loop-dd.store) c.loop-dd.here c.loop-dd.rest.now over refl c.take_if-first.ensures.value.most
     (λ later. ((refl, refl), All-nil (λ n. IsFresh c.args.layout.now (later.at n)))) c.loop-dd.invariant.so
+
+pub write_dd-here-requires-clause-days : goal.write_dd-here-requires-clause-days
+write_dd-here-requires-clause-days g c =
+    All-head (λ (dd : DdPlan). HoldsKind c.args.layout.now dd.kind) c.in-Some.dd.now c.in-Some.behind.now
+    (All-same (λ (dd : DdPlan). HoldsKind c.args.layout.now dd.kind) (c.in-Some.dd.now ∷ c.in-Some.behind.now) c.loop-dd.rest.now
+    (sym c.in-Some.ensures.cases.0) c.loop-dd.invariant.days)

@@ -7,7 +7,7 @@ use Rattle.std.proofs.lemmas.List.Elements.{All-head, All-nil, All-rest, All-sam
 use Rattle.cb_meaning.specs.Writable.{most_dds}
 use Rattle.cb_chain.specs.Taking.{dds_needed, is_more, StepsFrom, steps_needed}
 use Rattle.cb_chain.proofs.Among.{true_not_false}
-use Rattle.cb_chain.specs.Written.{IsFresh}
+use Rattle.cb_chain.specs.Written.{HoldsDds, IsFresh}
 use Rattle.cb_chain.proofs.SoFar.{begins, ends, goes_on, ready_now, room_now}
 use Rattle.cb_chain.proofs.steps.write_steps.Goals as goal
 
@@ -33,6 +33,7 @@ loop-step-init g c =
           c.take_if-first.result
           (g.S.RecordStore.queue c.take_if-first.new.store) c.is_more.result c.is_more.ensures c.take_if-first.ensures.value;
       few = c.requires.few;
+      days = c.requires.days;
       room = c.take_if-first.ensures.room;
     }
 
@@ -77,6 +78,8 @@ loop-step-preserved g c =
           c.loop-step.invariant.so c.write_step-here.ensures.value;
       few = All-rest (λ (step : StepPlan). length step.dds ≤ most_dds) c.in-Some.step.now c.in-Some.behind.now c.loop-step.rest.now is
           c.loop-step.invariant.few;
+      days = All-rest (λ (step : StepPlan). HoldsDds c.args.layout.now step.dds) c.in-Some.step.now c.in-Some.behind.now c.loop-step.rest.now is
+          c.loop-step.invariant.days;
       room = c.write_step-here.ensures.room ∙ c.loop-step.invariant.room;
     }
 
@@ -93,3 +96,9 @@ write_step-here-requires-clause-few g c =
     All-head (λ (step : StepPlan). length step.dds ≤ most_dds) c.in-Some.step.now c.in-Some.behind.now
     (All-same (λ (step : StepPlan). length step.dds ≤ most_dds) (c.in-Some.step.now ∷ c.in-Some.behind.now) c.loop-step.rest.now (sym c.in-Some.ensures.cases.0)
     c.loop-step.invariant.few)
+
+pub write_step-here-requires-clause-days : goal.write_step-here-requires-clause-days
+write_step-here-requires-clause-days g c =
+    All-head (λ (step : StepPlan). HoldsDds c.args.layout.now step.dds) c.in-Some.step.now c.in-Some.behind.now
+    (All-same (λ (step : StepPlan). HoldsDds c.args.layout.now step.dds) (c.in-Some.step.now ∷ c.in-Some.behind.now) c.loop-step.rest.now
+    (sym c.in-Some.ensures.cases.0) c.loop-step.invariant.days)

@@ -1,8 +1,10 @@
 use Rattle.std.proofs.Common.{◌≤◌, List, [], ◌∷◌, length, false, ◌∙◌, sym, subst}
 use Rattle.std.proofs.lemmas.List.Elements.{All-same}
 use Rattle.jcl_plan.specs.declared.plan.StepPlan.{StepPlan}
+use Rattle.cb_meaning.specs.declared.layout.Layout.{Layout}
 use Rattle.cb_meaning.specs.Writable.{most_dds}
 use Rattle.cb_chain.specs.Taking.{IsTaken, Writes, OfSteps, steps_needed}
+use Rattle.cb_chain.specs.Written.{HoldsDds, HoldsSteps}
 use Rattle.cb_chain.proofs.Linked.{its_owner, none_after, used}
 use Rattle.cb_chain.proofs.Whole.{few_dds, written}
 use Rattle.cb_chain.proofs.write.write_from.Goals as goal
@@ -12,6 +14,12 @@ write_steps-first_step-requires-clause-few g c =
     let steps = c.args.plan.now.steps in
     All-same (λ (step : StepPlan). length step.dds ≤ most_dds) c.as_slice.result.now steps c.as_slice.ensures
     (few_dds c.requires.writable.0 steps 1 steps c.requires.writable.1.steps)
+
+pub write_steps-first_step-requires-clause-days : goal.write_steps-first_step-requires-clause-days
+write_steps-first_step-requires-clause-days g c =
+    let steps = c.args.plan.now.steps in
+    let holds : HoldsSteps c.layout.result.now steps = subst (λ (l : Layout). HoldsSteps l steps) (sym c.layout.ensures.value) c.requires.days in
+    All-same (λ (step : StepPlan). HoldsDds c.layout.result.now step.dds) c.as_slice.result.now steps c.as_slice.ensures holds
 
 pub put-requires-clause-used : goal.put-requires-clause-used
 put-requires-clause-used g c =

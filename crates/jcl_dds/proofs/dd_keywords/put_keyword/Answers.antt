@@ -8,7 +8,8 @@ use Rattle.value_core.specs.Spaces.{space}
 use Rattle.value_core.specs.Units.{unit}
 use Rattle.value_core.specs.VolumeNames.{volume_name}
 use Rattle.jcl_cards.specs.Keywords.{coded_in}
-use Rattle.jcl_dds.specs.DdCards.{any_text, dd_name, is_key, label, left_out_on_dd, sysout}
+use Rattle.jcl_dds.specs.DdCards.{any_text, dd_name, is_key, left_out_on_dd, sysout}
+use Rattle.value_core.specs.Labels.{label}
 use Rattle.jcl_dds.specs.DdKeys.{dd_key}
 use Rattle.jcl_dds.proofs.DdKeywords.{on_ok}
 use Rattle.jcl_dds.proofs.DdKeys.{at_key, at_other, coding_at, put_at, spells_as}

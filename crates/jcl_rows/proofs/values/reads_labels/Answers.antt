@@ -5,6 +5,11 @@ pub returns : goal.returns
 returns c = record {
   day = refl;
   last_day_of_1900 = refl;
+  no_leap_day_in_1900 = refl;
+  leap_day = refl;
+  last_of_all = refl;
+  past_the_last = refl;
+  before_the_first = refl;
   no_day_kept = refl;
   longest_period = refl;
   of_five_places = refl;

@@ -14,7 +14,7 @@ invariant_of-result g c =
       fits = subst FitsRecord (sym c.layout-layout.ensures.value) own.fits;
     }
 
-pub returns : goal.returns
-returns g c =
+pub returns-clause-fields : goal.returns-clause-fields
+returns-clause-fields g c =
     let q = g.S.RecordStore.queue c.args.store.now in
     jfcb_seen q.layout ((shown q).at c.args.n) c.in-Some.bytes.now (lent_differs q c.args.n c.in-Some.bytes.now c.in-Some.ensures) c.requires.own.jfcb

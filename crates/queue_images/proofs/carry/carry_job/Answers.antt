@@ -3,7 +3,8 @@ use Rattle.cb_meaning.specs.declared.layout.Layout.{Layout}
 use Rattle.cb_meaning.specs.declared.layout.TheConstants.{LAYOUT_1, LAYOUT_2}
 use Rattle.cb_meaning.specs.Layouts.{HasOwnFields}
 use Rattle.cb_meaning.specs.Writable.{IsWritable}
-use Rattle.cb_chain.specs.Written.{HoldsJobs}
+use Rattle.cb_chain.specs.Written.{HasDays, HoldsJobs}
+use Rattle.cb_chain.proofs.DaysHeld.{days_held}
 use Rattle.queued_job.specs.Reads.{IsRead}
 use Rattle.queue_images.specs.Images.{records_in}
 use Rattle.queue_images.proofs.Standing.{denotes_image, fault_same}
@@ -26,6 +27,14 @@ write_anew-requires-clause-writable g c =
       c.args.units,
       allows old.layout.most_steps new.layout.most_steps c.args.units c.in-Plan.plan (omega (arith, read.1.in_range.few_steps, few, most)) read.1.in_range,
     )
+
+pub write_anew-requires-clause-days : goal.write_anew-requires-clause-days
+write_anew-requires-clause-days g c =
+    let old = g.R.RecordStore.queue c.args.old.now in
+    let new = g.S.RecordStore.queue c.args.new.now in
+    let read = subst (IsRead old c.args.units c.args.w.job c.args.w.jct) c.in-Plan.is c.in_ok-fault.ensures in
+    days_held new.layout (subst HasDays (sym c.requires.layout) c.the_layouts_hold_jobs.ensures.days) old.layout.most_steps c.args.units c.in-Plan.plan
+    read.1.in_range
 
 pub returns-in-Broken : goal.returns-in-Broken
 returns-in-Broken g c = λ image loaded.

@@ -1,13 +1,14 @@
 use Rattle.std.proofs.Common.{◌∙◌, refl, sym, subst}
 use Rattle.jcl_job.specs.Jobs.{job_of}
 use Rattle.world_meaning.specs.Devices.{Writes}
+use Rattle.world_meaning.specs.Displays.{SetsDate}
 use Rattle.world_meaning.specs.Readings.{Reads}
 use Rattle.world_meaning.specs.Transitions.{Does, Shows}
 use Rattle.world_meaning.specs.Zaps.{ZapsRecord}
 use Rattle.sched_core.specs.Events.{Answers, DoesSo, RefusesFirst}
 use Rattle.sched_core.specs.Machines.{config_in, world_in}
 use Rattle.sched_core.specs.Systems.{meant_by}
-use Rattle.sched_core.proofs.Happened.{never_so, shows_never, so_answers, writes_never}
+use Rattle.sched_core.proofs.Happened.{dates_never, never_so, shows_never, so_answers, writes_never}
 use Rattle.sched_core.proofs.Followed.{on_ok, same_extents}
 use Rattle.sched_core.proofs.happening.happen.Goals as goal
 
@@ -190,3 +191,29 @@ returns-in-Zap-clause-done g c =
       fit = c.zap.ensures.done.fit;
       same = c.zap.ensures.done.same;
     }
+
+pub returns-in-Date-clause-done : goal.returns-in-Date-clause-done
+returns-in-Date-clause-done g c = record {
+  answer =
+      let queue_of = g.Q.RecordStore.queue in
+      let s = c.args.state.now in
+      let config = config_in queue_of c.args.profile.now s in
+      let job = job_of c.args.units.now c.args.library.now in
+      let w = world_in queue_of config s in
+      subst (λ e. Answers c.set_date.result w (world_in queue_of config c.set_date.new.state) (DoesSo s.parts.store job w (meant_by e))) (sym c.in-Date.is)
+      (so_answers c.set_date.result w (world_in queue_of config c.set_date.new.state) _ _ (λ lines v d. (d, tt)) c.set_date.ensures.done.answer);
+  fit = c.set_date.ensures.done.fit;
+  same = c.set_date.ensures.done.same;
+}
+
+pub returns-in-Date-clause-refusal : goal.returns-in-Date-clause-refusal
+returns-in-Date-clause-refusal g c =
+    let queue_of = g.Q.RecordStore.queue in
+    let s = c.args.state.now in
+    let config = config_in queue_of c.args.profile.now s in
+    let job = job_of c.args.units.now c.args.library.now in
+    let w = world_in queue_of config s in
+    subst (λ e. RefusesFirst c.set_date.result (Does job w (meant_by e))) (sym c.in-Date.is) (never_so (SetsDate w c.in-Date.day) c.set_date.result (dates_never w c.in-Date.day))
+
+pub returns-in-Date-clause-extents : goal.returns-in-Date-clause-extents
+returns-in-Date-clause-extents g c = on_ok c.set_date.result (same_extents c.args.state.now.parts.store c.set_date.new.state.parts.store c.set_date.ensures.store)

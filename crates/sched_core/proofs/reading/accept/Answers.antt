@@ -1,4 +1,7 @@
-use Rattle.std.proofs.Common.{◌+◌, refl}
+use Rattle.std.proofs.Common.{◌+◌, length, refl, subst, sym}
+use Rattle.cb_chain.specs.Written.{HasDays}
+use Rattle.cb_chain.proofs.DaysHeld.{days_held}
+use Rattle.jcl_refs.specs.Plans.{most_steps}
 use Rattle.sched_core.specs.Machines.{config_in}
 use Rattle.sched_core.specs.Systems.{parts_of}
 use Rattle.sched_core.proofs.Entered.{fit, leads, listed_before, queued_before}
@@ -14,6 +17,12 @@ pub take_in-requires-clause-listed : goal.take_in-requires-clause-listed
 take_in-requires-clause-listed g c =
     let s = c.args.state.now in
     listed_before g.Q.RecordStore.queue (config_in g.Q.RecordStore.queue c.args.profile.now s) s c.requires.kept c.requires.few
+
+pub take_in-requires-clause-days : goal.take_in-requires-clause-days
+take_in-requires-clause-days g c =
+    let layout = (g.Q.RecordStore.queue c.args.state.now.parts.queue).layout in
+    days_held layout (subst HasDays (sym c.requires.kept.fit.good.layout) c.requires.kept.fit.days) most_steps (length c.args.profile.now.units.now)
+    c.args.plan.now c.requires.writable
 
 pub returns-in-Ok-clause-done : goal.returns-in-Ok-clause-done
 returns-in-Ok-clause-done g c = record {

@@ -125,6 +125,15 @@ index-requires c =
     let whole = c.self.inside.records.ok.0 in
     omega (arith, at.0, at.1, room, whole)
 
+pub index_mut-requires : goal.index_mut-requires
+index_mut-requires c =
+    let is = lent_found c.self.inside.owners.items c.deref.result.now c.self.inside.spots.items c.deref-2.result.now c.args.job c.in-Some.found c.deref.ensures.value c.deref-2.ensures.value
+    c.in-Some.ensures.some in
+    let stands = place_there (tables_of c.self.inside) c.self.invariant.tables c.self.inside.spots.items c.self.invariant.noted c.args.job c.in-Some.found is
+    c.from-place.result c.from-place.ensures c.index-chain.result.now c.index-chain.ensures in
+    let whole = c.self.inside.chains.ok.0 in
+    omega (arith, stands, whole)
+
 pub relink_before-requires-clause-there : goal.relink_before-requires-clause-there
 relink_before-requires-clause-there c =
     let is = lent_found c.self.inside.owners.items c.deref.result.now c.self.inside.spots.items c.deref-2.result.now c.args.job c.in-Some.found c.deref.ensures.value c.deref-2.ensures.value

@@ -27,7 +27,8 @@ returns-then-is_set g c =
     let n = siot_at q c.args.self.now.jct c.args.step c.args.dd in
     let same = (λ i. fields_of_siot (c.siot-siot.ensures.layout i) c.siot-siot.result.bytes.now) ∙ c.siot-siot.ensures.fields in
     let one = sym (ap (λ (f : SiotFields). f.kind) same) ∙ eqb-true (byte_at c.siot-siot.result.bytes.now 12) 1 (sym c.is_set.ensures ∙ c.if-is_set.true) in
-    let jfcb_same = c.jfcb.ensures ∙ ap (λ (f : SiotFields). fields_of_jfcb ((shown q).at f.below)) same in
+    let jfcb_same = (λ i. fields_of_jfcb (c.jfcb.ensures.layout i) c.jfcb.result.bytes.now) ∙ c.jfcb.ensures.fields
+    ∙ ap (λ (f : SiotFields). fields_of_jfcb q.layout ((shown q).at f.below)) same in
     c.set_passes.ensures ∙ (λ i. set_passes (same i) (jfcb_same i)) ∙ sym (set_passes_is q.layout (shown q) ((shown q).at n) one)
     ∙ sym (ap (λ (d : DdPlan). passes d.kind) there.is)
 

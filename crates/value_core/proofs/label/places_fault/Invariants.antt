@@ -4,7 +4,7 @@ use Rattle.operand_core.specs.Faults.{earlier, told}
 use Rattle.operand_core.specs.Operands.{keyword_of}
 use Rattle.operand_core.specs.Subparameters.{subparameters_of}
 use Rattle.value_core.specs.Labels.{place_faults}
-use Rattle.value_core.proofs.label_fault.places_fault.Given as goal
+use Rattle.value_core.proofs.label.places_fault.Given as goal
 
 abbrev pub invariant-loop-place : goal.invariant-loop-place
 invariant-loop-place l =

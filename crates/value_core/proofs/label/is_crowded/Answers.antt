@@ -1,7 +1,7 @@
 use Rattle.std.proofs.Common.{true, ◌∷◌, sym, ap, ◌∙◌, ◌≡◌}
 use Rattle.operand_core.specs.Operands.{is_positional}
 use Rattle.value_core.proofs.Crowded.{crowded_more, crowded_with, positional_from}
-use Rattle.value_core.proofs.label_fault.is_crowded.Goals as goal
+use Rattle.value_core.proofs.label.is_crowded.Goals as goal
 
 pub loop-place-preserved : goal.loop-place-preserved
 loop-place-preserved c =

@@ -5,7 +5,7 @@ use Rattle.operand_core.specs.Faults.{earlier, told}
 use Rattle.operand_core.specs.Operands.{keyword_of}
 use Rattle.value_core.specs.Labels.{place_faults}
 use Rattle.value_core.proofs.OneByOne.{told_one_more}
-use Rattle.value_core.proofs.label_fault.places_fault.Goals as goal
+use Rattle.value_core.proofs.label.places_fault.Goals as goal
 
 pub loop-place-preserved : goal.loop-place-preserved
 loop-place-preserved c =

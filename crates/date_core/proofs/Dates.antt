@@ -1,7 +1,7 @@
 -- Each day is a day of some year.
 use Rattle.std.proofs.Common.{◌≡◌, ◌≤◌, ◌<◌, ◌+◌, ◌⊎◌, inl, inr, ℕ, zero, suc, Bool, true, false, cond, arith, refl, subst}
 use Rattle.std.proofs.lemmas.Bool.{cases_lt, cases_order}
-use Rattle.world_meaning.specs.Displays.{IsDate, days_before, days_in, is_leap}
+use Rattle.date_core.specs.Dates.{IsDate, days_before, days_in, is_leap}
 
 pub record Dated (day : ℕ) : Type 0 where
   pub years : ℕ
@@ -41,7 +41,7 @@ dated zero = record { years = 0; of_year = 1; is = record { within = (omega arit
 dated (suc day) = let d : Dated day = dated day in next day d (cases_lt d.of_year (days_in (1900 + d.years)))
 
 -- a day has one date
-earlier : (years more : ℕ) → years < more → days_before years + days_in (1900 + years) ≤ days_before more
+pub earlier : (years more : ℕ) → years < more → days_before years + days_in (1900 + years) ≤ days_before more
 earlier years zero less = absurd (omega (arith, less))
 earlier years (suc more) less = by_order (earlier years more) (cases_order years more)
   where

@@ -2,7 +2,7 @@ use Rattle.std.proofs.Common.{◌≡◌, take}
 use Rattle.std.specs.List.{All}
 use Rattle.place_core.specs.Vain.{AreVain}
 use Rattle.place_core.proofs.Choosing.{LacksRoom}
-use Rattle.place_core.proofs.aside.aside_among.Given as goal
+use Rattle.place_core.proofs.aside.aside_on_other.Given as goal
 
 abbrev pub invariant-loop-serial : goal.invariant-loop-serial
 invariant-loop-serial l = record {

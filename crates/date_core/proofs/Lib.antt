@@ -1,0 +1,3 @@
+pub mod Bridge
+pub mod Dates
+pub mod Numbered
