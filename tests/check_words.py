@@ -36,6 +36,8 @@ EXPLAINS = {
     "F2": {"makes it", "receives it", "keeps it", "keeps it, since it has not expired", "passes it", "catalogs it"},
     "F3": {"catalogs it"},
 }
+# When a set expires that stays: a day that the deck codes, or days.
+EXPIRES = re.compile(r"since it expires (?:on (\d{4})/(\d{3})|(\d+) days? after the job's date)")
 CONFIGURATION = {"VOLUME", "UNIT", "GROUP", "SET", "PROC", "PROGRAM", "INIT"}
 RISK = re.compile(r"^line \d+: job (\d+) (\S+) (?:is at RISK|fails): (.*)$")
 OTHER = re.compile(r"^line \d+: job (\d+) (\S+) is ASSURED: ")
@@ -114,6 +116,7 @@ def deeds_of(path, names, who):
 
 def check_deed(said, fault, path, names):
     """What happened last is on the path, and explains the fault."""
+    said = EXPIRES.sub("since it has not expired", said)
     found = re.match(r"; (.+?) (%s)(?: on (\S+))?$" % "|".join(sorted(DEEDS, key=len, reverse=True)), said)
     if not found:
         return "what happened last is not understood: %r" % said
@@ -274,6 +277,16 @@ def check_fault(mvt, text, told):
     return None
 
 
+def check_expiry(text, line):
+    """When a set is told to expire, a card says so."""
+    found = EXPIRES.search(line)
+    if not found:
+        return None
+    year, day, days = found.groups()
+    coded = r"RETPD=0*%s\b" % days if days else r"EXPDT=(%s/%s|%s%s)\b" % (year, day, year[2:] if year.startswith("19") else "none", day)
+    return None if re.search(coded, text) else "no card says so"
+
+
 def check_session(programs, path):
     """What contradicts in a session, and what was looked at."""
     check, play, mvt = programs
@@ -291,6 +304,8 @@ def check_session(programs, path):
     listing, _ = run(play, text.encode("latin-1"), "--explain")
     answers, job, trial = answers_in(listing), None, False
     for line in told.split("\n"):
+        count["days of expiry"] += bool(EXPIRES.search(line))
+        note(check_expiry(text, line), line)
         found = RISK.match(line)
         if found:
             job = int(found[1])
