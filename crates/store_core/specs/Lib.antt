@@ -1,4 +1,5 @@
 pub mod Actions
 pub mod Entered
 pub mod EnteredNumbers
+pub mod Expiries
 pub mod Places

@@ -4,6 +4,7 @@
 
 pub mod alone;
 pub mod disposition;
+pub mod expiry;
 pub mod job_store;
 pub mod laws;
 pub mod meanings;

@@ -71,7 +71,7 @@ fn relative<S: HasGroups>(store: &S, base: &DsName, sign: Sign, amount: u8) -> R
 }
 
 /// What a key means.
-fn resolution_of<S: HasGroups>(store: &S, key: &Key) -> Resolution
+pub(crate) fn resolution_of<S: HasGroups>(store: &S, key: &Key) -> Resolution
     ensures { result ≡ resolution_of (S.shown store.now) key.now }
 {
     match key {
