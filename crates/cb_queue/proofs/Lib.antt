@@ -1,5 +1,6 @@
 pub mod Changing
 pub mod Given
+pub mod LastInUse
 pub mod Lent
 pub mod Parts
 pub mod Storing

@@ -1,5 +1,5 @@
 -- What a store of records means. A record in use is seen by its bytes with a link of zeros: what stands in a link is the store's own. (This profile)
-use Rattle.std.specs.Prelude.{◌≡◌, ◌≢◌, ℕ, zero, suc, ◌+◌, ◌≤◌, ◌<◌, ◌==◌, true, List, [], ◌∷◌, ◌++◌, length, map, replicate, slice_get, slice_index_or, slice_set, Option, None, Some, IfSome, All, is_none, if◌then◌else◌}
+use Rattle.std.specs.Prelude.{◌≡◌, ◌≢◌, ℕ, zero, suc, ◌+◌, ◌≤◌, ◌<◌, ◌==◌, Bool, true, List, [], ◌∷◌, ◌++◌, length, map, replicate, slice_get, slice_index_or, slice_set, Option, None, Some, IfSome, All, is_none, is_some, if◌then◌else◌}
 use Rattle.std.specs.Option.{option_map}
 use Rattle.cb_meaning.specs.declared.layout.Layout.{Layout}
 use Rattle.cb_meaning.specs.declared.layout.TheConstants.{RECORD_BYTES}
@@ -33,6 +33,15 @@ owner_in (Some r) = number_at r (field 2 2)
 
 abbrev pub owner_at : RecordQueue → ℕ → ℕ
 owner_at q n = owner_in (record_at q n)
+
+-- the number of the last record that is in use, 0 where none is
+abbrev pub last_behind : ℕ → Bool → ℕ
+last_behind zero used = if used then 1 else 0
+last_behind (suc n) used = suc (suc n)
+
+abbrev pub last_in_use : List (Option (List ℕ)) → ℕ
+last_in_use [] = 0
+last_in_use (r ∷ rest) = last_behind (last_in_use rest) (is_some r)
 
 -- none of the records behind one number, up to another, is an owner's
 abbrev pub HasNoneBetween : RecordQueue → ℕ → ℕ → ℕ → Type 0

@@ -191,6 +191,10 @@ impl RecordStore for ListStore {
         are_bytes(rec);
     }
 
+    fn last_in_use(&self) -> u32 {
+        self.layout.most_records
+    }
+
     fn free_count(&self) -> u32 {
         self.free_count
     }

@@ -2,7 +2,7 @@
 ghost use Rattle.std.specs.Prelude.{◌≡◌, ◌≢◌, ℕ, ◌+◌, ◌<◌, ◌≤◌, ◌==◌, ◌++◌, ◌∷◌, [], Some, All, IfNone, IfSome, IsSome, OnErr, OnOk, filter, length, not};
 ghost use Rattle.std.specs.Option.{option_copied};
 ghost use Rattle.cb_meaning.specs.Fields.{field, number_at};
-ghost use Rattle.cb_queue.specs.RecordQueues.{IsLent, IsQueued, IsSoundQueue, RecordQueue, all_given_back, given_back, next_free, owner_at, record_at, taken, unlinked, with_record_at, with_status};
+ghost use Rattle.cb_queue.specs.RecordQueues.{IsLent, IsQueued, IsSoundQueue, RecordQueue, all_given_back, given_back, last_in_use, next_free, owner_at, record_at, taken, unlinked, with_record_at, with_status};
 ghost use Rattle.queue_core.specs.Queues.{HasNoneOf, IsFirstOf, IsJobOf};
 
 use cb_meaning::layout::Layout;
@@ -39,6 +39,10 @@ pub trait RecordStore {
         requires { IsSome (record_at (queue self.old) n) }
         ensures value { queue self.new ≡ with_status (queue self.old) n status.now }
         ensures room { lacking self.new ≡ lacking self.old };
+
+    /// A number behind which no record is in use.
+    fn last_in_use(&self) -> u32
+        ensures { last_in_use (queue self.now).records ≤ result };
 
     /// How many records are free.
     fn free_count(&self) -> u32

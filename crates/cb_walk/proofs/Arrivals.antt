@@ -1,9 +1,9 @@
 -- What is lent of a record, and arriving at it.
-use Rattle.std.proofs.Common.{◌≡◌, ℕ, ◌+◌, ◌-◌, ◌<◌, ◌≤◌, ◌≢◌, ◌==◌, ◌||◌, not, Bool, true, false, cond, List, ◌∷◌, length}
+use Rattle.std.proofs.Common.{◌≡◌, ℕ, zero, suc, ◌+◌, ◌-◌, ◌<◌, ◌≤◌, ◌≢◌, ◌==◌, ◌||◌, not, Bool, true, false, cond, List, ◌∷◌, length}
 use Rattle.std.proofs.Common.{drop, get_or, replicate, Option, Some, None, refl}
 use Rattle.std.proofs.Common.{sym, ap, subst, ◌∙◌, arith, inl, inr}
 use Rattle.std.specs.Prelude.{nat_lt, if◌then◌else◌, is_none, IfSome}
-use Rattle.std.proofs.lemmas.Bool.{cases_Bool, and_parts, leb-true, ltb-true, ltb-false, or_parts}
+use Rattle.std.proofs.lemmas.Bool.{cases_Bool, and_parts, leb-true, ltb-true, ltb-false, ne_eqb, or_parts}
 use Rattle.std.proofs.lemmas.Grind.{same_number_lists}
 use Rattle.std.proofs.lemmas.List.{get_or-drop, get_or-replicate, get_or-take}
 use Rattle.std.proofs.lemmas.Bool.Decides.{eqb_tells}
@@ -11,7 +11,8 @@ use Rattle.cb_meaning.specs.declared.layout.Layout.{Layout}
 use Rattle.cb_meaning.specs.Fields.{byte_at, field, is_in, number_at, part}
 use Rattle.cb_meaning.specs.Walks.{arrival_fault, is_free, kind_of, owner_of}
 use Rattle.cb_records.specs.Writes.{ChangesOnly}
-use Rattle.cb_queue.specs.RecordQueues.{IsInUse, IsLent, IsSoundQueue, RecordQueue, bytes_or_zeros, record_at, shown}
+use Rattle.cb_queue.specs.RecordQueues.{IsInUse, IsLent, IsSoundQueue, RecordQueue, bytes_or_zeros, last_in_use, record_at, shown}
+use Rattle.cb_queue.proofs.LastInUse.{in_use_within}
 use Rattle.cb_walk.specs.Marks.{AreMarked, arrival_told, is_marked, is_met}
 
 -- zeros in a link that was changed alone give the record back
@@ -59,8 +60,8 @@ marked_more old new seen n here others marked m =
 -- what is 0 of zeros is seen as 0 of a free record
 zero_seen : (f : List ℕ → ℕ) → f (bytes_or_zeros None) ≡ 0 → (o : Option (List ℕ)) (b : Bool) → b ≡ is_none o →
     cond b 0 (f (bytes_or_zeros o)) ≡ f (bytes_or_zeros o)
-zero_seen f zero None b e = ap (λ x. cond x 0 (f (bytes_or_zeros None))) e ∙ sym zero
-zero_seen f zero (Some r) b e = ap (λ x. cond x 0 (f r)) e
+zero_seen f none None b e = ap (λ x. cond x 0 (f (bytes_or_zeros None))) e ∙ sym none
+zero_seen f none (Some r) b e = ap (λ x. cond x 0 (f r)) e
 
 abbrev told_with : ℕ → ℕ → Bool → ℕ → ℕ → Bool → Option ℕ
 told_with job kind bad k owner met =
@@ -98,3 +99,21 @@ told_is q sound job kind n seen met same =
       owners = zero_seen (λ x. number_at x (field 2 2)) refl (record_at q n) (is_free (shown q) n) free;
       met = sym (same high);
     })
+
+-- a record at which a job arrives is in use
+told_of_none : (bad same : Bool) (rest : Option ℕ) → same ≡ false → (if bad then Some 1 else (if not same then Some 2 else rest)) ≡ None → ⊥
+told_of_none true same rest other h = absurd cc
+told_of_none false true rest other h = absurd cc
+told_of_none false false rest other h = absurd cc
+
+used_by : (q : RecordQueue) (l : Layout) (job kind k : ℕ) (met : Bool) (o : Option (List ℕ)) → get_or q.records k None ≡ o → kind ≢ 0 →
+    arrival_told l (bytes_or_zeros o) job kind met (suc k) ≡ None → suc k ≤ last_in_use q.records
+used_by q l job kind k met None is some told =
+    absurd (told_of_none (nat_lt (suc k) 1 || nat_lt l.most_records (suc k)) (0 == kind) _ (ne_eqb 0 kind (λ e. some (sym e))) told)
+used_by q l job kind k met (Some r) is some told = in_use_within q.records k r is
+
+pub is_used : (q : RecordQueue) (l : Layout) (job kind n : ℕ) (met : Bool) (room : ℕ) → kind ≢ 0 →
+    arrival_told l (bytes_or_zeros (record_at q n)) job kind met n ≡ None → last_in_use q.records < room → n < room
+is_used q l job kind zero met room some told last = absurd cc
+is_used q l job kind (suc k) met room some told last =
+    let used = used_by q l job kind k met (get_or q.records k None) refl some told in omega (arith, used, last)

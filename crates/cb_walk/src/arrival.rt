@@ -1,7 +1,7 @@
 //! Arriving at a record: its number, its kind, its owner, and whether it was met.
-ghost use Rattle.std.specs.Prelude.{◌≡◌, ◌*◌, ◌<◌, List, ℕ, length, replicate};
+ghost use Rattle.std.specs.Prelude.{◌≡◌, ◌≢◌, ◌*◌, ◌<◌, List, ℕ, length, replicate};
 ghost use Rattle.cb_meaning.specs.Fields.{part};
-ghost use Rattle.cb_queue.specs.RecordQueues.{bytes_or_zeros, record_at};
+ghost use Rattle.cb_queue.specs.RecordQueues.{bytes_or_zeros, last_in_use, record_at};
 ghost use Rattle.cb_records.specs.Writes.{ChangesOnly, HoldsNumber};
 ghost use Rattle.cb_walk.specs.Marks.{AreMarked, Arrives, arrival_told};
 
@@ -59,7 +59,8 @@ pub(crate) fn arrive<S: RecordStore>(
     n: u32,
     own: &mut Rec,
 ) -> Result<(), u8>
-    requires { (S.queue store.now).layout.most_records < 64 * length marks.old }
+    requires kind { kind ≢ 0 }
+    requires marks { last_in_use (S.queue store.now).records < 64 * length marks.old }
     ensures { (seen : List ℕ) → AreMarked marks.old seen → Arrives (S.queue store.now) job kind seen n marks.new own.new result }
 {
     let layout = store.layout();

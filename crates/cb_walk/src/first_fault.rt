@@ -1,7 +1,7 @@
 //! The first fault of a job's records.
 ghost use Rattle.std.specs.Prelude.{◌≡◌, ◌<◌, ◌*◌, [], IfOk, length};
 ghost use Rattle.cb_meaning.specs.Walks.{first_fault};
-ghost use Rattle.cb_queue.specs.RecordQueues.{shown};
+ghost use Rattle.cb_queue.specs.RecordQueues.{last_in_use, shown};
 ghost use Rattle.cb_walk.specs.Jobs.{Tells};
 ghost use Rattle.cb_walk.specs.Marks.{AreMarked};
 
@@ -22,7 +22,7 @@ fn walk_job<S: RecordStore>(
     job: u16,
     n: u32,
 ) -> Result<Option<u8>, AllocError>
-    requires marks { (S.queue store.now).layout.most_records < 64 * length marks.old }
+    requires marks { last_in_use (S.queue store.now).records < 64 * length marks.old }
     requires none { AreMarked marks.old [] }
     ensures { IfOk result (Tells (S.queue store.now) units job n) }
 {
@@ -57,6 +57,6 @@ pub fn first_fault<S: RecordStore>(
 ) -> Result<Option<u8>, AllocError>
     ensures { IfOk result (λ fault. fault ≡ first_fault (S.queue store.now).layout units (shown (S.queue store.now)) job n) }
 {
-    let mut marks = no_marks(alloc, store.layout().most_records)?;
+    let mut marks = no_marks(alloc, store.last_in_use())?;
     walk_job(alloc, store, marks.as_mut_slice(), units, job, n)
 }

@@ -1,5 +1,6 @@
 //! What stands below an SIOT: the JFCB of a set, or cards.
 ghost use Rattle.std.specs.Prelude.{◌≡◌, ◌<◌, ◌*◌, length};
+ghost use Rattle.cb_queue.specs.RecordQueues.{last_in_use};
 ghost use Rattle.cb_walk.specs.Below.{below_from, jfcb_from};
 ghost use Rattle.cb_walk.specs.Follows.{Ends};
 
@@ -21,7 +22,7 @@ fn walk_jfcb<S: RecordStore>(
     siot: &Rec,
     n: u32,
 ) -> Result<(), u8>
-    requires { (S.queue store.now).layout.most_records < 64 * length marks.old }
+    requires { last_in_use (S.queue store.now).records < 64 * length marks.old }
     ensures { Ends marks.old marks.new (jfcb_from (S.queue store.now) job steps.now dds.now siot.now n) result }
 {
     let layout = store.layout();
@@ -46,7 +47,7 @@ pub(crate) fn walk_below<S: RecordStore>(
     dds: &[bool],
     siot: &Rec,
 ) -> Result<(), u8>
-    requires { (S.queue store.now).layout.most_records < 64 * length marks.old }
+    requires { last_in_use (S.queue store.now).records < 64 * length marks.old }
     ensures { Ends marks.old marks.new (below_from (S.queue store.now) job fuel steps.now dds.now siot.now) result }
 {
     let layout = store.layout();

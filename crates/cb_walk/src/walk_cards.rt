@@ -1,5 +1,6 @@
 //! The walk over the records of a DD's cards.
 ghost use Rattle.std.specs.Prelude.{◌≡◌, ◌<◌, ◌*◌, ◌≢◌, ◌≤◌, length};
+ghost use Rattle.cb_queue.specs.RecordQueues.{last_in_use};
 ghost use Rattle.cb_walk.specs.Follows.{Ends, Passes, cards_from};
 
 use crate::arrival::arrive;
@@ -17,7 +18,7 @@ fn pass_cards<S: RecordStore>(
     read: u64,
     n: u32,
 ) -> Result<(u64, u32), u8>
-    requires marks { (S.queue store.now).layout.most_records < 64 * length marks.old }
+    requires marks { last_in_use (S.queue store.now).records < 64 * length marks.old }
     requires within { read ≤ stated }
     requires some { n ≢ 0 }
     ensures { Passes (S.queue store.now) job stated read n marks.old marks.new result }
@@ -48,7 +49,7 @@ pub(crate) fn walk_cards<S: RecordStore>(
     stated: u32,
     first: u32,
 ) -> Result<(), u8>
-    requires { (S.queue store.now).layout.most_records < 64 * length marks.old }
+    requires { last_in_use (S.queue store.now).records < 64 * length marks.old }
     ensures { Ends marks.old marks.new (cards_from (S.queue store.now) job fuel stated 0 first) result }
 {
     let mut n = first;

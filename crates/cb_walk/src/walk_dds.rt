@@ -1,5 +1,6 @@
 //! The walk over the DDs of a step.
 ghost use Rattle.std.specs.Prelude.{◌≡◌, ◌*◌, ◌≢◌, ◌<◌, [], IfOk, length};
+ghost use Rattle.cb_queue.specs.RecordQueues.{last_in_use};
 ghost use Rattle.cb_walk.specs.Dds.{EndsDds, PassesDd, dds_from};
 
 use crate::arrival::arrive;
@@ -23,7 +24,7 @@ fn pass_dd<S: RecordStore>(
     dds: &[bool],
     n: u32,
 ) -> Result<(bool, u32), u8>
-    requires marks { (S.queue store.now).layout.most_records < 64 * length marks.old }
+    requires marks { last_in_use (S.queue store.now).records < 64 * length marks.old }
     requires some { n ≢ 0 }
     requires left { 0 < left }
     ensures { PassesDd (S.queue store.now) units job left steps.now dds.now n marks.old marks.new result }
@@ -59,7 +60,7 @@ pub(crate) fn walk_dds<S: RecordStore>(
     steps: &[Listed<bool>],
     first: u32,
 ) -> Result<Result<Listed<bool>, u8>, AllocError>
-    requires { (S.queue store.now).layout.most_records < 64 * length marks.old }
+    requires { last_in_use (S.queue store.now).records < 64 * length marks.old }
     ensures { IfOk result (EndsDds marks.old marks.new (dds_from (S.queue store.now) units job fuel stated steps.now [] first)) }
 {
     let mut n = first;

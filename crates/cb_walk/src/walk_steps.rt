@@ -1,5 +1,6 @@
 //! The walk over the steps of a job.
 ghost use Rattle.std.specs.Prelude.{◌≡◌, ◌<◌, ◌*◌, ◌≢◌, ◌≤◌, [], IfOk, length};
+ghost use Rattle.cb_queue.specs.RecordQueues.{last_in_use};
 ghost use Rattle.cb_walk.specs.Follows.{Ends};
 ghost use Rattle.cb_walk.specs.Steps.{PassesStep, steps_from};
 
@@ -21,7 +22,7 @@ fn pass_step<S: RecordStore>(
     steps: &[Listed<bool>],
     n: u32,
 ) -> Result<Result<(Listed<bool>, u32), u8>, AllocError>
-    requires marks { (S.queue store.now).layout.most_records < 64 * length marks.old }
+    requires marks { last_in_use (S.queue store.now).records < 64 * length marks.old }
     requires few { length steps.now ≤ (S.queue store.now).layout.most_steps }
     requires some { n ≢ 0 }
     ensures { IfOk result (PassesStep (S.queue store.now) units job steps.now n marks.old marks.new) }
@@ -59,7 +60,7 @@ pub(crate) fn walk_steps<S: RecordStore>(
     stated: u32,
     first: u32,
 ) -> Result<Result<(), u8>, AllocError>
-    requires { (S.queue store.now).layout.most_records < 64 * length marks.old }
+    requires { last_in_use (S.queue store.now).records < 64 * length marks.old }
     ensures { IfOk result (Ends marks.old marks.new (steps_from (S.queue store.now) units job fuel stated [] first)) }
 {
     let mut n = first;

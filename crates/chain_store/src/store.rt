@@ -193,6 +193,10 @@ impl RecordStore for ChainStore {
         rewrite_status(&mut self.records, &self.layout, n, status);
     }
 
+    fn last_in_use(&self) -> u32 {
+        self.owners.len() as u32
+    }
+
     fn free_count(&self) -> u32 {
         self.free_count + (self.layout.most_records - self.reached)
     }
