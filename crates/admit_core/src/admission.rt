@@ -172,11 +172,11 @@ impl AdmittedJob {
         matches!(self, AdmittedJob::Assured(_))
     }
 
-    /// The job with its names, for which nothing is fixed any more.
-    pub fn into_named(self) -> NamedJob
-        ensures { result ≡ named_of self }
+    /// Its names, where nothing is fixed for it any more.
+    pub fn into_held(self) -> Held
+        ensures { result ≡ (named_of self).held }
     {
-        match self {
+        let named = match self {
             AdmittedJob::Assured(
                 AssuredJob {
                     named,
@@ -186,6 +186,8 @@ impl AdmittedJob {
                 },
             ) => named,
             AdmittedJob::Risky(RiskyJob { named, given: _ }) => named,
-        }
+        };
+        let NamedJob { plan: _, held } = named;
+        held
     }
 }

@@ -5,7 +5,7 @@ ghost use Rattle.place_core.specs.Keepings.{GivesBackAll};
 ghost use Rattle.shared_core.specs.Tracks.{ConservesTracks};
 ghost use Rattle.admit_core.specs.Admissions.{named_of};
 
-use crate::admission::{AdmittedJob, NamedJob};
+use crate::admission::AdmittedJob;
 use enq_core::table::EnqTable;
 use place_core::keep::give_all_back_for;
 use shared_core::laws::tracks_are_conserved;
@@ -23,6 +23,6 @@ pub fn end_job(store: &mut SharedStore, names: &mut EnqTable, number: u16, job: 
     volumes_add_up(&*store);
     give_all_back_for(store, number);
     volumes_add_up(&*store);
-    let NamedJob { plan: _, held } = job.into_named();
+    let held = job.into_held();
     names.release(held);
 }

@@ -14,7 +14,7 @@ ghost use Rattle.part_copy.specs.Copies.{AddsSets, IsNamed, bare, bare_on, copie
 use crate::seen::{is_under, job_key};
 use jcl_meaning::names::HeldName;
 use jcl_meaning::store::{DataSet, SoloSet};
-use jname_core::ds_name::{DsName, read_ds_name};
+use jname_core::ds_name::{DsName, faults_are_exact};
 use jname_core::key::Key;
 use jname_core::serial::Serial;
 use mount_core::mounted::Mounted;
@@ -156,10 +156,8 @@ fn copy_all_held(
 fn key_behind_names() -> SetKey
     ensures { IsNamed result }
 {
-    match read_ds_name(b"ZZZZZZZZ") {
-        Ok(name) => SetKey::Named(name),
-        Err(_) => unreachable!(),
-    }
+    faults_are_exact();
+    SetKey::Named(DsName::of(b"ZZZZZZZZ"))
 }
 
 /// Adds the copies of the job's own sets.

@@ -28,10 +28,7 @@ fn spend(names: &mut EnqTable, x: Initiator) {
             let NamedJob { plan: _, held } = named;
             names.release(held);
         }
-        Stage::Admitted(admitted) => {
-            let NamedJob { plan: _, held } = admitted.into_named();
-            names.release(held);
-        }
+        Stage::Admitted(admitted) => names.release(admitted.into_held()),
     }
 }
 

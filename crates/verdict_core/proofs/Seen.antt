@@ -65,13 +65,12 @@ module _ (means : MeaningsAreSeen) (free : FreeIsSeen) (earliest : EarliestIsSee
   meant names meanings of_plan sets entries is = is ∙ sym (means plan date t s
       (same [] [] (subst (λ ns. ShowsSets ns s t) of_plan sets) (subst (λ ns. ShowsEntries ns s t) of_plan entries)))
 
-  -- with what the code found: these names, a copy of the places, and the volumes of the copy
-  pub judged : {E : Type 0} (names : List HeldName) (volumes its_volumes : List (List ℕ)) (places its_places : List Place) (explains : Bool) →
-      names ≡ names_of plan → its_volumes ≡ volumes → its_places ≡ places → ShowsSets names s t → ShowsEntries names s t → (r : Result Finding E) →
-      IfOk r (IsFound (fixed_in its_volumes t plan its_places date) plan t limit explains) →
-      IfOk r (IsFound (fixed_in volumes s plan places date) plan s limit explains)
-  judged names volumes its_volumes places its_places explains of_plan on at sets entries (Ok f) h =
-      found_so volumes places (subst (λ ns. ShowsSets ns s t) of_plan sets) (subst (λ ns. ShowsEntries ns s t) of_plan entries) explains f
-      (subst (λ (ps : List Place). IsFound (fixed_in volumes t plan ps date) plan t limit explains f) at
-      (subst (λ vs. IsFound (fixed_in vs t plan its_places date) plan t limit explains f) on h))
-  judged names volumes its_volumes places its_places explains of_plan on at sets entries (Err e) h = h
+  -- with what the code found: these names, and the volumes of the copy
+  pub judged : {E : Type 0} (names : List HeldName) (volumes its_volumes : List (List ℕ)) (places : List Place) (explains : Bool) →
+      names ≡ names_of plan → its_volumes ≡ volumes → ShowsSets names s t → ShowsEntries names s t → (r : Result (Finding × List Place) E) →
+      IfOk r (λ f. IsFound (fixed_in its_volumes t plan places date) plan t limit explains f.0) →
+      IfOk r (λ f. IsFound (fixed_in volumes s plan places date) plan s limit explains f.0)
+  judged names volumes its_volumes places explains of_plan on sets entries (Ok f) h =
+      found_so volumes places (subst (λ ns. ShowsSets ns s t) of_plan sets) (subst (λ ns. ShowsEntries ns s t) of_plan entries) explains f.0
+      (subst (λ vs. IsFound (fixed_in vs t plan places date) plan t limit explains f.0) on h)
+  judged names volumes its_volumes places explains of_plan on sets entries (Err e) h = h

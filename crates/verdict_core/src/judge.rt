@@ -51,8 +51,8 @@ pub fn judge(
         job,
     };
     let meanings = meanings_of(alloc, known.plan(), &seen)?;
-    let finding = verdict_in(
-        alloc, &*store, job, known, &places, &meanings, date, most_views, explains,
+    let (finding, places) = verdict_in(
+        alloc, &*store, job, known, places, &meanings, date, most_views, explains,
     )?;
     Ok(Judged {
         places,

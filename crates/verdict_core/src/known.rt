@@ -3,6 +3,7 @@ ghost use Rattle.std.specs.Prelude.{◌≡◌, IfOk, IfSome, OnErr, OnOk};
 ghost use Rattle.verdict_core.specs.Known.{IsFreeFrom};
 
 use crate::same::is_same_start;
+use boxed_core::Boxed;
 use jcl_meaning::state::Place;
 use jcl_plan::plan::JobPlan;
 use path_core::start::StartView;
@@ -20,7 +21,7 @@ pub struct Found {
 #[derive(Drop)]
 pub struct KnownPlan {
     plan: JobPlan,
-    found: Option<Found>,
+    found: Option<Boxed<Found>>,
 }
 
 impl Model for KnownPlan {
@@ -58,6 +59,7 @@ impl KnownPlan {
     {
         match &self.found {
             Some(found) => {
+                let found = found.get();
                 if is_same_start(&found.start, start) {
                     let made = Vec::from_slice(alloc, found.made.as_slice())?;
                     Ok(Some(made))
@@ -80,7 +82,7 @@ impl KnownPlan {
         ensures { self.new ≡ self.old }
     {
         let made = Vec::from_slice(alloc, made)?;
-        self.found = Some(Found { start, made });
+        self.found = Some(Boxed::new(alloc, Found { start, made })?);
         Ok(())
     }
 

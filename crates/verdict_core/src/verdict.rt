@@ -107,7 +107,7 @@ fn free_at(alloc: Global, made: Vec<Place>) -> Finding
     }
 }
 
-/// What may become of a job that starts so. Nothing is looked for where it was free as it started so before.
+/// What may become of a job that starts so, and where its sets are placed. Nothing is looked for where it was free as it started so before.
 fn find(
     alloc: Global,
     known: &mut KnownPlan,
@@ -115,20 +115,28 @@ fn find(
     names: &[HeldName],
     meanings: &Meanings,
     explains: bool,
-) -> Result<Finding, AllocError>
+) -> Result<(Finding, Places), AllocError>
     requires plan { IsWellFormedPlan known.old }
     requires groups { HasSoundGroups (store_of start.store) }
     requires names { names.now ≡ names_of known.old }
     requires meanings { meanings.now ≡ meanings_of (store_of start.store) known.old }
-    ensures found { IfOk result (IsFound (fixed_from start known.old) known.old (store_of start.store) start.most_views explains) }
+    ensures found { IfOk result (λ f. IsFound (fixed_from start known.old) known.old (store_of start.store) start.most_views explains f.0) }
+    ensures places { IfOk result (λ f. f.1 ≡ start.places) }
     ensures same { known.new ≡ known.old }
 {
     if let Some(made) = known.free_as_before(alloc, &start)? {
-        return Ok(free_at(alloc, made));
+        let StartView {
+            store: _,
+            places,
+            date: _,
+            most_views: _,
+        } = start;
+        return Ok((free_at(alloc, made), places));
     }
     let finding = find_anew(alloc, known.plan(), &start, names, meanings, explains)?;
+    let places = start.places.clone()?;
     remember(alloc, known, start, &finding, explains)?;
-    Ok(finding)
+    Ok((finding, places))
 }
 
 /// What is told of a job that is free and makes no set.
@@ -138,27 +146,29 @@ fn free(alloc: Global) -> Finding
     free_at(alloc, Vec::new(alloc))
 }
 
-/// What may become of a job in the store as it sees it, where its sets are placed so and its keys mean this, on a date, with this many views behind a step at most. It is found
-/// on a copy of what stands under the job's names; the store is as it was. A job that is free is not looked at again where it starts in the same way.
+/// What may become of a job in the store as it sees it, where its sets are placed so and its keys mean this, on a date, with this many views behind a step at
+/// most. It is found on a copy of what stands under the job's names; the store is as it was. A job that is free is not looked at again where it starts in the
+/// same way. The places are handed back.
 pub fn verdict_in(
     alloc: Global,
     store: &SharedStore,
     job: u16,
     known: &mut KnownPlan,
-    places: &Places,
+    places: Places,
     meanings: &Meanings,
     date: Day,
     most_views: usize,
     explains: bool,
-) -> Result<Finding, AllocError>
+) -> Result<(Finding, Places), AllocError>
     requires plan { IsWellFormedPlan known.old }
     requires groups { HasSoundGroups (seen job (world_store_of store.now)) }
     requires meanings { meanings.now ≡ meanings_of (seen job (world_store_of store.now)) known.old }
-    ensures found { IfOk result (IsFoundInStore store.now job known.old places.now date most_views explains) }
+    ensures found { IfOk result (λ f. IsFoundInStore store.now job known.old places date most_views explains f.0) }
+    ensures places { IfOk result (λ f. f.1 ≡ places) }
     ensures same { known.new ≡ known.old }
 {
     if is_plainly_free(known.plan(), store, job, meanings, most_views) {
-        return Ok(free(alloc));
+        return Ok((free(alloc), places));
     }
     start_fits();
     meanings_are_seen();
@@ -168,7 +178,6 @@ pub fn verdict_in(
     path_is_seen();
     let names = names_of(alloc, known.plan())?;
     let part = part_of(alloc, store, job, names.as_slice())?;
-    let places = places.clone()?;
     let start = StartView {
         store: part,
         places,
