@@ -9,6 +9,8 @@ ghost use Rattle.turn_core.specs.declared.walk.Walk.{Walk};
 ghost use Rattle.world_meaning.specs.Worlds.{Config};
 ghost use Rattle.sched_core.specs.Machines.{shown_initiator};
 ghost use Rattle.sched_core.specs.Systems.{world_of};
+ghost use Rattle.store_core.specs.Expiries.{expiry_of};
+ghost use Rattle.world_meaning.specs.Lenses.{seen};
 ghost use Rattle.sched_core.specs.Views.{IsNext, phase_of, seen_initiator, seen_job, seen_volume};
 
 use crate::state::Initiator;
@@ -16,12 +18,14 @@ use crate::system::System;
 use cb_queue::store::RecordStore;
 use enq_core::table::Hold;
 use init_core::running::{Running, Stage};
+use jname_core::key::Key;
 use jname_core::serial::Serial;
 use machine_core::parts::Parts;
 use machine_core::tracks::{VolumeTracks, tracks_on};
 use plain::short::Short;
 use queued_job::laws::waiting_are_listed;
 use queued_job::selecting::select;
+use store_core::expiry::expiry_of;
 
 /// How far an initiator is with its job.
 #[derive(Clone, Copy, PartialEq, Eq)]
@@ -136,6 +140,14 @@ impl<'c, Q: RecordStore> System<'c, Q> {
             None => None,
             Some(serial) => Some(seen_volume(&self.state.parts, *serial)),
         }
+    }
+
+    /// The day before which the data set that a job names so is not to be deleted, counted from 1900/001 as 0: none where the data set is not on that volume,
+    /// or has no such day.
+    pub fn expiry_of(&self, job: u16, key: &Key, serial: Serial) -> Option<u32>
+        ensures { result ≡ expiry_of (seen job (world_of self.now).shared.store) key.now serial }
+    {
+        expiry_of(&self.state.parts.store, job, key, serial)
     }
 
     /// How many names are held.
