@@ -15,6 +15,8 @@ pub(crate) enum Value {
     SetName,
     SetTracks,
     Cat,
+    Expdt,
+    Date,
     Name,
     Initiator,
     Classes,
@@ -39,6 +41,8 @@ impl Value {
             Value::Scratch => "SCRATCH",
             Value::SetName => "the data set's name",
             Value::Cat => "CAT",
+            Value::Expdt => "EXPDT",
+            Value::Date => "the date",
             Value::Name => "the name",
             Value::Initiator | Value::Turns => "the initiator",
             Value::Classes => "the list of classes",
@@ -54,6 +58,7 @@ impl Value {
             Value::Used => Some("USED"),
             Value::Scratch => Some("SCRATCH"),
             Value::Cat => Some("CAT"),
+            Value::Expdt => Some("EXPDT"),
             _ => None,
         }
     }
@@ -82,7 +87,7 @@ pub(crate) struct Form {
     pub(crate) twice: Option<&'static str>,
 }
 
-static FORMS: [Form; 14] = [
+static FORMS: [Form; 15] = [
     Form {
         word: "VOLUME",
         shape: "./ VOLUME serial tracks [USED list]",
@@ -116,10 +121,17 @@ static FORMS: [Form; 14] = [
     },
     Form {
         word: "SET",
-        shape: "./ SET name serial tracks [CAT]",
+        shape: "./ SET name serial tracks [CAT] [EXPDT yyyy/ddd]",
         is_configuration: true,
         needed: 3,
-        values: &[Value::SetName, Value::Serial, Value::SetTracks, Value::Cat],
+        values: &[
+            Value::SetName,
+            Value::Serial,
+            Value::SetTracks,
+            Value::Cat,
+            Value::Expdt,
+            Value::Date,
+        ],
         refused: Some(
             "its volume is not configured before it or has no room for it, a line of its block is no record (80 columns, bytes 20 to 7E), its tracks hold fewer records (32 each), or its group is full",
         ),
@@ -216,6 +228,15 @@ static FORMS: [Form; 14] = [
         is_configuration: false,
         needed: 0,
         values: &[],
+        refused: None,
+        twice: None,
+    },
+    Form {
+        word: "DATE",
+        shape: "./ DATE yyyy/ddd",
+        is_configuration: false,
+        needed: 1,
+        values: &[Value::Date],
         refused: None,
         twice: None,
     },

@@ -1,8 +1,9 @@
 //! Fields of several parts, and what is wrong with them.
 use crate::values::{
-    COUNT, INITIATOR, NameForm, OFFSET, PART, RECORD, TRACK, Wrong, name_fault, number_fault,
-    number_of, reason_at,
+    COUNT, DAY_OF_YEAR, INITIATOR, NameForm, OFFSET, PART, RECORD, TRACK, Wrong, YEAR, name_fault,
+    number_fault, number_of, reason_at,
 };
+use date_core::written::written_day;
 
 /// The text before the first of these bytes, and what stands behind it.
 fn cut(text: &[u8], byte: u8) -> (&[u8], Option<&[u8]>) {
@@ -111,6 +112,31 @@ pub(crate) fn used_fault(text: &[u8], tracks: u32) -> Option<Wrong> {
         at = at.saturating_add(part.len()).saturating_add(1);
     }
     None
+}
+
+/// What is wrong with a date: a year from 1900 to 2155, a slash, and a day that the year has.
+pub(crate) fn date_fault(text: &[u8]) -> Option<Wrong> {
+    let (year, of_year) = cut(text, b'/');
+    let Some(of_year) = of_year else {
+        return Some(Wrong {
+            at: 0,
+            reason: "a date is yyyy/ddd, as 1975/001",
+        });
+    };
+    if let Some(wrong) = number_fault(&YEAR, year) {
+        return Some(wrong);
+    }
+    let at = year.len().saturating_add(1);
+    if let Some(wrong) = number_fault(&DAY_OF_YEAR, of_year) {
+        return Some(wrong.behind(at));
+    }
+    match written_day(text) {
+        Some(_) => None,
+        None => Some(Wrong {
+            at,
+            reason: "a day has three digits, and its year has it: 366 is in leap years alone",
+        }),
+    }
 }
 
 /// What is wrong with a list of classes: it has one to eight letters A to O, each once.

@@ -4,8 +4,8 @@ use crate::finding::{Finding, Reason};
 use crate::forms::{Form, Value};
 use crate::guess::word_if_near;
 use crate::lists::{
-    MOST_OF_A_BASE, MOST_OF_A_NAME, classes_fault, names_fault, set_name_fault, turns_fault,
-    used_fault, writes_fault, zap_fault,
+    MOST_OF_A_BASE, MOST_OF_A_NAME, classes_fault, date_fault, names_fault, set_name_fault,
+    turns_fault, used_fault, writes_fault, zap_fault,
 };
 use crate::values::{
     INITIATOR, JOB, LIMIT, NAME, SERIAL, SET_TRACKS, TAB, TRACKS, UNIT_NAME, Wrong, name_fault,
@@ -55,7 +55,13 @@ fn value_fault(line: &[u8], value: Value, text: &[u8]) -> Option<Wrong> {
             "a data set name has at most 44 characters",
         ),
         Value::SetTracks => number_fault(&SET_TRACKS, text),
-        Value::Cat => word_fault(value, text, "after the tracks comes nothing, or CAT"),
+        Value::Cat => word_fault(
+            value,
+            text,
+            "after the tracks comes nothing, CAT, or EXPDT and a date",
+        ),
+        Value::Expdt => word_fault(value, text, "after CAT comes nothing, or EXPDT and a date"),
+        Value::Date => date_fault(text),
         Value::Name => name_fault(&NAME, text),
         Value::Initiator => number_fault(&INITIATOR, text),
         Value::Classes => classes_fault(text),
@@ -111,9 +117,33 @@ fn field_finding(
     }
 }
 
+/// Whether a field is one that stands behind a word.
+fn is_behind_word(value: Value) -> bool {
+    value == Value::UsedTracks || value == Value::Date
+}
+
 /// Whether a statement has a field there.
 fn is_needed(line: &[u8], form: &Form, n: usize, value: Value) -> bool {
-    n < form.needed || (value == Value::UsedTracks && field_at(line, 4).is_some())
+    n < form.needed || (is_behind_word(value) && field_at(line, n.saturating_add(1)).is_some())
+}
+
+/// The fields of a SET that has EXPDT and no CAT.
+static SET_WITHOUT_CAT: [Value; 5] = [
+    Value::SetName,
+    Value::Serial,
+    Value::SetTracks,
+    Value::Expdt,
+    Value::Date,
+];
+
+/// The fields of a statement of this form, as this line has them.
+fn values_on(line: &[u8], form: &Form) -> &'static [Value] {
+    match field_at(line, 5) {
+        Some(field) if form.word == "SET" && field.bytes == b"EXPDT".as_slice() => {
+            SET_WITHOUT_CAT.as_slice()
+        }
+        _ => form.values,
+    }
 }
 
 /// What is wrong with the field that has this number behind the word.
@@ -136,7 +166,7 @@ fn finding_at(line: &[u8], form: &Form, n: usize, value: Value) -> Option<Findin
 
 /// A field behind those that a statement of this form has.
 fn one_more_finding(line: &[u8], form: &Form) -> Option<Finding> {
-    match field_at(line, form.values.len().saturating_add(2)) {
+    match field_at(line, values_on(line, form).len().saturating_add(2)) {
         Some(field) => Some(Finding {
             number: 2,
             column: field.column,
@@ -180,7 +210,7 @@ pub(crate) fn statement_finding(
     line: &[u8],
     form: &Form,
 ) -> Result<Option<Finding>, AllocError> {
-    for (n, value) in form.values.iter().enumerate() {
+    for (n, value) in values_on(line, form).iter().enumerate() {
         if let Some(found) = finding_at(line, form, n, *value) {
             let mut finding = found;
             finding.guess = guess_at(alloc, line, n, *value)?;

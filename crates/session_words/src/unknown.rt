@@ -62,7 +62,7 @@ fn word_reason(word: &[u8], has_guess: bool) -> &'static str {
     } else if has_guess {
         "no statement has this word"
     } else {
-        "no statement has this word: VOLUME, UNIT, GROUP, SET, PROC, PROGRAM, INIT; READ, TURN, WRITE, DEV, CANCEL, ZAP, DISPLAY"
+        "no statement has this word: VOLUME, UNIT, GROUP, SET, PROC, PROGRAM, INIT; READ, TURN, WRITE, DEV, CANCEL, ZAP, DISPLAY, DATE"
     }
 }
 

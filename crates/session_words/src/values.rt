@@ -161,6 +161,18 @@ pub(crate) static COUNT: NumberForm = NumberForm {
     range: "a count after * is 1 to 9999",
 };
 
+pub(crate) static YEAR: NumberForm = NumberForm {
+    low: 1_900,
+    high: 2_155,
+    range: "a year is 1900 to 2155",
+};
+
+pub(crate) static DAY_OF_YEAR: NumberForm = NumberForm {
+    low: 1,
+    high: 366,
+    range: "a day of a year is 001 to 366",
+};
+
 pub(crate) static JOB: NumberForm = NumberForm {
     low: 1,
     high: 9_999,
