@@ -10,6 +10,7 @@ Usage: python3 tests/check_words.py MVT-CHECK MVT-PLAY MVT SESSION..
 """
 
 import collections
+import datetime
 import functools
 import multiprocessing
 import re
@@ -36,8 +37,8 @@ EXPLAINS = {
     "F2": {"makes it", "receives it", "keeps it", "keeps it, since it has not expired", "passes it", "catalogs it"},
     "F3": {"catalogs it"},
 }
-# When a set expires that stays: a day that the deck codes, or days.
-EXPIRES = re.compile(r"since it expires (?:on (\d{4})/(\d{3})|(\d+) days? after the job's date)")
+# When a set expires that stays: a day that the deck codes or the machine has, or days.
+EXPIRES = re.compile(r"since it expires (?:on (\d{4})/(\d{3})|(\d+) days? after the job's date|after 2155)")
 CONFIGURATION = {"VOLUME", "UNIT", "GROUP", "SET", "PROC", "PROGRAM", "INIT"}
 RISK = re.compile(r"^line \d+: job (\d+) (\S+) (?:is at RISK|fails): (.*)$")
 OTHER = re.compile(r"^line \d+: job (\d+) (\S+) is ASSURED: ")
@@ -277,14 +278,24 @@ def check_fault(mvt, text, told):
     return None
 
 
+def is_counted(text, year, day):
+    """Whether a day is so many days behind a date of the session as a card says."""
+    dates = {(1970, 1)} | {(int(a), int(b)) for a, b in re.findall(r"^\./ DATE +(\d{4})/(\d{3})", text, re.M)}
+    wanted = datetime.date(int(year), 1, 1).toordinal() + int(day)
+    days = {int(n) for n in re.findall(r"RETPD=(\d{1,4})\b", text)}
+    return any(datetime.date(a, 1, 1).toordinal() + b + n == wanted for a, b in dates for n in days)
+
+
 def check_expiry(text, line):
-    """When a set is told to expire, a card says so."""
+    """When a set is told to expire, a card or its SET says so, or a card counts the days from a date."""
     found = EXPIRES.search(line)
-    if not found:
+    if not found or found[0].endswith("2155"):
         return None
     year, day, days = found.groups()
-    coded = r"RETPD=0*%s\b" % days if days else r"EXPDT=(%s/%s|%s%s)\b" % (year, day, year[2:] if year.startswith("19") else "none", day)
-    return None if re.search(coded, text) else "no card says so"
+    if days:
+        return None if re.search(r"RETPD=0*%s\b" % days, text) else "no card says so"
+    coded = r"EXPDT(=| +)%s/%s\b|EXPDT=%s%s\b" % (year, day, year[2:] if year.startswith("19") else "none", day)
+    return None if re.search(coded, text) or is_counted(text, year, day) else "no card says so"
 
 
 def check_session(programs, path):

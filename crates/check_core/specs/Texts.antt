@@ -89,5 +89,5 @@ AddsRefusedText first lines report warned old new =
 -- Behind a text nothing is added of a deck that denotes a job. Of another there come the warnings of cards before that of its refusal, then the line and the
 -- number of this, then its words and its place.
 abbrev pub AddsToldText : ℕ → List (List ℕ) → Checked → List Warned → List ℕ → List ℕ → Type 0
-AddsToldText first lines (Taken plan) warned old new = new ≡ old
+AddsToldText first lines (Taken plan origins) warned old new = new ≡ old
 AddsToldText first lines (Refused report later) warned old new = AddsRefusedText first lines report warned old new

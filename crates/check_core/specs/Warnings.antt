@@ -18,7 +18,7 @@ tells_hint n report = hint_at n report.spot.card report.hint
 
 -- a refusal at this card tells already of what the card warns of
 abbrev pub is_told : Checked → ℕ → Bool
-is_told (Taken plan) n = false
+is_told (Taken plan origins) n = false
 is_told (Refused first later) n = tells_hint n first || list_any (tells_hint n) later.items
 
 -- what a card of a deck warns of, of which this is told

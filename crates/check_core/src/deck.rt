@@ -135,7 +135,7 @@ fn next_refusal(
     }
     *left -= cards;
     match judge_near(alloc, sources.units, sources.library, lines, bringer_of(at))? {
-        Judged::Taken(_) => Ok(None),
+        Judged::Taken(_, _) => Ok(None),
         Judged::Refused(cause, at) => Ok(Some((cause, at))),
     }
 }
@@ -207,7 +207,7 @@ pub fn check_deck(
     ensures { IfOk result (AreTold sources.now.units.now sources.now.library.now lines.now) }
 {
     let (cause, at) = match judge(alloc, sources.units, sources.library, lines)? {
-        Judged::Taken(plan) => return Ok(Checked::Taken(plan)),
+        Judged::Taken(plan, origins) => return Ok(Checked::Taken(plan, origins)),
         Judged::Refused(cause, at) => (cause, at),
     };
     let mut mended = Mended::of(alloc, lines)?;

@@ -1,5 +1,6 @@
 //! What is told of a refusal.
 use deck_places::judge::At;
+use deck_places::stands::StepOrigin;
 use jcl_plan::fault::Cause;
 use jcl_plan::plan::JobPlan;
 use plain::text::Text;
@@ -37,8 +38,8 @@ pub struct Report {
 /// What is told of a deck.
 #[derive(Drop)]
 pub enum Checked {
-    /// It denotes this job.
-    Taken(JobPlan),
+    /// It denotes this job, whose steps come from there.
+    Taken(JobPlan, Vec<StepOrigin>),
     /// It is refused: for what it is refused first, and what else is wrong.
     Refused { first: Report, later: Vec<Report> },
 }

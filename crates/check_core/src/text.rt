@@ -368,7 +368,7 @@ fn push_checked(
     ensures { OnOk result (AddsToldText first_line lines.now checked.now warned.now text.old.items text.new.items) }
 {
     match checked {
-        Checked::Taken(_) => Ok(()),
+        Checked::Taken(_, _) => Ok(()),
         Checked::Refused { first, later } => {
             push_refused(text, first_line, lines, first, later.as_slice(), warned)
         }

@@ -44,7 +44,7 @@ fn is_told(checked: &Checked, n: usize) -> bool
     ensures { result ≡ is_told checked.now n }
 {
     match checked {
-        Checked::Taken(_) => false,
+        Checked::Taken(_, _) => false,
         Checked::Refused { first, later } => {
             tells_hint(first, n) || some_hint(later.as_slice(), n)
         }

@@ -17,7 +17,7 @@ use Rattle.deck_places.specs.declared.judge.Judged.TheVariants.{Refused, Taken}
 
 module _ (units : List (List ℕ)) (library : List LibraryProcedure) (lines : List (List ℕ)) (statements : List Statement) (read : statements_of lines ≡ Ok statements) where
   judged_so : (judged : Judged) → AreJudged units library statements judged → IsJudged units library lines judged
-  judged_so (Taken plan) h = rw read h
+  judged_so (Taken plan origins) h = (rw read h.0, rw (read, h.1.so, h.1.flat, h.1.from) refl)
   judged_so (Refused cause at) h = rw read h
 
   pub all_so : {E : Type 0} (r : Result Judged E) → IfOk r (AreJudged units library statements) → IfOk r (IsJudged units library lines)

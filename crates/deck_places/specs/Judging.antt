@@ -13,6 +13,7 @@ use Rattle.jcl_procs.specs.Expansions.{and_then, flat_of}
 use Rattle.jcl_refs.specs.Plans.{most_steps}
 use Rattle.proc_library.specs.declared.library.LibraryProcedure.{LibraryProcedure}
 use Rattle.deck_places.specs.Places.{IsAmong}
+use Rattle.deck_places.specs.Stands.{HaveOrigins}
 use Rattle.deck_places.specs.Statements.{RefusedAt, TakenTo, read_from}
 use Rattle.deck_places.specs.declared.judge.Judged.{Judged}
 use Rattle.deck_places.specs.declared.judge.Judged.TheVariants as judged
@@ -33,8 +34,9 @@ pub record Has (library : List LibraryProcedure) (statements : List Statement) (
   pub flat : flat_of library deck ≡ Ok steps
   pub kept : expansion ≡ up_to most_steps steps
 
--- they denote a job, or are refused at a place among them
+-- they denote a job, whose steps come from there, or are refused at a place among them
 abbrev pub AreJudged : List (List ℕ) → List LibraryProcedure → List Statement → Judged → Type 0
-AreJudged units library statements (judged.Taken plan) = and_then (deck_of statements) (job_in units library) ≡ Ok plan
+AreJudged units library statements (judged.Taken plan origins) =
+    (and_then (deck_of statements) (job_in units library) ≡ Ok plan) × HaveOrigins library statements origins.items
 AreJudged units library statements (judged.Refused cause at) =
     (and_then (deck_of statements) (job_in units library) ≡ Err cause) × IsAmong units library statements cause at

@@ -7,6 +7,7 @@ use Rattle.jcl_plan.specs.declared.fault.Cause.{Cause}
 use Rattle.proc_library.specs.declared.library.LibraryProcedure.{LibraryProcedure}
 use Rattle.deck_places.specs.Cards.{walk_of}
 use Rattle.deck_places.specs.Cuts.{BringsRefusal}
+use Rattle.deck_places.specs.Stands.{stood_in, stood_with}
 use Rattle.deck_places.specs.Statements.{RefusedAt, TakenTo, read_from}
 use Rattle.deck_places.specs.declared.judge.At.{At}
 use Rattle.deck_places.specs.declared.judge.At.TheVariants as place
@@ -38,5 +39,5 @@ IsPlace units library lines cause at = by (statements_in lines)
 
 -- A deck denotes a job, or is refused: for what `job_of` tells first, at its place.
 abbrev pub IsJudged : List (List ℕ) → List LibraryProcedure → List (List ℕ) → Judged → Type 0
-IsJudged units library lines (Taken plan) = job_of units library lines ≡ Ok plan
+IsJudged units library lines (Taken plan origins) = (job_of units library lines ≡ Ok plan) × (stood_in library lines ≡ stood_with lines origins.items)
 IsJudged units library lines (Refused cause at) = (job_of units library lines ≡ Err cause) × IsPlace units library lines cause at

@@ -10,6 +10,7 @@ ghost use Rattle.deck_places.specs.Judging.{AreJudged, AreRead, Has};
 use crate::copies::copy_of;
 use crate::part::Part;
 use crate::refusing::{Sources, full_exec, plan_part};
+use crate::stands::{StepOrigin, origins_in};
 use crate::walk::walk_lines;
 use card_core::fault::CardFault;
 use card_core::read::{ReadError as CardError, read_statements};
@@ -44,8 +45,8 @@ pub enum At {
 /// What a deck is found to be.
 #[derive(Drop)]
 pub enum Judged {
-    /// A job.
-    Taken(JobPlan),
+    /// A job, and where its steps come from.
+    Taken(JobPlan, Vec<StepOrigin>),
     /// Refused: its first refusal, and where.
     Refused(Cause, At),
 }
@@ -85,8 +86,9 @@ fn judge_steps(
     ensures { IfOk result (AreJudged sources.now.units.now sources.now.library.now statements.now) }
 {
     let full = full_exec(&expansion, statements);
+    let origins = origins_in(alloc, &expansion)?;
     match plan_of(alloc, sources.units, job, expansion) {
-        Ok(plan) => Ok(Judged::Taken(plan)),
+        Ok(plan) => Ok(Judged::Taken(plan, origins)),
         Err(ReadError::Refused(cause)) => {
             let number = plan_part(cause);
             let part = Part::Plan(number);

@@ -1,29 +1,23 @@
 //! On which card of a deck a step of its job stands, or a DD. Where a call brings it, that is the card of the call, or of what overrides the DD.
-ghost use Rattle.std.specs.Prelude.{◌≡◌, IfOk, Ok, drop, false, take};
-ghost use Rattle.card_core.specs.Deck.{statements_of};
+ghost use Rattle.std.specs.Prelude.{◌≡◌, IfOk, drop, false, map, take};
 ghost use Rattle.jcl_deck.specs.Decks.{operation_of};
 ghost use Rattle.deck_places.specs.Stands.{card_by, card_of_dd, card_of_step, dd_behind, dd_number, exec_at, exec_number, exec_of, exec_or_dd};
-ghost use Rattle.deck_places.specs.Stands.{head_of, is_same_call, named_behind, next_exec, no_stood, number_of_dd, overriding_by, overriding_name};
-ghost use Rattle.deck_places.specs.Stands.{own_from, steps_in, stood_in};
+ghost use Rattle.deck_places.specs.Stands.{head_of, is_same_call, named_behind, next_exec, no_stood, number_of_dd, origin_of, origins_in};
+ghost use Rattle.deck_places.specs.Stands.{overriding_by, overriding_name, own_from, stood_with};
 
-use crate::called::deck_in;
 use crate::copies::inside_behind;
 use crate::walk::walk_lines;
 use card_core::read::{ReadError as CardError, read_statements};
 use card_core::statement::{Card, Statement};
 use jcl_dds::dd::DdCard;
-use jcl_deck::deck::Deck;
 use jcl_deck::operation::{Operation, operation_of};
-use jcl_plan::plan::MOST_STEPS;
-use jcl_procs::expansion::{Expansion, expand};
+use jcl_procs::expansion::Expansion;
 use jcl_procs::step::FlatStep;
 use jname_core::name8::Name8;
 use plain::listed::Listed;
 use plain::text::Text;
-use proc_library::library::ProcLibrary;
 use std::alloc::{AllocError, Global};
 use std::marker::Model;
-use value_core::refusal::ReadError;
 
 /// An EXEC or DD statement of a deck outside its procedures.
 #[derive(Drop)]
@@ -34,21 +28,75 @@ pub(crate) struct Own {
     name: Text,
 }
 
+/// Where a step of a job comes from: the call that brings it, if one does, its name in the procedure, and the names of its DDs.
+#[derive(Drop)]
+pub struct StepOrigin {
+    call: Option<usize>,
+    procedure_step: Option<Name8>,
+    dd_names: Listed<Option<Name8>>,
+}
+
 /// What a deck tells of where its job's steps and DDs stand.
 #[derive(Drop)]
-pub struct Stands {
+pub struct Stands<'a> {
     own: Vec<Own>,
-    steps: Listed<FlatStep>,
+    steps: &'a [StepOrigin],
     /// The card on which each statement begins.
     begun: Vec<usize>,
 }
 
-impl Model for Stands {
+impl<'a> Model for Stands<'a> {
     ghost use Rattle.deck_places.specs.Stands.{Stood};
 
     ghost Value = { Stood };
 
-    ghost view = { λ s. record { own = s.own.items; steps = s.steps; begun = s.begun.items } };
+    ghost view = { λ s. record { own = s.own.items; steps = s.steps.now; begun = s.begun.items } };
+}
+
+/// The names of DDs.
+fn names_of(alloc: Global, dds: &[DdCard]) -> Result<Listed<Option<Name8>>, AllocError>
+    ensures { IfOk result (λ names. names ≡ map (λ dd. dd.name) dds.now) }
+{
+    let mut names = Listed::empty(alloc);
+    for dd in dds {
+        names.push(dd.name)?;
+    }
+    Ok(names)
+}
+
+/// Where a step comes from.
+fn origin_of(alloc: Global, step: &FlatStep) -> Result<StepOrigin, AllocError>
+    ensures { IfOk result (λ origin. origin ≡ origin_of step.now) }
+{
+    Ok(StepOrigin {
+        call: step.call,
+        procedure_step: step.procedure_step,
+        dd_names: names_of(alloc, step.dds.as_slice())?,
+    })
+}
+
+/// Where these steps come from.
+fn origins_of(alloc: Global, steps: &[FlatStep]) -> Result<Vec<StepOrigin>, AllocError>
+    ensures { IfOk result (λ origins. origins.items ≡ map origin_of steps.now) }
+{
+    let mut origins = Vec::new(alloc);
+    for step in steps {
+        origins.push(origin_of(alloc, step)?)?;
+    }
+    Ok(origins)
+}
+
+/// Where the steps of a job come from, unless there are too many.
+pub(crate) fn origins_in(
+    alloc: Global,
+    expansion: &Expansion,
+) -> Result<Vec<StepOrigin>, AllocError>
+    ensures { IfOk result (λ origins. origins.items ≡ origins_in expansion.now) }
+{
+    match expansion {
+        Expansion::Steps(steps) => origins_of(alloc, steps.as_slice()),
+        Expansion::TooMany => Ok(Vec::new(alloc)),
+    }
 }
 
 /// Whether a statement is an EXEC statement, where it is that or a DD statement.
@@ -82,27 +130,6 @@ fn own_of(alloc: Global, statements: &[Statement]) -> Result<Vec<Own>, AllocErro
         inside = inside_behind(statement, inside);
     }
     Ok(own)
-}
-
-/// The steps of a deck, unless it is refused for them.
-fn steps_in(
-    alloc: Global,
-    library: &ProcLibrary,
-    deck: Deck,
-) -> Result<Option<Listed<FlatStep>>, AllocError>
-    ensures { IfOk result (λ steps. steps ≡ steps_in library.now deck) }
-{
-    let Deck {
-        procedures,
-        steps,
-        ..
-    } = deck;
-    match expand(alloc, library, procedures.as_slice(), steps, MOST_STEPS) {
-        Ok(Expansion::Steps(steps)) => Ok(Some(steps)),
-        Ok(Expansion::TooMany) => Ok(None),
-        Err(ReadError::Refused(_)) => Ok(None),
-        Err(ReadError::Memory) => Err(AllocError),
-    }
 }
 
 /// From the next EXEC statement on.
@@ -140,7 +167,7 @@ fn is_same_call(one: Option<usize>, other: Option<usize>) -> bool
 }
 
 /// From the EXEC statement on that brings the last of these steps, which are all up to it.
-fn exec_of<'a>(steps: &[FlatStep], own: &'a [Own]) -> &'a [Own]
+fn exec_of<'a>(steps: &[StepOrigin], own: &'a [Own]) -> &'a [Own]
     ensures { result.now ≡ exec_of steps.now own.now }
 {
     let Some((first, more)) = steps.split_first() else {
@@ -191,15 +218,15 @@ fn named_behind(name: &[u8], n: usize, own: &[Own]) -> Option<usize>
     None
 }
 
-/// The name with which the concatenation of the last of these DDs begins, and where.
-fn head_of(dds: &[DdCard]) -> (Option<Name8>, usize)
+/// The name with which the concatenation of the last of these DDs begins, of which these are the names, and where.
+fn head_of(dds: &[Option<Name8>]) -> (Option<Name8>, usize)
     ensures { record { name = result.0; at = result.1 } ≡ head_of dds.now }
 {
     let mut name = None;
     let mut at = 0;
     for (n, dd) in dds.iter().enumerate() {
-        if dd.name.is_some() {
-            name = dd.name;
+        if dd.is_some() {
+            name = *dd;
             at = n;
         }
     }
@@ -219,13 +246,13 @@ fn overriding_name(alloc: Global, step: &Name8, dd: &Name8) -> Result<Vec<u8>, A
 /// The number of the statement that overrides a DD of a procedure's step, which counts from 1.
 fn overriding(
     alloc: Global,
-    step: &FlatStep,
+    step: &StepOrigin,
     dd: usize,
     own: &[Own],
 ) -> Result<Option<usize>, AllocError>
-    ensures { IfOk result (λ number. number ≡ overriding_by step.now.procedure_step (head_of (take dd step.now.dds)) dd own.now) }
+    ensures { IfOk result (λ number. number ≡ overriding_by step.now.procedure_step (head_of (take dd step.now.dd_names)) dd own.now) }
 {
-    let dds = step.dds.as_slice();
+    let dds = step.dd_names.as_slice();
     let (front, _) = dds.split_at(dd.min(dds.len()));
     let (name, at) = head_of(front);
     match (&step.procedure_step, &name) {
@@ -241,7 +268,7 @@ fn overriding(
 /// The number of the statement that brings a DD of a step, of those behind the step's EXEC statement. DDs count from 1.
 fn dd_number(
     alloc: Global,
-    step: &FlatStep,
+    step: &StepOrigin,
     dd: usize,
     own: &[Own],
 ) -> Result<Option<usize>, AllocError>
@@ -263,63 +290,45 @@ fn exec_number(own: &[Own]) -> Option<usize>
     }
 }
 
-/// What a deck tells that denotes no job.
-fn no_stands(alloc: Global) -> Stands
+/// What cards tell of which no statements can be made.
+fn no_stands<'a>(alloc: Global) -> Stands<'a>
     ensures { result ≡ no_stood }
 {
     Stands {
         own: Vec::new(alloc),
-        steps: Listed::empty(alloc),
+        steps: &[],
         begun: Vec::new(alloc),
     }
 }
 
-/// The same of a deck of these statements, which stand on these lines.
-fn stands_among(
-    alloc: Global,
-    library: &ProcLibrary,
-    lines: &[Card<'_>],
-    statements: &[Statement],
-) -> Result<Stands, AllocError>
-    requires { statements_of lines.now ≡ Ok statements.now }
-    ensures { IfOk result (λ s. s ≡ stood_in library.now lines.now) }
-{
-    let Some(deck) = deck_in(alloc, statements)? else {
-        return Ok(no_stands(alloc));
-    };
-    let Some(steps) = steps_in(alloc, library, deck)? else {
-        return Ok(no_stands(alloc));
-    };
-    let own = own_of(alloc, statements)?;
-    let walk = walk_lines(alloc, lines)?;
-    Ok(Stands {
-        own,
-        steps,
-        begun: walk.begun,
-    })
-}
-
-impl Stands {
-    /// What the deck of these lines tells.
+impl<'a> Stands<'a> {
+    /// What the deck of these lines tells, whose job's steps come from there.
     pub fn of(
         alloc: Global,
-        library: &ProcLibrary,
         lines: &[Card<'_>],
-    ) -> Result<Stands, AllocError>
-        ensures { IfOk result (λ s. s ≡ stood_in library.now lines.now) }
+        steps: &'a [StepOrigin],
+    ) -> Result<Stands<'a>, AllocError>
+        ensures { IfOk result (λ s. s ≡ stood_with lines.now steps.now) }
     {
-        match read_statements(alloc, lines) {
-            Ok(statements) => stands_among(alloc, library, lines, statements.as_slice()),
-            Err(CardError::Fault(_)) => Ok(no_stands(alloc)),
-            Err(CardError::Memory) => Err(AllocError),
-        }
+        let statements = match read_statements(alloc, lines) {
+            Ok(statements) => statements,
+            Err(CardError::Fault(_)) => return Ok(no_stands(alloc)),
+            Err(CardError::Memory) => return Err(AllocError),
+        };
+        let own = own_of(alloc, statements.as_slice())?;
+        let walk = walk_lines(alloc, lines)?;
+        Ok(Stands {
+            own,
+            steps,
+            begun: walk.begun,
+        })
     }
 
     /// From the EXEC statement on that brings a step.
     fn exec_at(&self, step: usize) -> &[Own]
         ensures { result.now ≡ exec_at self.now step }
     {
-        let steps = self.steps.as_slice();
+        let steps = self.steps;
         let (front, _) = steps.split_at(step.min(steps.len()));
         exec_of(front, self.own.as_slice())
     }
@@ -343,7 +352,7 @@ impl Stands {
     ) -> Result<Option<usize>, AllocError>
         ensures { IfOk result (λ number. number ≡ number_of_dd self.now step dd) }
     {
-        match self.steps.as_slice().get(step.saturating_sub(1)) {
+        match self.steps.get(step.saturating_sub(1)) {
             Some(flat) => dd_number(alloc, flat, dd, behind_first(self.exec_at(step))),
             None => Ok(None),
         }

@@ -3,7 +3,8 @@ use Rattle.std.specs.Prelude.{◌≡◌, ℕ, ◌+◌, List, ◌++◌, Option, S
 use Rattle.jcl_plan.specs.declared.plan.JobPlan.{JobPlan}
 use Rattle.check_core.specs.declared.report.Checked.{Checked}
 use Rattle.check_core.specs.declared.report.Checked.TheVariants.{Refused, Taken}
-use Rattle.deck_places.specs.Stands.{Stood, card_of_dd, card_of_step, stood_in}
+use Rattle.deck_places.specs.Stands.{Stood, card_of_dd, card_of_step, stood_in, stood_with}
+use Rattle.proc_library.specs.declared.library.LibraryProcedure.{LibraryProcedure}
 use Rattle.mvt_check.specs.declared.answers.answer.Answer.{Answer}
 use Rattle.mvt_check.specs.declared.answers.answer.Answer.TheVariants.{Assured, Risk, SpaceWait, TooMany}
 use Rattle.mvt_check.specs.declared.answers.answer.Answers.{Answers}
@@ -63,7 +64,7 @@ pub record OneBegins (words : List ℕ) (asides : List Aside) : Type 0 where
 
 -- where the steps and DDs of a deck stand that denotes a job, and how what is said of its job's answer begins
 abbrev pub stood_of : deck.Taken → Stood
-stood_of d = stood_in d.library.now d.lines.now
+stood_of d = stood_with d.lines.now d.origins.now
 
 abbrev pub head_of : deck.Taken → Answers → DeckRead → List ℕ
 head_of d answers read = answer_head d.first (stood_of d) d.plan.now answers read
@@ -81,8 +82,16 @@ abbrev pub TellsTaken : deck.Taken → Answers → Option DeckRead → List ℕ 
 TellsTaken d answers read text = TellsAnswer d.first (stood_of d) d.plan.now answers read text
 
 abbrev pub TellsChecked : ℕ → Stood → Checked → Answers → Option DeckRead → List ℕ → Type 0
-TellsChecked first s (Taken plan) answers deck text = TellsAnswer first s plan answers deck text
+TellsChecked first s (Taken plan origins) answers deck text = TellsAnswer first s plan answers deck text
 TellsChecked first s (Refused report later) answers deck text = Unit {0}
 
 abbrev pub TellsLooked : Looked → Answers → Option DeckRead → List ℕ → Type 0
 TellsLooked found answers deck text = TellsChecked found.first (stood_in found.library.now found.lines.now) found.checked.now answers deck text
+
+-- where the steps of the job of a deck come from is known, if it denotes one
+abbrev pub KnowsOrigins : List LibraryProcedure → List (List ℕ) → Checked → Type 0
+KnowsOrigins library lines (Taken plan origins) = stood_in library lines ≡ stood_with lines origins.items
+KnowsOrigins library lines (Refused report later) = Unit {0}
+
+abbrev pub HasOrigins : Looked → Type 0
+HasOrigins found = KnowsOrigins found.library.now found.lines.now found.checked.now

@@ -88,7 +88,7 @@ pub record AddsDeck (units : List (List ℕ)) (library : List LibraryProcedure) 
 
 -- a deck of which this is found is refused
 abbrev pub is_refused_so : Checked → Bool
-is_refused_so (Taken plan) = false
+is_refused_so (Taken plan origins) = false
 is_refused_so (Refused first later) = true
 
 abbrev pub AddsEvent : List (List ℕ) → List LibraryProcedure → Answers → Option DeckRead → ℕ → Event → List ℕ → List ℕ → Type 0

@@ -7,5 +7,6 @@ mod noted;
 mod path;
 pub mod risk;
 pub mod session;
+pub(crate) mod stays;
 pub mod told;
 pub mod words;

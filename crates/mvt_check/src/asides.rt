@@ -12,14 +12,13 @@ use crate::trials::words::trial_words;
 use check_core::warnings::push_warning;
 use config_core::start::Fixed;
 use deck_places::judge::{Judged, judge};
-use deck_places::stands::Stands;
+use deck_places::stands::{Stands, StepOrigin};
 use jcl_meaning::program::is_iefbr14;
 use jcl_plan::plan::JobPlan;
 use jname_core::name8::Name8;
 use job_warnings::warned::{Configured, JobWarning, warnings_of};
 use plain::lent::Lent;
 use plain::text::Text;
-use proc_library::library::ProcLibrary;
 use std::alloc::{AllocError, Global};
 
 /// Whether an initiator selects from the class.
@@ -39,13 +38,13 @@ fn has_turn_behind(known: Known<'_, '_, '_, '_, '_>, class: u8, place: usize) ->
     })
 }
 
-/// A deck that denotes a job: the line of the session on which its first card stands, its lines, and the job.
+/// A deck that denotes a job: the line of the session on which its first card stands, its lines, the job, and where its steps come from.
 #[derive(Clone, Copy)]
 pub(crate) struct Taken<'a, 'b> {
     pub(crate) first: usize,
     pub(crate) lines: &'a [Lent<'b>],
-    pub(crate) library: &'a ProcLibrary,
     pub(crate) plan: &'a JobPlan,
+    pub(crate) origins: &'a [StepOrigin],
 }
 
 /// What is told of a job at a card of its deck, which counts from 0.
@@ -118,7 +117,7 @@ fn warn_of_programs(
     alloc: Global,
     fixed: &Fixed,
     deck: Taken<'_, '_>,
-    stands: &Stands,
+    stands: &Stands<'_>,
     asides: &mut Vec<Aside>,
 ) -> Result<(), AllocError> {
     for (n, step) in deck.plan.steps.as_slice().iter().enumerate() {
@@ -138,7 +137,7 @@ fn warn_of_programs(
 fn warn_of_job(
     alloc: Global,
     first: usize,
-    stands: &Stands,
+    stands: &Stands<'_>,
     warnings: Vec<JobWarning>,
     asides: &mut Vec<Aside>,
 ) -> Result<(), AllocError> {
@@ -174,7 +173,7 @@ fn warn_at_cards(
     {
         return Ok(());
     }
-    let stands = Stands::of(alloc, deck.library, deck.lines)?;
+    let stands = Stands::of(alloc, deck.lines, deck.origins)?;
     warn_of_programs(alloc, known.fixed, deck, &stands, asides)?;
     warn_of_job(alloc, deck.first, &stands, warnings, asides)
 }
@@ -199,11 +198,11 @@ fn card_of(
 {
     match answer {
         Some(Answer::Risk { step, dd, .. }) => {
-            let stands = Stands::of(alloc, deck.library, deck.lines)?;
+            let stands = Stands::of(alloc, deck.lines, deck.origins)?;
             stands.dd_card(alloc, *step, *dd)
         }
         Some(Answer::TooMany(step)) => {
-            let stands = Stands::of(alloc, deck.library, deck.lines)?;
+            let stands = Stands::of(alloc, deck.lines, deck.origins)?;
             Ok(stands.step_card(*step))
         }
         _ => Ok(None),
@@ -242,7 +241,7 @@ fn are_for(
     }
     let units = known.fixed.units.names();
     match judge(alloc, units, &known.fixed.library, lines.as_slice())? {
-        Judged::Taken(own) => Ok(is_idle_of(plan, &own)),
+        Judged::Taken(own, _) => Ok(is_idle_of(plan, &own)),
         Judged::Refused(_, _) => Ok(false),
     }
 }
@@ -276,6 +275,7 @@ fn tried_by(
             statement: read.statement,
             job,
             cards: cards.as_slice(),
+            plan,
             again,
         },
     )?;
@@ -296,7 +296,8 @@ fn answer_at(
     let line = line_at(deck.first, card)?;
     let mut text = Vec::new(alloc);
     let shown = shown_of(deck.lines, card);
-    push_answer(&mut text, line, deck.plan, read.job, answer, shown)?;
+    let day = known.answers.days.of_job(read.job);
+    push_answer(&mut text, line, deck.plan, read.job, answer, day, shown)?;
     let tried = tried_by(alloc, known, deck.plan, read)?;
     let said = trial_words(alloc, deck.plan, answer, tried.as_ref())?;
     text.extend_from_slice(said.as_slice())?;

@@ -5,7 +5,7 @@ ghost use Rattle.jcl_job.specs.Jobs.{job_of};
 ghost use Rattle.session_core.specs.Opening.{IsOpened};
 ghost use Rattle.mvt_check.specs.Above.{told_at, told_line};
 ghost use Rattle.mvt_check.specs.Checking.{AddsDecks, GoesOn, IsFound, IsLookedAt, TellsFault, TellsStop, fault_at, fault_of, fault_text, has_refused, is_refused, is_refused_event, is_refused_so, is_risk, one, refused_decks, risks_in, some_refused, sums_text, warnings_text, AddsLooked, deck_for, decks_left, AddsDeckOf, AddsEventOf, AddsReadOf, AddsStatementOf, AddsStatementsOf};
-ghost use Rattle.mvt_check.specs.Cards.{HasAside, TellsLooked, TellsTaken};
+ghost use Rattle.mvt_check.specs.Cards.{HasAside, HasOrigins, TellsLooked, TellsTaken};
 
 use crate::above::{is_above, text_above, told_line};
 use crate::answers::answer::{Answer, Answers, DeckRead};
@@ -270,15 +270,16 @@ fn asides_of(
     warned: &[Warned],
     deck: Option<DeckRead>,
 ) -> Result<Vec<u8>, AllocError>
+    requires { HasOrigins found }
     ensures { IfOk result (λ text. TellsLooked found.entry known.entry.answers.now deck text.items) }
 {
     match found.checked {
-        Checked::Taken(plan) => {
+        Checked::Taken(plan, origins) => {
             let taken = Taken {
                 first: found.first,
                 lines: found.lines,
-                library: found.library,
                 plan,
+                origins: origins.as_slice(),
             };
             taken_asides(alloc, known, taken, warned, deck)
         }
@@ -291,7 +292,7 @@ fn is_refused(checked: &Checked) -> bool
     ensures { result ≡ is_refused_so checked.now }
 {
     match checked {
-        Checked::Taken(_) => false,
+        Checked::Taken(_, _) => false,
         _ => true,
     }
 }
@@ -304,6 +305,7 @@ fn tell_deck(
     deck: Option<DeckRead>,
     text: &mut Vec<u8>,
 ) -> Result<bool, AllocError>
+    requires { HasOrigins found }
     ensures refused { IfOk result (λ refused. refused ≡ is_refused_so found.entry.checked.now) }
     ensures added { OnOk result (AddsLooked found.entry known.entry.answers.now deck text.old.items text.new.items) }
 {

@@ -1,6 +1,7 @@
 //! What became of decks.
 ghost use Rattle.std.specs.Prelude.{◌≡◌, None, option_map, slice_index_or};
 
+use crate::answers::stays::Days;
 use jcl_plan::entry::JobLine;
 use jcl_plan::fault::Fault;
 use jcl_plan::outcome::Outcome;
@@ -46,6 +47,8 @@ pub struct Answers {
     pub decks: Vec<DeckRead>,
     /// What admission answered each job last, at the place of the job's number.
     pub by_job: Vec<Option<Answer>>,
+    /// The days of data sets that jobs kept on the way to their faults, by the jobs' numbers.
+    pub days: Days,
 }
 
 impl Answers {

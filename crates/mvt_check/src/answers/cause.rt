@@ -1,12 +1,14 @@
 //! What was done last with a data set, on the way to a fault.
 use crate::answers::names::{Shown, key_at, push_count, push_date, push_subject, set_at};
+use jcl_plan::day::Day;
 use jcl_plan::entry::JobLine;
 use jcl_plan::fault::Fault;
 use jcl_plan::plan::{Expiry, JobPlan};
 use jcl_plan::words::{DispWord, TakeWord};
 use jname_core::key::Key;
 use jname_core::serial::Serial;
-use std::alloc::AllocError;
+use std::alloc::{AllocError, Global};
+use std::collections::BTreeMap;
 
 /// What is done with a data set.
 #[derive(Clone, Copy, PartialEq, Eq)]
@@ -40,14 +42,25 @@ struct Told {
     volume: Option<Serial>,
 }
 
+/// Until when a data set is not to be deleted.
+#[derive(Clone, Copy)]
+pub(crate) enum Until {
+    /// No DD on the way tells it.
+    Untold,
+    /// Up to this day, counted from 1900/001 as 0.
+    Day(u32),
+    /// So many days from the date of the job that made it.
+    Days(u16),
+}
+
 /// What was done last with a data set, and on which volume, where that is known.
 #[derive(Clone, Copy)]
 pub(crate) struct Done {
     doer: Doer,
     pub(crate) deed: Deed,
     pub(crate) volume: Option<Serial>,
-    /// What the DD that made the set says of its expiry, where it was made on the way.
-    expiry: Expiry,
+    /// Until when the set is kept, as the DD says that made it, where it was made on the way.
+    pub(crate) until: Until,
 }
 
 /// What taking a DD did with its data set, and on which volume.
@@ -144,7 +157,7 @@ fn is_on(volume: &Option<Serial>, wanted: &Option<Serial>) -> bool {
     }
 }
 
-/// Whether these lines tell that the set of a DD was made.
+/// Whether a line tells that the set of a DD was made.
 fn is_made(told: &Told) -> bool {
     match told.deed {
         Some(Deed::Makes) => true,
@@ -152,81 +165,123 @@ fn is_made(told: &Told) -> bool {
     }
 }
 
-/// What the DD of a line says of the expiry of its set.
-fn coded_of(plan: &JobPlan, told: &Told) -> Expiry {
+/// Until when its set is kept, as the DD of a line says.
+fn coded_of(plan: &JobPlan, told: &Told) -> Until {
     match set_at(plan, told.step, told.dd) {
-        Some(set) => set.expiry,
-        None => Expiry::NotCoded,
+        Some(set) => match set.expiry {
+            Expiry::NotCoded => Until::Untold,
+            Expiry::Day(day) => Until::Day(day.number()),
+            Expiry::DaysFromToday(days) => Until::Days(days),
+        },
+        None => Until::Untold,
     }
 }
 
-/// What is said of the expiry of the data set that has this name in the plan, by the DD that these lines tell to have made it last.
-fn expiry_of(plan: &JobPlan, lines: &[JobLine], key: &Key) -> Expiry {
-    let mut running = 0;
-    let mut expiry = Expiry::NotCoded;
-    for line in lines {
-        if let JobLine::Step { step, .. } = line {
-            running = *step;
+/// A DD, by its step and its own number.
+#[derive(Clone, Copy, PartialEq, Eq, PartialOrd, Ord)]
+struct DdPlace {
+    step: usize,
+    dd: usize,
+}
+
+/// What is known behind some lines of the data set that has this name in the plan: on which volumes DDs took it, until when it is kept as the DD says
+/// that made it last, and what was done last with it, on this volume where one is asked for.
+#[derive(Drop)]
+struct History<'a> {
+    plan: &'a JobPlan,
+    key: &'a Key,
+    wanted: Option<Serial>,
+    volumes: BTreeMap<DdPlace, Serial>,
+    until: Until,
+    last: Option<Done>,
+}
+
+impl<'a> History<'a> {
+    /// The volume on which the DD of a line took the set, where that is known by then.
+    fn volume_by(&self, told: &Told) -> Option<Serial> {
+        match told.volume {
+            Some(volume) => Some(volume),
+            None => self.volumes.get(&place_of(told)).copied(),
         }
-        if let Some(told) = told_by(line, running) {
-            if is_made(&told) && is_of(&told, plan, key) {
-                expiry = coded_of(plan, &told);
-            }
+    }
+
+    /// Adds what a line does with the set, on this volume.
+    fn add_deed(&mut self, told: &Told, volume: Option<Serial>) {
+        if is_made(told) {
+            self.until = coded_of(self.plan, told);
+        }
+        if !is_on(&volume, &self.wanted) {
+            return;
+        }
+        if let Some(deed) = told.deed {
+            self.last = Some(Done {
+                doer: told.doer,
+                deed,
+                volume,
+                until: Until::Untold,
+            });
         }
     }
-    expiry
-}
 
-/// What is told, where something was done.
-fn done_by(plan: &JobPlan, lines: &[JobLine], key: &Key, told: &Told) -> Option<Done> {
-    match told.deed {
-        Some(deed) => Some(Done {
-            doer: told.doer,
-            deed,
-            volume: volume_of(lines, told.step, told.dd),
-            expiry: expiry_of(plan, lines, key),
-        }),
-        None => None,
+    /// Adds what a line tells, if it is of the set.
+    fn add(&mut self, told: &Told) -> Result<(), AllocError> {
+        if !is_of(told, self.plan, self.key) {
+            return Ok(());
+        }
+        let volume = self.volume_by(told);
+        if let Some(volume) = told.volume {
+            self.volumes.insert(place_of(told), volume)?;
+        }
+        self.add_deed(told, volume);
+        Ok(())
+    }
+
+    /// What was done last.
+    fn done(&self) -> Option<Done> {
+        match self.last {
+            Some(done) => Some(Done {
+                until: self.until,
+                ..done
+            }),
+            None => None,
+        }
     }
 }
 
-/// What a line of this step does with the data set that has this name in the plan, on this volume where one is asked for.
-fn done_with(
-    plan: &JobPlan,
-    lines: &[JobLine],
-    key: &Key,
-    wanted: &Option<Serial>,
-    told: &Told,
-) -> Option<Done> {
-    if !is_of(told, plan, key) {
-        return None;
-    }
-    match done_by(plan, lines, key, told) {
-        Some(done) if is_on(&done.volume, wanted) => Some(done),
-        _ => None,
+/// The DD of a line.
+fn place_of(told: &Told) -> DdPlace {
+    DdPlace {
+        step: told.step,
+        dd: told.dd,
     }
 }
 
-/// What these lines do last with the data set that has this name in the plan, on this volume where one is asked for.
+/// What these lines do last with the data set that has this name in the plan, on this volume where one is asked for. It is found in one walk over them.
 pub(crate) fn last_done(
+    alloc: Global,
     plan: &JobPlan,
     lines: &[JobLine],
     key: &Key,
     wanted: &Option<Serial>,
-) -> Option<Done> {
+) -> Result<Option<Done>, AllocError> {
+    let mut history = History {
+        plan,
+        key,
+        wanted: *wanted,
+        volumes: BTreeMap::new(alloc),
+        until: Until::Untold,
+        last: None,
+    };
     let mut running = 0;
-    let mut last = None;
     for line in lines {
         if let JobLine::Step { step, .. } = line {
             running = *step;
         }
         if let Some(told) = told_by(line, running) {
-            if let Some(done) = done_with(plan, lines, key, wanted, &told) {
-                last = Some(done);
-            }
+            history.add(&told)?;
         }
     }
-    last
+    Ok(history.done())
 }
 
 /// Whether a deed explains a fault: what is missing is not so because it was kept.
@@ -253,15 +308,26 @@ fn words_of(deed: Deed) -> &'static [u8] {
     }
 }
 
-/// When a set expires that was kept, where the deck says so.
-fn push_expiry(text: &mut Vec<u8>, expiry: Expiry) -> Result<(), AllocError> {
-    match expiry {
-        Expiry::NotCoded => text.extend_from_slice(b"has not expired"),
-        Expiry::Day(day) => {
+/// On which day a set expires. Those past the last that a date has are not written out.
+fn push_day(text: &mut Vec<u8>, day: u32) -> Result<(), AllocError> {
+    match Day::new(day) {
+        Some(day) => {
             text.extend_from_slice(b"expires on ")?;
             push_date(text, day)
         }
-        Expiry::DaysFromToday(days) => {
+        None => text.extend_from_slice(b"expires after 2155"),
+    }
+}
+
+/// When a set expires that was kept: as the deck says it, or on the day that the machine had for it.
+fn push_until(text: &mut Vec<u8>, until: Until, day: Option<u32>) -> Result<(), AllocError> {
+    match until {
+        Until::Untold => match day {
+            Some(day) => push_day(text, day),
+            None => text.extend_from_slice(b"has not expired"),
+        },
+        Until::Day(day) => push_day(text, day),
+        Until::Days(days) => {
             text.extend_from_slice(b"expires ")?;
             push_count(text, usize::from(days), b"day")?;
             text.extend_from_slice(b" after the job's date")
@@ -270,11 +336,15 @@ fn push_expiry(text: &mut Vec<u8>, expiry: Expiry) -> Result<(), AllocError> {
 }
 
 /// That the run before left a data set which has not expired, where that is what was done.
-pub(crate) fn push_left(text: &mut Vec<u8>, done: &Done) -> Result<(), AllocError> {
+pub(crate) fn push_left(
+    text: &mut Vec<u8>,
+    done: &Done,
+    day: Option<u32>,
+) -> Result<(), AllocError> {
     match done.deed {
         Deed::KeepsUnexpired => {
             text.extend_from_slice(b"; the run before keeps it, since it ")?;
-            push_expiry(text, done.expiry)
+            push_until(text, done.until, day)
         }
         _ => Ok(()),
     }
@@ -285,6 +355,7 @@ pub(crate) fn push_done(
     text: &mut Vec<u8>,
     shown: Shown<'_, '_>,
     done: &Done,
+    day: Option<u32>,
 ) -> Result<(), AllocError> {
     text.extend_from_slice(b"; ")?;
     match done.doer {
@@ -293,7 +364,7 @@ pub(crate) fn push_done(
     }
     text.extend_from_slice(words_of(done.deed))?;
     match done.deed {
-        Deed::KeepsUnexpired => push_expiry(text, done.expiry),
+        Deed::KeepsUnexpired => push_until(text, done.until, day),
         _ => Ok(()),
     }
 }

@@ -1,5 +1,7 @@
 //! The fault that a job may meet.
-use crate::answers::cause::{Deed, Done, explains, last_done, push_done, push_left, volume_of};
+use crate::answers::cause::{
+    Deed, Done, Until, explains, last_done, push_done, push_left, volume_of,
+};
 use crate::answers::names::{
     Shown, push_data_set, push_dd, push_named_set, push_number, push_step, set_at,
 };
@@ -11,7 +13,7 @@ use jcl_plan::plan::{JobPlan, SetPlan, Status, VolumePlan};
 use jname_core::key::Key;
 use jname_core::serial::Serial;
 use refusal_text::table::row_of;
-use std::alloc::AllocError;
+use std::alloc::{AllocError, Global};
 
 /// The number of a fault.
 fn number_of(fault: Fault) -> u8 {
@@ -60,6 +62,8 @@ pub(crate) struct Met<'a> {
     pub(crate) naming: &'a [JobLine],
     /// The lines of the run before, where the job is run again.
     pub(crate) before: &'a [JobLine],
+    /// The day before which its data set is not to be deleted, where the machine was asked for it.
+    pub(crate) day: Option<u32>,
 }
 
 impl<'a> Met<'a> {
@@ -161,7 +165,7 @@ fn push_uncataloged(
     text.extend_from_slice(b" is not in the catalog")?;
     push_fault_number(text, met.fault)?;
     push_path(text, met.shown(plan), met.path)?;
-    push_done(text, met.shown(plan), done)?;
+    push_done(text, met.shown(plan), done, met.day)?;
     text.extend_from_slice(b" on ")?;
     text.extend_from_slice(volume.as_slice())?;
     text.extend_from_slice(if done.deed == Deed::Makes {
@@ -184,8 +188,8 @@ fn push_before(
     if met.fault != Fault::F2 {
         return Ok(());
     }
-    match last_done(plan, met.before, key, wanted) {
-        Some(done) => push_left(text, &done),
+    match last_done(*text.allocator(), plan, met.before, key, wanted)? {
+        Some(done) => push_left(text, &done, met.day),
         None => Ok(()),
     }
 }
@@ -210,7 +214,12 @@ fn push_wrong(
     push_fault_number(text, met.fault)?;
     push_path(text, met.shown(plan), met.path)?;
     match done {
-        Some(done) if explains(done.deed, met.fault) => push_done(text, met.shown(plan), done)?,
+        Some(done) if explains(done.deed, met.fault) => push_done(
+            text,
+            met.shown(plan),
+            done,
+            met.day,
+        )?,
         Some(_) => {}
         None => push_before(text, plan, met, key, wanted)?,
     }
@@ -226,11 +235,54 @@ fn push_own(
     wanted: &Option<Serial>,
 ) -> Result<(), AllocError> {
     push_data_set(text, Some(&set.key))?;
-    let last = last_done(plan, met.lines, &set.key, wanted);
+    let last = last_done(*text.allocator(), plan, met.lines, &set.key, wanted)?;
     let volume = kept_on(met, set, &last);
     match (&last, &volume) {
         (Some(done), Some(volume)) => push_uncataloged(text, plan, met, done, volume),
         _ => push_wrong(text, plan, met, &set.key, wanted, &last),
+    }
+}
+
+/// A data set, by the name that the deck has for it, and the volume on which it is.
+#[derive(Clone, Copy)]
+pub(crate) struct UnexpiredSet {
+    pub(crate) key: Key,
+    pub(crate) volume: Serial,
+}
+
+/// The volume of a data set that was kept since it has not expired, where no DD on the way tells its day.
+fn unexpired_on(done: &Done) -> Option<Serial> {
+    match (done.deed, done.until) {
+        (Deed::KeepsUnexpired, Until::Untold) => done.volume,
+        _ => None,
+    }
+}
+
+/// The data set of the fault, where it was kept since it has not expired, and no DD on the way tells its day.
+pub(crate) fn unexpired_set(
+    alloc: Global,
+    plan: &JobPlan,
+    met: &Met<'_>,
+) -> Result<Option<UnexpiredSet>, AllocError> {
+    let Some(set) = set_at(plan, met.step, met.dd) else {
+        return Ok(None);
+    };
+    let Subject::Own(wanted) = subject_of(met.fault, set, met.lines) else {
+        return Ok(None);
+    };
+    let last = match last_done(alloc, plan, met.lines, &set.key, &wanted)? {
+        Some(done) => Some(done),
+        None => last_done(alloc, plan, met.before, &set.key, &wanted)?,
+    };
+    let Some(done) = last else {
+        return Ok(None);
+    };
+    match unexpired_on(&done) {
+        Some(volume) => Ok(Some(UnexpiredSet {
+            key: set.key,
+            volume,
+        })),
+        None => Ok(None),
     }
 }
 

@@ -10,8 +10,10 @@ ghost use Rattle.mvt_check.specs.Telling.{AreAnswered, AreAnsweredFrom, Tells, T
 
 use crate::answers::answer::{Answer, Answers, DeckRead};
 use crate::answers::noted::note_answer;
+use crate::answers::stays::{Days, Reads, note_day};
 use crate::answers::told::told_by;
 use chain_store::store::ChainStore;
+use config_core::start::Fixed;
 use play_core::given::Given;
 use play_core::play::added_events;
 use run_options::Options;
@@ -84,14 +86,18 @@ fn first_of(one: Option<u16>, later: Option<u16>) -> Option<u16>
 fn apply(
     alloc: Global,
     event: &Event<'_>,
+    reads: Reads<'_, '_>,
     system: &mut System<'_, ChainStore>,
     by_job: &mut Vec<Option<Answer>>,
+    days: &mut Days,
 ) -> Result<Option<u16>, AllocError>
     ensures { IfOk result (Tells system.old by_job.old.items (event.now ∷ []) system.new by_job.new.items) }
 {
     let lines = system.apply_shown(event)?;
     let told = told_by(alloc, lines)?;
+    let answered = told.answered();
     note_answer(by_job, told.answer, told.path)?;
+    note_day(alloc, days, &*system, reads, answered, by_job.as_slice())?;
     Ok(told.number)
 }
 
@@ -100,15 +106,17 @@ fn repeat(
     alloc: Global,
     event: &Event<'_>,
     times: u16,
+    reads: Reads<'_, '_>,
     system: &mut System<'_, ChainStore>,
     by_job: &mut Vec<Option<Answer>>,
+    days: &mut Days,
 ) -> Result<Option<u16>, AllocError>
     ensures { IfOk result (Tells system.old by_job.old.items (replicate times event.now) system.new by_job.new.items) }
 {
     let mut number = None;
     for done in 0..times {
         let _ = done;
-        let next = apply(alloc, event, system, by_job)?;
+        let next = apply(alloc, event, reads, system, by_job, days)?;
         number = first_of(number, next);
     }
     Ok(number)
@@ -119,9 +127,11 @@ fn run_own(
     alloc: Global,
     statements: &[Statement<'_>],
     from: usize,
+    fixed: &Fixed,
     system: &mut System<'_, ChainStore>,
     decks: &mut Vec<DeckRead>,
     by_job: &mut Vec<Option<Answer>>,
+    days: &mut Days,
 ) -> Result<(), AllocError>
     requires within { from ≤ length statements.now }
     requires empty { decks.old.items ≡ [] }
@@ -130,7 +140,12 @@ fn run_own(
     for at in from..statements.len() {
         match &statements[at].says {
             Says::Events(event, times) => {
-                let job = repeat(alloc, event, *times, system, by_job)?;
+                let reads = Reads {
+                    statements,
+                    decks: decks.as_slice(),
+                    fixed,
+                };
+                let job = repeat(alloc, event, *times, reads, system, by_job, days)?;
                 add_deck(decks, at, event, job)?;
             }
             Says::Config { .. } => return add_all_unread(decks, statements, at),
@@ -144,14 +159,16 @@ fn run_own(
 fn run_added(
     alloc: Global,
     given: &[Given],
+    reads: Reads<'_, '_>,
     system: &mut System<'_, ChainStore>,
     by_job: &mut Vec<Option<Answer>>,
+    days: &mut Days,
 ) -> Result<Option<u16>, AllocError>
     ensures { IfOk result (Tells system.old by_job.old.items (map event_of given.now) system.new by_job.new.items) }
 {
     let mut number = None;
     for next in given {
-        let told = apply(alloc, &next.event(), system, by_job)?;
+        let told = apply(alloc, &next.event(), reads, system, by_job, days)?;
         number = first_of(number, told);
     }
     Ok(number)
@@ -163,6 +180,7 @@ fn run_all(
     statements: &[Statement<'_>],
     from: usize,
     given: &[Given],
+    fixed: &Fixed,
     system: &mut System<'_, ChainStore>,
     answers: &mut Answers,
 ) -> Result<(), AllocError>
@@ -174,11 +192,19 @@ fn run_all(
         alloc,
         statements,
         from,
+        fixed,
         system,
         &mut answers.decks,
         &mut answers.by_job,
+        &mut answers.days,
     )?;
-    run_added(alloc, given, system, &mut answers.by_job)?;
+    let reads = Reads {
+        statements,
+        decks: answers.decks.as_slice(),
+        fixed,
+    };
+    let (by_job, days) = (&mut answers.by_job, &mut answers.days);
+    run_added(alloc, given, reads, system, by_job, days)?;
     Ok(())
 }
 
@@ -208,7 +234,7 @@ fn run_opened(
         ..options
     };
     let mut system = start(alloc, store, queue, &fixed, explaining)?;
-    let ran = run_all(alloc, statements, from, given, &mut system, answers);
+    let ran = run_all(alloc, statements, from, given, &fixed, &mut system, answers);
     system.close();
     ran
 }
@@ -225,6 +251,7 @@ pub fn answers_of(
     let mut answers = Answers {
         decks: Vec::new(alloc),
         by_job: Vec::new(alloc),
+        days: Days::new(alloc),
     };
     let given = added_events(alloc, statements, options)?;
     match open(alloc, statements) {

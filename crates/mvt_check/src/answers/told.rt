@@ -60,6 +60,14 @@ pub(crate) fn answer_by(line: JobLine, path: Listed<JobLine>) -> Option<Answer>
 }
 
 impl Told {
+    /// The job whose admission is answered.
+    pub(crate) fn answered(&self) -> Option<u16> {
+        match &self.answer {
+            Some((job, _)) => Some(*job),
+            None => None,
+        }
+    }
+
     /// Keeps what a job's line tells.
     fn add_line(&mut self, job: u16, line: JobLine)
         ensures number { self.new.number ≡ (if has_number line then Some job else self.old.number) }

@@ -42,12 +42,13 @@ fn before_in<'a>(before: &Option<&'a [JobLine]>) -> &'a [JobLine] {
     }
 }
 
-/// What is said of an answer, which was given in the session, or in a trial behind a run of these lines.
+/// What is said of an answer, which was given in the session, or in a trial behind a run of these lines, with the day of its data set.
 fn push_said(
     text: &mut Vec<u8>,
     plan: &JobPlan,
     answer: Option<&Answer>,
     before: Option<&[JobLine]>,
+    day: Option<u32>,
 ) -> Result<(), AllocError> {
     match answer {
         Some(Answer::Assured { tracks, actions }) => {
@@ -76,6 +77,7 @@ fn push_said(
                 lines: lines.as_slice(),
                 naming: naming_of(lines.as_slice(), before.is_some()),
                 before: before_in(&before),
+                day,
             },
         ),
         Some(Answer::TooMany(step)) => {
@@ -100,9 +102,10 @@ fn said_of(
     plan: &JobPlan,
     answer: Option<&Answer>,
     before: Option<&[JobLine]>,
+    day: Option<u32>,
 ) -> Result<Vec<u8>, AllocError> {
     let mut text = Vec::new(alloc);
-    push_said(&mut text, plan, answer, before)?;
+    push_said(&mut text, plan, answer, before, day)?;
     text.push(b'\n')?;
     Ok(text)
 }
@@ -113,6 +116,7 @@ pub(crate) fn push_verdict(
     plan: &JobPlan,
     answer: &Answer,
     before: &[JobLine],
+    day: Option<u32>,
 ) -> Result<(), AllocError> {
     match answer {
         Answer::Assured { .. } => text.extend_from_slice(b" is ASSURED\n"),
@@ -122,7 +126,7 @@ pub(crate) fn push_verdict(
             text.extend_from_slice(b"\n")
         }
         _ => {
-            let said = said_of(*text.allocator(), plan, Some(answer), Some(before))?;
+            let said = said_of(*text.allocator(), plan, Some(answer), Some(before), day)?;
             text.extend_from_slice(verdict_of(Some(answer)))?;
             text.extend_from_slice(said.as_slice())
         }
@@ -145,9 +149,10 @@ fn said_with(
     alloc: Global,
     plan: &JobPlan,
     answer: Option<&Answer>,
+    day: Option<u32>,
     card: Option<&[u8]>,
 ) -> Result<Vec<u8>, AllocError> {
-    let said = said_of(alloc, plan, answer, None)?;
+    let said = said_of(alloc, plan, answer, None, day)?;
     match card {
         Some(card) => with_card(alloc, said.as_slice(), card),
         None => Ok(said),
@@ -165,18 +170,19 @@ fn with_card(alloc: Global, said: &[u8], card: &[u8]) -> Result<Vec<u8>, AllocEr
 }
 
 /// Writes what admission answers the job of a deck, which has this number: a line, the card of which it tells, and what can be done about it. It is told at
-/// this line of the session, which counts from 1, and the plan is what the deck denotes.
+/// this line of the session, which counts from 1, and the plan is what the deck denotes; its data set is not to be deleted before this day, where that is known.
 pub fn push_answer(
     out: &mut Vec<u8>,
     line: usize,
     plan: &JobPlan,
     job: Option<u16>,
     answer: Option<&Answer>,
+    day: Option<u32>,
     card: Option<&[u8]>,
 ) -> Result<(), AllocError>
     ensures { OnOk result ((rest : List ℕ) × (out.new.items ≡ out.old.items ++ beginning line job plan.now.name (option_map (λ a. a.now) answer.entry) ++ rest)) }
 {
-    let said = said_with(*out.allocator(), plan, answer, card)?;
+    let said = said_with(*out.allocator(), plan, answer, day, card)?;
     out.extend_from_slice(b"line ")?;
     push_number(out, line as u64)?;
     out.extend_from_slice(b": job ")?;

@@ -2,10 +2,15 @@
 ghost use Rattle.session_core.specs.Opening.{IsOpened};
 
 use crate::answers::answer::Answer;
+use crate::answers::risk::{UnexpiredSet, unexpired_set};
+use crate::answers::stays::day_at;
 use crate::answers::told::{Told, answer_by, told_by};
+use crate::trials::words::first_met;
 use boxed_core::Boxed;
 use chain_store::store::ChainStore;
 use jcl_plan::entry::{Entry, JobLine};
+use jcl_plan::plan::JobPlan;
+use jname_core::key::Key;
 use plain::lent::Lent;
 use plain::listed::Listed;
 use plain::text::Text;
@@ -36,20 +41,31 @@ pub(crate) struct Played<'a, 'b, 'c> {
     pub(crate) given: &'c [Given],
 }
 
-/// A job that is tried: the place of the statement that reads it, its number, its deck with IEFBR14 in place of its programs, and whether it is run again.
+/// A job that is tried: the place of the statement that reads it, its number, its deck with IEFBR14 in place of its programs, what its own deck denotes, and
+/// whether it is run again.
 #[derive(Clone, Copy)]
 pub(crate) struct Trial<'a> {
     pub(crate) statement: usize,
     pub(crate) job: u16,
     pub(crate) cards: &'a [Text],
+    pub(crate) plan: &'a JobPlan,
     pub(crate) again: bool,
 }
 
-/// What came of it: the lines that the job writes from its first step to its end, and what admission answers it once more in the store that it leaves.
+/// What admission answers a job once more, and the day of the data set of its fault, where that was kept before and the deck tells none.
+#[derive(Drop)]
+pub(crate) struct Again {
+    pub(crate) answer: Answer,
+    pub(crate) day: Option<u32>,
+}
+
+/// What came of it: the lines that the job writes from its first step to its end, the day of the data set of a fault among them, where that was kept before
+/// and the deck tells none, and what admission answers the job once more in the store that it leaves.
 #[derive(Drop)]
 pub(crate) struct Tried {
     pub(crate) lines: Listed<JobLine>,
-    pub(crate) again: Option<Answer>,
+    pub(crate) day: Option<u32>,
+    pub(crate) again: Option<Again>,
 }
 
 /// How far a job is.
@@ -269,15 +285,16 @@ fn answer_in(told: Told, job: u16) -> Option<Answer> {
     answer_by(line, path)
 }
 
-/// What admission answers the same deck once more, in the store as it is.
+/// What admission answers the same deck once more, in the store as it is, behind a run of these lines.
 fn run_again(
     alloc: Global,
     system: &mut System<'_, ChainStore>,
     initiator: &SeenInitiator,
-    cards: &[Text],
-) -> Result<Option<Answer>, AllocError> {
+    trial: Trial<'_>,
+    before: &[JobLine],
+) -> Result<Option<Again>, AllocError> {
     cancel_others(system, initiator)?;
-    let own = event_of(alloc, cards)?;
+    let own = event_of(alloc, trial.cards)?;
     let read = told_by(alloc, system.apply_shown(&own)?)?;
     let Some(job) = read.number else {
         return Ok(None);
@@ -285,12 +302,34 @@ fn run_again(
     for done in 0..TURNS_TO_ANSWER {
         let _ = done;
         let lines = system.apply_shown(&Event::Turn(initiator.number))?;
-        let answer = answer_in(told_by(alloc, lines)?, job);
-        if answer.is_some() {
-            return Ok(answer);
+        if let Some(answer) = answer_in(told_by(alloc, lines)?, job) {
+            let day = day_at(alloc, &*system, job, trial.plan, &answer, before)?;
+            return Ok(Some(Again { answer, day }));
         }
     }
     Ok(None)
+}
+
+/// The day of the data set of a fault that these lines of a job tell, which is over. A relative number may mean another generation by then.
+fn day_in(
+    alloc: Global,
+    system: &System<'_, ChainStore>,
+    trial: Trial<'_>,
+    lines: &[JobLine],
+) -> Result<Option<u32>, AllocError> {
+    let Some(met) = first_met(lines) else {
+        return Ok(None);
+    };
+    match unexpired_set(alloc, trial.plan, &met)? {
+        Some(
+            UnexpiredSet {
+                key: Key::Relative { .. },
+                volume: _,
+            },
+        ) => Ok(None),
+        Some(UnexpiredSet { key, volume }) => Ok(system.expiry_of(trial.job, &key, volume)),
+        None => Ok(None),
+    }
 }
 
 /// What comes of a job that is admitted by a machine.
@@ -305,12 +344,13 @@ fn run_admitted(
     let Some(lines) = run_alone(alloc, system, initiator.number, trial.job)? else {
         return Ok(None);
     };
+    let day = day_in(alloc, &*system, trial, lines.as_slice())?;
     let again = if trial.again {
-        run_again(alloc, system, &initiator, trial.cards)?
+        run_again(alloc, system, &initiator, trial, lines.as_slice())?
     } else {
         None
     };
-    Ok(Some(Tried { lines, again }))
+    Ok(Some(Tried { lines, day, again }))
 }
 
 /// What comes of a job that is tried on a machine before its first event.

@@ -63,6 +63,22 @@ fn first_fault(lines: &[JobLine]) -> Option<Told> {
     None
 }
 
+/// That fault, and the lines up to it.
+pub(crate) fn first_met(lines: &[JobLine]) -> Option<Met<'_>> {
+    let told = first_fault(lines)?;
+    let (front, _) = lines.split_at(told.count.min(lines.len()));
+    Some(Met {
+        fault: told.fault,
+        step: told.step,
+        dd: told.dd,
+        path: &[],
+        lines: front,
+        naming: &[],
+        before: &[],
+        day: None,
+    })
+}
+
 /// Whether steps end by codes other than 0, or abnormally.
 fn are_other(path: &[Outcome]) -> bool {
     path.iter().any(|outcome| match outcome {
@@ -89,25 +105,13 @@ fn first_line(text: &[u8]) -> &[u8] {
 }
 
 /// What the job meets that is tried.
-fn push_met(text: &mut Vec<u8>, plan: &JobPlan, lines: &[JobLine]) -> Result<(), AllocError> {
-    let Some(told) = first_fault(lines) else {
+fn push_met(text: &mut Vec<u8>, plan: &JobPlan, tried: &Tried) -> Result<(), AllocError> {
+    let Some(met) = first_met(tried.lines.as_slice()) else {
         return text.extend_from_slice(b" it ends well\n");
     };
-    let (front, _) = lines.split_at(told.count.min(lines.len()));
     let mut words = Vec::new(*text.allocator());
-    push_risk(
-        &mut words,
-        plan,
-        &Met {
-            fault: told.fault,
-            step: told.step,
-            dd: told.dd,
-            path: &[],
-            lines: front,
-            naming: &[],
-            before: &[],
-        },
-    )?;
+    let day = tried.day;
+    push_risk(&mut words, plan, &Met { day, ..met })?;
     text.extend_from_slice(b": ")?;
     text.extend_from_slice(first_line(words.as_slice()))?;
     text.push(b'\n')?;
@@ -125,7 +129,7 @@ pub(crate) fn trial_words(
     match (answer, tried) {
         (Some(Answer::Risk { .. }), Some(tried)) => {
             text.extend_from_slice(b"    with code 0 from each step")?;
-            push_met(&mut text, plan, tried.lines.as_slice())?;
+            push_met(&mut text, plan, tried)?;
         }
         (Some(Answer::Risk { path, .. }), None) => {
             if !path.as_slice().is_empty() && !are_other(path.as_slice()) {
@@ -135,7 +139,8 @@ pub(crate) fn trial_words(
         (Some(Answer::Assured { .. }), Some(tried)) => {
             if let Some(again) = &tried.again {
                 text.extend_from_slice(b"    run again, it")?;
-                push_verdict(&mut text, plan, again, tried.lines.as_slice())?;
+                let before = tried.lines.as_slice();
+                push_verdict(&mut text, plan, &again.answer, before, again.day)?;
             }
         }
         _ => {}

@@ -3,8 +3,12 @@ use Rattle.std.specs.Prelude.{is_err}
 use Rattle.std.proofs.lemmas.Result.{IfOk-weaker, on_ok_weaker}
 use Rattle.jcl_job.specs.Jobs.{job_of}
 use Rattle.mvt_check.specs.Checking.{AddsFound, is_refused_so}
-use Rattle.mvt_check.proofs.Decks.{refused_so}
+use Rattle.mvt_check.proofs.Decks.{origins_so, refused_so}
 use Rattle.mvt_check.proofs.session.check_lines.Goals as goal
+
+pub tell_deck-requires : goal.tell_deck-requires
+tell_deck-requires c =
+    origins_so c.args.sources.now.units.now c.args.sources.now.library.now c.args.lines.now c.in_ok-checked.checked c.in_ok-checked.ensures
 
 pub returns : goal.returns
 returns c =
