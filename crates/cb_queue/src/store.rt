@@ -40,9 +40,10 @@ pub trait RecordStore {
         ensures value { queue self.new ≡ with_status (queue self.old) n status.now }
         ensures room { lacking self.new ≡ lacking self.old };
 
-    /// A number behind which no record is in use.
+    /// A number behind which no record is in use. It is a number of the layout, or 0.
     fn last_in_use(&self) -> u32
-        ensures { last_in_use (queue self.now).records ≤ result };
+        ensures reaches { last_in_use (queue self.now).records ≤ result }
+        ensures few { result ≤ (queue self.now).layout.most_records };
 
     /// How many records are free.
     fn free_count(&self) -> u32

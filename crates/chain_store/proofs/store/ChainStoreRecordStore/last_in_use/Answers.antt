@@ -17,11 +17,18 @@ overflow_cast-result c =
     let size = c.len.ensures in
     omega (arith, few, most, whole, size)
 
-pub returns : goal.returns
-returns c =
+pub returns-clause-reaches : goal.returns-clause-reaches
+returns-clause-reaches c =
     let t = tables_of c.self.inside in
     let last = last_known (known_records t) (t.layout.most_records - length t.owners) in
     let known = length-known t.owners (unlinked_all t.layout t.records) (room t c.self.invariant.tables) in
     let whole = c.self.inside.owners.ok.0 in
     let size = c.len.ensures in
     subst (λ (v : Linked). last_in_use v.queue.records ≤ c.len.result) c.self.view_is (omega (arith, last, known, whole, size))
+
+pub returns-clause-few : goal.returns-clause-few
+returns-clause-few c =
+    let most = c.self.invariant.tables.most in
+    let whole = c.self.inside.owners.ok.0 in
+    let size = c.len.ensures in
+    subst (λ (v : Linked). c.len.result ≤ v.queue.layout.most_records) c.self.view_is (omega (arith, most, whole, size))
