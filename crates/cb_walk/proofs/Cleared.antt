@@ -3,10 +3,8 @@ use Rattle.std.proofs.Common.{rules, ◌≡◌, ℕ, suc, ◌+◌, ◌-◌, ◌<
 use Rattle.std.proofs.lemmas.Bool.{and_cases, and_parts, cases_lt, leb-false, leb-true, ltb-false, ltb-true}
 use Rattle.std.proofs.lemmas.List.{drop_all, places}
 use borrow.Rule.Slice.PartMut.{put_mid}
-use Rattle.std.specs.List.{list_any}
-use Rattle.std.specs.Cmp.Lexicographic.{pointwise}
+use Rattle.std.specs.List.{list_all, list_any}
 use Rattle.cb_meaning.specs.declared.layout.Field.{Field}
-use Rattle.cb_meaning.specs.declared.layout.TheConstants.{RECORD_BYTES}
 use Rattle.cb_meaning.specs.Fields.{byte_at, is_in, is_zero_but, zero_from}
 
 -- a byte of the field is zero, another is as it was
@@ -33,15 +31,13 @@ cleared f fs old new e h = cleared_from f fs 0 old new e (λ m j at. subst (λ n
     from_zero j m at = omega (arith, at)
 
 -- no field is named any more
-zeros_from : (k : ℕ) (xs : List ℕ) → zero_from [] k xs ≡ pointwise (λ a b. a == b) xs (replicate (length xs) 0)
+zeros_from : (k : ℕ) (xs : List ℕ) → zero_from [] k xs ≡ list_all (λ b. b == 0) xs
 zeros_from k [] = refl
 zeros_from k (x ∷ xs) = ap (λ b. x == 0 && b) (zeros_from (k + 1) xs)
 
 -- where none is left, the whole decides
-pub all_zero : (named : List Field) (i : ℕ) (xs : List ℕ) → length named ≤ i → length xs ≡ RECORD_BYTES →
-    is_zero_but (drop i named) xs ≡ pointwise (λ a b. a == b) xs (replicate RECORD_BYTES 0)
-all_zero named i xs past size =
-    ap (λ fs. is_zero_but fs xs) (drop_all i named past) ∙ zeros_from 0 xs ∙ ap (λ n. pointwise (λ a b. a == b) xs (replicate n 0)) size
+pub all_zero : (named : List Field) (i : ℕ) (xs : List ℕ) → length named ≤ i → is_zero_but (drop i named) xs ≡ list_all (λ b. b == 0) xs
+all_zero named i xs past = ap (λ fs. is_zero_but fs xs) (drop_all i named past) ∙ zeros_from 0 xs
 
 -- a part that was filled with zeros
 in_part : (xs : List ℕ) (a n k : ℕ) → a + n ≤ length xs → a ≤ k → k < a + n → get_or (put_mid a n xs (replicate n 0)) k 0 ≡ 0

@@ -1,5 +1,6 @@
 //! The fields of a record, outside of which it is zero.
-ghost use Rattle.std.specs.Prelude.{◌≡◌, ℕ, length, if◌then◌else◌};
+ghost use Rattle.std.specs.Prelude.{◌≡◌, ℕ, ◌==◌, length, if◌then◌else◌};
+ghost use Rattle.std.specs.List.{list_all};
 ghost use Rattle.cb_meaning.specs.Fields.{byte_at, field, is_in, is_zero_but};
 
 use cb_meaning::layout::{Field, RECORD_BYTES};
@@ -22,7 +23,18 @@ fn clear(bytes: &mut [u8], f: &Field)
     bytes[from..to].fill(0);
 }
 
-/// Whether every byte outside of these fields is zero. A copy whose fields are filled with zeros is compared with zeros as a whole.
+/// Whether each of these bytes is zero. None is passed over, so that many are looked at at once.
+fn are_zeros(bytes: &[u8]) -> bool
+    ensures { result ≡ list_all (λ b. b == 0) bytes.now }
+{
+    let mut zero = true;
+    for byte in bytes {
+        zero &= *byte == 0;
+    }
+    zero
+}
+
+/// Whether every byte outside of these fields is zero. In a copy these fields are filled with zeros, and then it is to be zero as a whole.
 pub(crate) fn is_zero_but(named: &[Field], r: &Rec) -> bool
     ensures { result ≡ is_zero_but named.now r.now }
 {
@@ -31,5 +43,5 @@ pub(crate) fn is_zero_but(named: &[Field], r: &Rec) -> bool
     for f in named {
         clear(&mut own, f);
     }
-    own == [0; RECORD_BYTES]
+    are_zeros(&own)
 }

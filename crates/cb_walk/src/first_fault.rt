@@ -47,7 +47,7 @@ fn walk_job<S: RecordStore>(
 }
 
 /// The number of the fault that strict reading tells first of the records of a job, or none. The job's JCT is record `n`, and as many lists of
-/// volumes are configured as `units`. It reads each record once, and takes memory for a bit for each record of the store and a mark for each DD of the job.
+/// volumes are configured as `units`. It reads each record once, and takes memory for a bit for each record up to the last in use and a mark for each DD of the job.
 pub fn first_fault<S: RecordStore>(
     alloc: Global,
     store: &S,

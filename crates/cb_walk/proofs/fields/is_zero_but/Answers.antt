@@ -16,4 +16,5 @@ loop-f-preserved c =
     }
 
 pub returns : goal.returns
-returns c = c.eq.ensures ∙ sym (all_zero c.args.named.now c.loop-f.f-index c.loop-f.own c.loop-f-test.false c.loop-f.invariant.size) ∙ c.loop-f.invariant.left
+returns c =
+    c.are_zeros.ensures ∙ sym (all_zero c.args.named.now c.loop-f.f-index c.loop-f.own c.loop-f-test.false) ∙ c.loop-f.invariant.left
