@@ -10,7 +10,7 @@ use Rattle.cb_meaning.specs.declared.layout.Field.{Field}
 use Rattle.cb_meaning.specs.declared.layout.Layout.{Layout}
 use Rattle.cb_meaning.specs.Fields.{byte_at, field, is_in, is_zero_but, number_at, number_of, part, zero_from}
 use Rattle.cb_meaning.specs.Spelled.{card_fields, common, jct_fields, jfcb_fields, sct_fields, status_bytes}
-use Rattle.cb_meaning.specs.Walks.{are_printable, are_zero, card_faults, continues, fields_if, has_cards, has_space, in_parts, is_bad_test, is_blank, is_ds_name, is_earlier_set, is_known_kind, is_name, is_no_expiry, is_name_or_blank, is_relative, is_serial, is_set, is_sysout, jct_faults, jfcb_faults, looks_forward, releases, sct_faults, set_name_bad, set_numbers_bad, set_words_bad, siot_faults, siot_fields_used, stems_forward, told_if}
+use Rattle.cb_meaning.specs.Walks.{are_printable, are_zero, card_faults, fields_if, has_cards, in_parts, is_bad_test, is_blank, is_ds_name, is_earlier_set, is_name, is_no_expiry, is_name_or_blank, is_serial, is_set, jct_faults, jfcb_faults, looks_forward, sct_faults, siot_faults, siot_fields_used, told_if}
 use Rattle.cb_meaning.specs.Writable.{most_tracks}
 use Rattle.world_meaning.specs.Records.{AgreeBut, IsBetween, IsQueueLayout}
 
@@ -66,6 +66,14 @@ above_field f k high = and_right _ _ (le-ltb k (f.at + f.width) high)
 not_status : (has : Bool) (k : ℕ) → (has ≡ true → k < 168) → list_any (λ f. is_in f k) (cond has (status_bytes ∷ []) []) ≡ false
 not_status true k low = or_from _ _ (below_field status_bytes k (low refl)) refl
 not_status false k low = refl
+
+-- a record whose owner is the same in both
+abbrev pub bare : Layout → Bool → List Field
+bare l has = l.link ∷ (cond has (status_bytes ∷ []) [])
+
+pub bare_kind : (l : Layout) → IsQueueLayout l → (has : Bool) (r s : List ℕ) → AgreeBut (bare l has) r s → byte_at s 0 ≡ byte_at r 0
+bare_kind l own has r s agree =
+    agree.bytes 0 (or_from _ _ (below_field l.link 0 (omega (arith, own.link_from))) (not_status has 0 (λ e. omega arith)))
 
 module _ (l : Layout) (own : IsQueueLayout l) (has : Bool) (r s : List ℕ) (agree : AgreeBut (opened l has) r s) where
   byte_from : (k : ℕ) → 8 ≤ k → (has ≡ true → k < 168) → byte_at s k ≡ byte_at r k

@@ -1,2 +1,3 @@
 mod Alike
+mod Sameness
 mod Walked

@@ -53,7 +53,7 @@ arrived l q job kind seen n some none =
     let there = used_is (is_free q n) kind (byte_at (q.at n) 0) some of_kind in
     record { low = ltb-false n 1 place.0; high = ltb-false l.most_records n place.1; used = there.0; of_kind = there.1 }
 
-module _ (l : Layout) (own : IsQueueLayout l) (units job : ℕ) (old new : Records) (some : job ≢ 0) (alike : AreAlikeFor l job old new) where
+module _ (l : Layout) (own : IsQueueLayout l) (units job : ℕ) (old new : Records) (alike : AreAlikeFor l job old new) where
   record AreTold (n : ℕ) : Type 0 where
     kinds : kind_of new n ≡ kind_of old n
     owners : (owner_of new n == job) ≡ (owner_of old n == job)

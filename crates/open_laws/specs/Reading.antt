@@ -1,5 +1,5 @@
 -- What strict reading does not look at: links, status bytes, and which other job an owner is. (This profile)
-use Rattle.std.specs.Prelude.{◌≡◌, ◌≢◌, ℕ, ◌≤◌, ◌==◌, false, List, ◌∷◌}
+use Rattle.std.specs.Prelude.{◌≡◌, ℕ, ◌≤◌, ◌==◌, false, List, ◌∷◌}
 use Rattle.cb_meaning.specs.declared.layout.Layout.{Layout}
 use Rattle.cb_meaning.specs.Fields.{field, number_at}
 use Rattle.cb_meaning.specs.Spelled.{Records}
@@ -18,5 +18,5 @@ pub record AreAlikeFor (l : Layout) (job : ℕ) (old new : Records) : Type 0 whe
 
 -- Strict reading tells the same of a job in them.
 abbrev pub FirstFaultStays : Type 0
-FirstFaultStays = (l : Layout) (units job n : ℕ) (old new : Records) → IsQueueLayout l → job ≢ 0 → AreAlikeFor l job old new →
+FirstFaultStays = (l : Layout) (units job n : ℕ) (old new : Records) → IsQueueLayout l → AreAlikeFor l job old new →
     first_fault l units new job n ≡ first_fault l units old job n

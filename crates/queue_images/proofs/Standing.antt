@@ -59,7 +59,7 @@ module _ (image : List ℕ) (q : RecordQueue) (loaded : IsLoaded image q) (job :
       first_fault q.layout units (shown q) job n ≡ first_fault LAYOUT_1 units (records_in image) job n
   fault_same law own units n =
       ap (λ l. first_fault l units (shown q) job n) loaded.layout
-      ∙ law LAYOUT_1 units job n (records_in image) (shown q) own (λ e. omega (arith, e, low)) alike
+      ∙ law LAYOUT_1 units job n (records_in image) (shown q) own alike
 
   keeps_at : (n : ℕ) → IsRecordOf image q n → owner_at q n ≡ job → AgreeBut (open_fields LAYOUT_1 ((shown q).at n)) ((shown q).at n) ((records_in image).at n)
   keeps_at n of is =

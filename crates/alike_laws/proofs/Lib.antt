@@ -1,0 +1,9 @@
+mod Bytes
+mod Changing
+mod Doing
+mod Events
+mod Going
+mod Holding
+mod Leading
+mod Same
+mod Turning

@@ -1,0 +1,10 @@
+mod Splits
+mod Selecting
+mod Conflicts
+mod FirstSets
+mod Stages
+mod Turning
+mod Doing
+mod Reopening
+mod Events
+mod Named

@@ -1,0 +1,7 @@
+mod Elements
+mod Turning
+mod Events
+mod Rising
+mod Places
+mod Stores
+mod Deciding

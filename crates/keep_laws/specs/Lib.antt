@@ -1,0 +1,2 @@
+pub mod Keeping
+pub use Rattle.init_core.specs.Extents

@@ -1,0 +1,4 @@
+mod Alike
+mod OneTurn
+mod Ends
+mod Decided
