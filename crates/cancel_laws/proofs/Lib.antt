@@ -1,0 +1,9 @@
+mod Acting
+mod Advancing
+mod Apart
+mod Counting
+mod Events
+mod Fronts
+mod Paying
+mod Spending
+mod Turning

@@ -1,0 +1,15 @@
+pub mod ActsPrintable
+pub mod AgendasPrintable
+pub mod BacksPrintable
+pub mod Characters
+pub mod DispositionsPrintable
+pub mod EndsPrintable
+pub mod GroupsPrintable
+pub mod OwnPrintable
+pub mod PlansPrintable
+pub mod PutsPrintable
+pub mod ReadsPrintable
+pub mod RequestsPrintable
+pub mod StoresPrintable
+pub mod TakesPrintable
+pub mod TargetsPrintable

@@ -1,0 +1,3 @@
+pub mod Printable
+pub mod Texts
+pub mod PrintLaws

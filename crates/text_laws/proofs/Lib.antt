@@ -1,0 +1,14 @@
+pub mod Admitting
+pub mod Advancing
+pub mod Deeds
+pub mod Elements
+pub mod Events
+pub mod Holding
+pub mod Names
+pub mod Placing
+pub mod Running
+pub mod Shares
+pub mod Spooling
+pub mod Telling
+pub mod Turning
+pub mod Turns
