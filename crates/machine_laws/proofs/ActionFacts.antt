@@ -24,9 +24,9 @@ pub record IsDone (cancel : Bool) (fixed : Fixed) (x : Advanced) (growth primary
   pub its_primary : x.before.answers.primary ≡ primary
   pub its_cancel : cancel_due x.before.answers.cancels x.before.own.lines ≡ cancel
 
-record Did (answers : Action → Own → Answers) (fixed : Fixed) (x : Advanced) : Type 0 where
-  done : x.done ≡ act fixed x.action x.before
-  answers_so : x.before.answers ≡ answers x.action x.before.own
+pub record Did (answers : Action → Own → Answers) (fixed : Fixed) (x : Advanced) : Type 0 where
+  pub done : x.done ≡ act fixed x.action x.before
+  pub answers_so : x.before.answers ≡ answers x.action x.before.own
 
 here_or : (answers : Action → Own → Answers) (fixed : Fixed) (a : Action) (rest : List Action) (s : State) (count : ℕ) (x : Advanced) →
     (here answers fixed a s count ≡ x) ⊎ (((acted answers fixed a s).lines ≡ []) × (advance answers fixed rest (acted answers fixed a s).state (suc count) ≡ Some x)) →
@@ -34,7 +34,7 @@ here_or : (answers : Action → Own → Answers) (fixed : Fixed) (a : Action) (r
 here_or answers fixed a rest s count x (inl is) later = subst (Did answers fixed) is (record { done = refl; answers_so = refl })
 here_or answers fixed a rest s count x (inr (silent, further)) later = later further
 
-advance_did : (answers : Action → Own → Answers) (fixed : Fixed) (actions : List Action) (s : State) (count : ℕ) (x : Advanced) →
+pub advance_did : (answers : Action → Own → Answers) (fixed : Fixed) (actions : List Action) (s : State) (count : ℕ) (x : Advanced) →
     advance answers fixed actions s count ≡ Some x → Did answers fixed x
 unfolding advance
 advance_did answers fixed [] s count x e = absurd cc

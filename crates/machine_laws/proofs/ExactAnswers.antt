@@ -91,7 +91,7 @@ no_path other job [] told (n, less, is) = omega (arith, less)
 no_path other job (p ∷ path) told (zero, less, is) = absurd cc
 no_path other job (p ∷ path) told (suc n, less, is) = no_path other job path told (n, omega (arith, less), is)
 
-in_told : (other job : ℕ) (lines path : List JobLine) (told : JobLine) → Contains (told_with other lines path) (entry.Job job told) →
+pub in_told : (other job : ℕ) (lines path : List JobLine) (told : JobLine) → Contains (told_with other lines path) (entry.Job job told) →
     (job ≡ other) × Contains lines told
 in_told other job lines [] told there = in_lines other job lines told there
 in_told other job [] (p ∷ path) told there = absurd (no_path other job (p ∷ path) told there)

@@ -1,7 +1,9 @@
 -- What the volumes decide, as they were before an event: which sets grow, which are made, and where a job's sets are placed.
 use Rattle.std.specs.Prelude.{◌≡◌, ℕ, Bool, true, false, List, [], ◌∷◌, Some}
+use Rattle.std.specs.List.{Contains}
 use Rattle.jname_core.specs.declared.key.Key.{Key}
 use Rattle.jcl_plan.specs.declared.entry.Entry.{Entry}
+use Rattle.jcl_plan.specs.declared.entry.Entry.TheVariants as entry
 use Rattle.jcl_plan.specs.declared.entry.JobLine.{JobLine}
 use Rattle.jcl_plan.specs.declared.entry.JobLine.TheVariants as line
 use Rattle.jcl_plan.specs.declared.fault.Fault.TheVariants.{F6}
@@ -76,3 +78,21 @@ pub record AreDecided (old : Machine) (e : Event) (lines : List Entry) (new : Wo
 -- Of each step along a chain of machines.
 pub record AreDecidedAlong (old : Machine) (events : List Event) (entries : List (List Entry)) (new : Machine) (chain : Drives old events entries new) : Type 0 where
   pub along : Along (λ m e lines next s. AreDecided m e lines (world_of next) s) old events entries new chain
+
+-- An SB37 among the lines of an event is the one line of a request of its job, and the volumes had no room for the tracks that it asked for.
+pub record IsRefusedGrowth (old : Machine) (e : Event) (lines : List Entry) (new : World) (s : Steps old e lines new) (job : ℕ) : Type 0 where
+  pub cancel : Bool
+  pub admission : Admission
+  pub x : Advanced
+  pub step : StepPlan
+  pub move : Move
+  pub action : IsAction old e lines new s job cancel admission x
+  pub asks : x.action ≡ Ask step move
+  pub told : x.done.lines ≡ line.Abend SB37 ∷ []
+  pub growth : Growth
+  pub asked : growth_asked cancel step move x.before.own x.before.store ≡ Some growth
+  pub refused : grants_growth job old.parts.store growth.key growth.serial growth.tracks ≡ false
+
+abbrev pub RefusedGrowthIsTold : Type 0
+RefusedGrowthIsTold = (old : Machine) (e : Event) (lines : List Entry) (new : World) (s : Steps old e lines new) (job : ℕ) →
+    Contains lines (entry.Job job (line.Abend SB37)) → IsRefusedGrowth old e lines new s job

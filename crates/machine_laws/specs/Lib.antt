@@ -4,3 +4,9 @@ pub mod Deciding
 pub mod Answers
 pub mod Next
 pub mod Sessions
+pub mod Alike
+pub mod Listing
+pub mod Outcome
+pub mod Kept
+pub mod Said
+pub mod Told

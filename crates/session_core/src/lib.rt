@@ -92,6 +92,11 @@ pub fn run_streams<R: Read, W: Write>(
 }
 
 /// Reads a session, runs it with these options, and writes its listing while it runs. After a failed call the reader or the writer is not called again.
+///
+/// A session has one listing. Two calls that read the same text to the same end, with the same options, write the same bytes and give the same answer, unless one
+/// of them fails to write or lacks memory; that one has written a beginning of what the other writes. Where several paths lead to the place of a RISK, any of
+/// them may be told: the listings agree up to the first RISK line that tells another. The laws `one_outcome`, `assured_lines_are_kept`,
+/// `written_cancels_come_first` and `written_growth_is_refused` of the crate `machine_laws` say this, and what the bytes promise of ASSURED, S222 and SB37.
 pub fn run_session<R: Read, W: Write>(
     alloc: Global,
     reader: &mut R,
